@@ -1,0 +1,6 @@
+pub mod Ring
+pub mod Order
+pub mod Solver
+pub mod Certificate
+pub mod Bounds
+pub mod Cancel

@@ -1,0 +1,227 @@
+-- Laws of the plane, written by tools/certificate.py from tools/plane.laws: change the laws there, not here.
+use mathlib.Core.Path.{_≡_}
+use mathlib.Core.List.{[], _∷_}
+use lib.IntN.{negℤ, _+ℤ_, _*ℤ_}
+use lib.Signed.{_<ℤ_, _≤ℤ_}
+use Rattle.exact.proofs.Order.{𝟘}
+use Rattle.exact.proofs.Solver.{solve, _⊕_, _⊗_}
+use Rattle.exact.proofs.Solver.Expr.{var, neg}
+use Rattle.exact.proofs.Certificate.{prove, refute, _≺_, _≼_, _≈_, _⊞_, _⊠_}
+use Rattle.exact.proofs.Certificate.Cert.{given, square, by}
+use Rattle.exact.proofs.Certificate.Proof.{only, both}
+use Rattle.plane.specs.Side.{Point, side}
+use Rattle.plane.specs.Cone.{minus, plus, cross, dot, Holds, Between, Spanned, Cone, Beyond, Earlier}
+use Rattle.plane.proofs.Quote.{coordinates, pt, 𝟘ᵉ, minusᵉ, plusᵉ, crossᵉ, dotᵉ, sideᵉ}
+
+pub side-turns-with-its-corners : (a b c : Point) → side a b c ≡ side b c a
+unfolding side
+side-turns-with-its-corners a b c = solve (coordinates (a ∷ b ∷ c ∷ [])) (sideᵉ (pt 0) (pt 1) (pt 2)) (sideᵉ (pt 1) (pt 2) (pt 0)) tt
+
+pub side-changes-sign-first-two : (a b c : Point) → side b a c ≡ negℤ (side a b c)
+unfolding side
+side-changes-sign-first-two a b c = solve (coordinates (a ∷ b ∷ c ∷ [])) (sideᵉ (pt 1) (pt 0) (pt 2)) (neg (sideᵉ (pt 0) (pt 1) (pt 2))) tt
+
+pub side-changes-sign-last-two : (a b c : Point) → side a c b ≡ negℤ (side a b c)
+unfolding side
+side-changes-sign-last-two a b c = solve (coordinates (a ∷ b ∷ c ∷ [])) (sideᵉ (pt 0) (pt 2) (pt 1)) (neg (sideᵉ (pt 0) (pt 1) (pt 2))) tt
+
+pub side-changes-sign-ends : (a b c : Point) → side c b a ≡ negℤ (side a b c)
+unfolding side
+side-changes-sign-ends a b c = solve (coordinates (a ∷ b ∷ c ∷ [])) (sideᵉ (pt 2) (pt 1) (pt 0)) (neg (sideᵉ (pt 0) (pt 1) (pt 2))) tt
+
+-- the side value is the sum of the three cross products seen from any q
+pub side-is-three-crosses : (a b v q : Point) → side a b v ≡ cross (minus a q) (minus b q) +ℤ cross (minus b q) (minus v q) +ℤ cross (minus v q) (minus a q)
+unfolding cross minus side
+side-is-three-crosses a b v q = solve (coordinates (a ∷ b ∷ v ∷ q ∷ [])) (sideᵉ (pt 0) (pt 1) (pt 2)) (crossᵉ (minusᵉ (pt 0) (pt 3)) (minusᵉ (pt 1) (pt 3)) ⊕ crossᵉ (minusᵉ (pt 1) (pt 3)) (minusᵉ (pt 2) (pt 3)) ⊕ crossᵉ (minusᵉ (pt 2) (pt 3)) (minusᵉ (pt 0) (pt 3))) tt
+
+pub side-from-the-stand : (q a b : Point) → side q a b ≡ cross (minus a q) (minus b q)
+unfolding cross minus side
+side-from-the-stand q a b = solve (coordinates (q ∷ a ∷ b ∷ [])) (sideᵉ (pt 0) (pt 1) (pt 2)) (crossᵉ (minusᵉ (pt 1) (pt 0)) (minusᵉ (pt 2) (pt 0))) tt
+
+-- the apex of a right cell on the other side of a line lies beyond it, seen from any q
+pub side-positive-is-beyond : (a b v q : Point) → 𝟘 <ℤ side b a v → Beyond (minus a q) (minus b q) (minus v q)
+unfolding cross minus side
+side-positive-is-beyond a b v q h₁ =
+    record {
+      beyond = prove (coordinates (a ∷ b ∷ v ∷ q ∷ [])) ((𝟘ᵉ ≺ sideᵉ (pt 1) (pt 0) (pt 2)) ∷ []) (𝟘ᵉ ≺ crossᵉ (minusᵉ (pt 1) (pt 3)) (minusᵉ (pt 0) (pt 3)) ⊕ crossᵉ (minusᵉ (pt 0) (pt 3)) (minusᵉ (pt 2) (pt 3)) ⊕ crossᵉ (minusᵉ (pt 2) (pt 3)) (minusᵉ (pt 1) (pt 3))) (only (given 0 ⊞ given 1)) tt h₁;
+    }
+
+pub three-term-identity : (a b c d q : Point) → cross (minus a q) (minus b q) *ℤ cross (minus c q) (minus d q) +ℤ cross (minus a q) (minus c q) *ℤ cross (minus d q) (minus b q) +ℤ cross (minus a q) (minus d q) *ℤ cross (minus b q) (minus c q) ≡ 𝟘
+unfolding cross minus
+three-term-identity a b c d q = solve (coordinates (a ∷ b ∷ c ∷ d ∷ q ∷ [])) (crossᵉ (minusᵉ (pt 0) (pt 4)) (minusᵉ (pt 1) (pt 4)) ⊗ crossᵉ (minusᵉ (pt 2) (pt 4)) (minusᵉ (pt 3) (pt 4)) ⊕ crossᵉ (minusᵉ (pt 0) (pt 4)) (minusᵉ (pt 2) (pt 4)) ⊗ crossᵉ (minusᵉ (pt 3) (pt 4)) (minusᵉ (pt 1) (pt 4)) ⊕ crossᵉ (minusᵉ (pt 0) (pt 4)) (minusᵉ (pt 3) (pt 4)) ⊗ crossᵉ (minusᵉ (pt 1) (pt 4)) (minusᵉ (pt 2) (pt 4))) 𝟘ᵉ tt
+
+pub order-in-a-cone-is-transitive : (a b u v w : Point) → 𝟘 <ℤ cross a b → Spanned a b u → Spanned a b v → Spanned a b w → 𝟘 <ℤ cross u v → 𝟘 <ℤ cross v w → 𝟘 <ℤ cross u w
+unfolding cross
+order-in-a-cone-is-transitive a b u v w h₁ h₂ h₃ h₄ h₅ h₆ = prove (coordinates (a ∷ b ∷ u ∷ v ∷ w ∷ [])) ((𝟘ᵉ ≺ crossᵉ (pt 0) (pt 1)) ∷ (𝟘ᵉ ≼ crossᵉ (pt 0) (pt 2)) ∷ (𝟘ᵉ ≼ crossᵉ (pt 0) (pt 3)) ∷ (𝟘ᵉ ≼ crossᵉ (pt 3) (pt 1)) ∷ (𝟘ᵉ ≼ crossᵉ (pt 4) (pt 1)) ∷ (𝟘ᵉ ≺ crossᵉ (pt 2) (pt 3)) ∷ (𝟘ᵉ ≺ crossᵉ (pt 3) (pt 4)) ∷ []) (𝟘ᵉ ≺ crossᵉ (pt 2) (pt 4)) (only (given 0 ⊠ given 3 ⊠ given 4 ⊞ given 1 ⊠ given 6 ⊠ given 7 ⊞ given 2 ⊠ given 4 ⊠ given 7 ⊞ given 3 ⊠ given 5 ⊠ given 6)) tt h₁ (h₂ .not-before) (h₃ .not-before) (h₃ .not-after) (h₄ .not-after) h₅ h₆
+
+-- the apex strictly between the limits: its right line takes the limits r, v
+pub between-keeps-the-right-cone : (a b r l v : Point) → Cone a b r l → Between r l v → Cone a v r v
+unfolding cross
+between-keeps-the-right-cone a b r l v h₁ h₂ =
+    record {
+      seen = prove (coordinates (a ∷ b ∷ r ∷ l ∷ v ∷ [])) ((𝟘ᵉ ≼ crossᵉ (pt 0) (pt 2)) ∷ (𝟘ᵉ ≺ crossᵉ (pt 2) (pt 3)) ∷ (𝟘ᵉ ≺ crossᵉ (pt 0) (pt 3)) ∷ (𝟘ᵉ ≺ crossᵉ (pt 2) (pt 4)) ∷ (𝟘ᵉ ≺ crossᵉ (pt 4) (pt 3)) ∷ []) (𝟘ᵉ ≺ crossᵉ (pt 0) (pt 4)) (only (given 0 ⊠ given 2 ⊞ given 1 ⊠ given 5 ⊞ given 3 ⊠ given 4)) tt (h₁ .right-from-a) (h₁ .right-to-left) (h₁ .left-from-a) (h₂ .past-right) (h₂ .short-of-left);
+      right-from-a = h₁ .right-from-a;
+      right-to-b = h₂ .past-right;
+      right-to-left = h₂ .past-right;
+      left-from-a = prove (coordinates (a ∷ b ∷ r ∷ l ∷ v ∷ [])) ((𝟘ᵉ ≼ crossᵉ (pt 0) (pt 2)) ∷ (𝟘ᵉ ≺ crossᵉ (pt 2) (pt 3)) ∷ (𝟘ᵉ ≺ crossᵉ (pt 0) (pt 3)) ∷ (𝟘ᵉ ≺ crossᵉ (pt 2) (pt 4)) ∷ (𝟘ᵉ ≺ crossᵉ (pt 4) (pt 3)) ∷ []) (𝟘ᵉ ≺ crossᵉ (pt 0) (pt 4)) (only (given 0 ⊠ given 2 ⊞ given 1 ⊠ given 5 ⊞ given 3 ⊠ given 4)) tt (h₁ .right-from-a) (h₁ .right-to-left) (h₁ .left-from-a) (h₂ .past-right) (h₂ .short-of-left);
+      left-to-b = prove (coordinates (a ∷ b ∷ r ∷ l ∷ v ∷ [])) [] (𝟘ᵉ ≼ crossᵉ (pt 4) (pt 4)) (only (given 0)) tt;
+    }
+
+-- and its left line the limits v, l
+pub between-keeps-the-left-cone : (a b r l v : Point) → Cone a b r l → Between r l v → Cone v b v l
+unfolding cross
+between-keeps-the-left-cone a b r l v h₁ h₂ =
+    record {
+      seen = prove (coordinates (a ∷ b ∷ r ∷ l ∷ v ∷ [])) ((𝟘ᵉ ≺ crossᵉ (pt 2) (pt 1)) ∷ (𝟘ᵉ ≺ crossᵉ (pt 2) (pt 3)) ∷ (𝟘ᵉ ≼ crossᵉ (pt 3) (pt 1)) ∷ (𝟘ᵉ ≺ crossᵉ (pt 2) (pt 4)) ∷ (𝟘ᵉ ≺ crossᵉ (pt 4) (pt 3)) ∷ []) (𝟘ᵉ ≺ crossᵉ (pt 4) (pt 1)) (only (given 0 ⊠ given 2 ⊞ given 1 ⊠ given 5 ⊞ given 3 ⊠ given 4)) tt (h₁ .right-to-b) (h₁ .right-to-left) (h₁ .left-to-b) (h₂ .past-right) (h₂ .short-of-left);
+      right-from-a = prove (coordinates (a ∷ b ∷ r ∷ l ∷ v ∷ [])) [] (𝟘ᵉ ≼ crossᵉ (pt 4) (pt 4)) (only (given 0)) tt;
+      right-to-b = prove (coordinates (a ∷ b ∷ r ∷ l ∷ v ∷ [])) ((𝟘ᵉ ≺ crossᵉ (pt 2) (pt 1)) ∷ (𝟘ᵉ ≺ crossᵉ (pt 2) (pt 3)) ∷ (𝟘ᵉ ≼ crossᵉ (pt 3) (pt 1)) ∷ (𝟘ᵉ ≺ crossᵉ (pt 2) (pt 4)) ∷ (𝟘ᵉ ≺ crossᵉ (pt 4) (pt 3)) ∷ []) (𝟘ᵉ ≺ crossᵉ (pt 4) (pt 1)) (only (given 0 ⊠ given 2 ⊞ given 1 ⊠ given 5 ⊞ given 3 ⊠ given 4)) tt (h₁ .right-to-b) (h₁ .right-to-left) (h₁ .left-to-b) (h₂ .past-right) (h₂ .short-of-left);
+      right-to-left = h₂ .short-of-left;
+      left-from-a = h₂ .short-of-left;
+      left-to-b = h₁ .left-to-b;
+    }
+
+-- the apex on or right of the ray to r: its left line takes both limits
+pub right-keeps-the-cone : (a b r l v : Point) → Cone a b r l → Beyond a b v → cross r v ≤ℤ 𝟘 → Cone v b r l
+unfolding cross
+right-keeps-the-cone a b r l v h₁ h₂ h₃ =
+    record {
+      seen = prove (coordinates (a ∷ b ∷ r ∷ l ∷ v ∷ [])) ((𝟘ᵉ ≺ crossᵉ (pt 0) (pt 1)) ∷ (𝟘ᵉ ≼ crossᵉ (pt 0) (pt 2)) ∷ (𝟘ᵉ ≺ crossᵉ (pt 2) (pt 1)) ∷ (𝟘ᵉ ≺ crossᵉ (pt 1) (pt 0) ⊕ crossᵉ (pt 0) (pt 4) ⊕ crossᵉ (pt 4) (pt 1)) ∷ (crossᵉ (pt 2) (pt 4) ≼ 𝟘ᵉ) ∷ []) (𝟘ᵉ ≺ crossᵉ (pt 4) (pt 1)) (only (given 0 ⊠ given 2 ⊞ given 0 ⊠ given 3 ⊞ given 1 ⊠ given 3 ⊞ given 1 ⊠ given 5 ⊞ given 3 ⊠ given 4)) tt (h₁ .seen) (h₁ .right-from-a) (h₁ .right-to-b) (h₂ .beyond) h₃;
+      right-from-a = prove (coordinates (a ∷ b ∷ r ∷ l ∷ v ∷ [])) ((crossᵉ (pt 2) (pt 4) ≼ 𝟘ᵉ) ∷ []) (𝟘ᵉ ≼ crossᵉ (pt 4) (pt 2)) (only (given 0 ⊞ given 1)) tt h₃;
+      right-to-b = h₁ .right-to-b;
+      right-to-left = h₁ .right-to-left;
+      left-from-a = prove (coordinates (a ∷ b ∷ r ∷ l ∷ v ∷ [])) ((𝟘ᵉ ≺ crossᵉ (pt 0) (pt 1)) ∷ (𝟘ᵉ ≼ crossᵉ (pt 0) (pt 2)) ∷ (𝟘ᵉ ≺ crossᵉ (pt 2) (pt 1)) ∷ (𝟘ᵉ ≺ crossᵉ (pt 2) (pt 3)) ∷ (𝟘ᵉ ≺ crossᵉ (pt 0) (pt 3)) ∷ (𝟘ᵉ ≼ crossᵉ (pt 3) (pt 1)) ∷ (𝟘ᵉ ≺ crossᵉ (pt 1) (pt 0) ⊕ crossᵉ (pt 0) (pt 4) ⊕ crossᵉ (pt 4) (pt 1)) ∷ (crossᵉ (pt 2) (pt 4) ≼ 𝟘ᵉ) ∷ []) (𝟘ᵉ ≺ crossᵉ (pt 4) (pt 3)) (only (given 0 ⊠ given 2 ⊞ given 0 ⊠ given 3 ⊞ given 1 ⊠ given 4 ⊞ given 4 ⊠ given 7 ⊞ given 5 ⊠ given 8 ⊞ given 6 ⊠ given 8)) tt (h₁ .seen) (h₁ .right-from-a) (h₁ .right-to-b) (h₁ .right-to-left) (h₁ .left-from-a) (h₁ .left-to-b) (h₂ .beyond) h₃;
+      left-to-b = h₁ .left-to-b;
+    }
+
+-- the apex on or left of the ray to l: its right line takes both limits
+pub left-keeps-the-cone : (a b r l v : Point) → Cone a b r l → Beyond a b v → cross v l ≤ℤ 𝟘 → Cone a v r l
+unfolding cross
+left-keeps-the-cone a b r l v h₁ h₂ h₃ =
+    record {
+      seen = prove (coordinates (a ∷ b ∷ r ∷ l ∷ v ∷ [])) ((𝟘ᵉ ≺ crossᵉ (pt 0) (pt 1)) ∷ (𝟘ᵉ ≺ crossᵉ (pt 0) (pt 3)) ∷ (𝟘ᵉ ≼ crossᵉ (pt 3) (pt 1)) ∷ (𝟘ᵉ ≺ crossᵉ (pt 1) (pt 0) ⊕ crossᵉ (pt 0) (pt 4) ⊕ crossᵉ (pt 4) (pt 1)) ∷ (crossᵉ (pt 4) (pt 3) ≼ 𝟘ᵉ) ∷ []) (𝟘ᵉ ≺ crossᵉ (pt 0) (pt 4)) (only (given 0 ⊠ given 2 ⊞ given 0 ⊠ given 3 ⊞ given 1 ⊠ given 2 ⊞ given 1 ⊠ given 5 ⊞ given 2 ⊠ given 4)) tt (h₁ .seen) (h₁ .left-from-a) (h₁ .left-to-b) (h₂ .beyond) h₃;
+      right-from-a = h₁ .right-from-a;
+      right-to-b = prove (coordinates (a ∷ b ∷ r ∷ l ∷ v ∷ [])) ((𝟘ᵉ ≺ crossᵉ (pt 0) (pt 1)) ∷ (𝟘ᵉ ≼ crossᵉ (pt 0) (pt 2)) ∷ (𝟘ᵉ ≺ crossᵉ (pt 2) (pt 1)) ∷ (𝟘ᵉ ≺ crossᵉ (pt 2) (pt 3)) ∷ (𝟘ᵉ ≺ crossᵉ (pt 0) (pt 3)) ∷ (𝟘ᵉ ≼ crossᵉ (pt 3) (pt 1)) ∷ (𝟘ᵉ ≺ crossᵉ (pt 1) (pt 0) ⊕ crossᵉ (pt 0) (pt 4) ⊕ crossᵉ (pt 4) (pt 1)) ∷ (crossᵉ (pt 4) (pt 3) ≼ 𝟘ᵉ) ∷ []) (𝟘ᵉ ≺ crossᵉ (pt 2) (pt 4)) (only (given 0 ⊠ given 5 ⊞ given 0 ⊠ given 6 ⊞ given 1 ⊠ given 4 ⊞ given 2 ⊠ given 8 ⊞ given 3 ⊠ given 8 ⊞ given 4 ⊠ given 7)) tt (h₁ .seen) (h₁ .right-from-a) (h₁ .right-to-b) (h₁ .right-to-left) (h₁ .left-from-a) (h₁ .left-to-b) (h₂ .beyond) h₃;
+      right-to-left = h₁ .right-to-left;
+      left-from-a = h₁ .left-from-a;
+      left-to-b = prove (coordinates (a ∷ b ∷ r ∷ l ∷ v ∷ [])) ((crossᵉ (pt 4) (pt 3) ≼ 𝟘ᵉ) ∷ []) (𝟘ᵉ ≼ crossᵉ (pt 3) (pt 4)) (only (given 0 ⊞ given 1)) tt h₃;
+    }
+
+pub right-is-not-left : (a b r l v : Point) → Cone a b r l → Beyond a b v → cross r v ≤ℤ 𝟘 → cross v l ≤ℤ 𝟘 → ⊥
+unfolding cross
+right-is-not-left a b r l v h₁ h₂ h₃ h₄ = refute (coordinates (a ∷ b ∷ r ∷ l ∷ v ∷ [])) ((𝟘ᵉ ≺ crossᵉ (pt 0) (pt 1)) ∷ (𝟘ᵉ ≼ crossᵉ (pt 0) (pt 2)) ∷ (𝟘ᵉ ≺ crossᵉ (pt 2) (pt 1)) ∷ (𝟘ᵉ ≺ crossᵉ (pt 2) (pt 3)) ∷ (𝟘ᵉ ≺ crossᵉ (pt 0) (pt 3)) ∷ (𝟘ᵉ ≼ crossᵉ (pt 3) (pt 1)) ∷ (𝟘ᵉ ≺ crossᵉ (pt 1) (pt 0) ⊕ crossᵉ (pt 0) (pt 4) ⊕ crossᵉ (pt 4) (pt 1)) ∷ (crossᵉ (pt 2) (pt 4) ≼ 𝟘ᵉ) ∷ (crossᵉ (pt 4) (pt 3) ≼ 𝟘ᵉ) ∷ []) (given 1 ⊠ given 4 ⊞ given 2 ⊠ given 9 ⊞ given 3 ⊠ given 9 ⊞ given 4 ⊠ given 7 ⊞ given 5 ⊠ given 8 ⊞ given 6 ⊠ given 8) tt (h₁ .seen) (h₁ .right-from-a) (h₁ .right-to-b) (h₁ .right-to-left) (h₁ .left-from-a) (h₁ .left-to-b) (h₂ .beyond) h₃ h₄
+
+-- what is strictly between the right limit and v, itself strictly between the limits, is strictly inside
+pub right-half-is-inside : (r l v d : Point) → 𝟘 <ℤ cross r l → Between r l v → Holds r v d → Holds r l d
+unfolding cross
+right-half-is-inside r l v d h₁ h₂ h₃ =
+    record {
+      right = h₃ .right;
+      left = prove (coordinates (r ∷ l ∷ v ∷ d ∷ [])) ((𝟘ᵉ ≺ crossᵉ (pt 0) (pt 1)) ∷ (𝟘ᵉ ≺ crossᵉ (pt 0) (pt 2)) ∷ (𝟘ᵉ ≺ crossᵉ (pt 2) (pt 1)) ∷ (𝟘ᵉ ≺ crossᵉ (pt 0) (pt 3)) ∷ (𝟘ᵉ ≺ crossᵉ (pt 3) (pt 2)) ∷ []) (𝟘ᵉ ≺ crossᵉ (pt 3) (pt 1)) (only (given 0 ⊠ given 2 ⊞ given 1 ⊠ given 5 ⊞ given 3 ⊠ given 4)) tt h₁ (h₂ .past-right) (h₂ .short-of-left) (h₃ .right) (h₃ .left);
+    }
+
+pub left-half-is-inside : (r l v d : Point) → 𝟘 <ℤ cross r l → Between r l v → Holds v l d → Holds r l d
+unfolding cross
+left-half-is-inside r l v d h₁ h₂ h₃ =
+    record {
+      right = prove (coordinates (r ∷ l ∷ v ∷ d ∷ [])) ((𝟘ᵉ ≺ crossᵉ (pt 0) (pt 1)) ∷ (𝟘ᵉ ≺ crossᵉ (pt 0) (pt 2)) ∷ (𝟘ᵉ ≺ crossᵉ (pt 2) (pt 1)) ∷ (𝟘ᵉ ≺ crossᵉ (pt 2) (pt 3)) ∷ (𝟘ᵉ ≺ crossᵉ (pt 3) (pt 1)) ∷ []) (𝟘ᵉ ≺ crossᵉ (pt 0) (pt 3)) (only (given 0 ⊠ given 3 ⊞ given 1 ⊠ given 4 ⊞ given 2 ⊠ given 5)) tt h₁ (h₂ .past-right) (h₂ .short-of-left) (h₃ .right) (h₃ .left);
+      left = h₃ .left;
+    }
+
+pub halves-share-nothing : (r v l d : Point) → Holds r v d → Holds v l d → ⊥
+unfolding cross
+halves-share-nothing r v l d h₁ h₂ = refute (coordinates (r ∷ v ∷ l ∷ d ∷ [])) ((𝟘ᵉ ≺ crossᵉ (pt 3) (pt 1)) ∷ (𝟘ᵉ ≺ crossᵉ (pt 1) (pt 3)) ∷ []) (given 1 ⊞ given 2) tt (h₁ .left) (h₂ .right)
+
+pub right-half-does-not-hold-v : (r v : Point) → Holds r v v → ⊥
+unfolding cross
+right-half-does-not-hold-v r v h₁ = refute (coordinates (r ∷ v ∷ [])) ((𝟘ᵉ ≺ crossᵉ (pt 1) (pt 1)) ∷ []) (given 1) tt (h₁ .left)
+
+pub left-half-does-not-hold-v : (v l : Point) → Holds v l v → ⊥
+unfolding cross
+left-half-does-not-hold-v v l h₁ = refute (coordinates (v ∷ l ∷ [])) ((𝟘ᵉ ≺ crossᵉ (pt 0) (pt 0)) ∷ []) (given 1) tt (h₁ .right)
+
+pub right-turned-is-left : (u v : Point) → cross u v <ℤ 𝟘 → 𝟘 <ℤ cross v u
+unfolding cross
+right-turned-is-left u v h₁ = prove (coordinates (u ∷ v ∷ [])) ((crossᵉ (pt 0) (pt 1) ≺ 𝟘ᵉ) ∷ []) (𝟘ᵉ ≺ crossᵉ (pt 1) (pt 0)) (only (given 0 ⊞ given 1)) tt h₁
+
+pub left-turned-is-right : (u v : Point) → 𝟘 <ℤ cross u v → cross v u <ℤ 𝟘
+unfolding cross
+left-turned-is-right u v h₁ = prove (coordinates (u ∷ v ∷ [])) ((𝟘ᵉ ≺ crossᵉ (pt 0) (pt 1)) ∷ []) (crossᵉ (pt 1) (pt 0) ≺ 𝟘ᵉ) (only (given 0 ⊞ given 1)) tt h₁
+
+pub no-length-no-x : (d : Point) → dot d d ≤ℤ 𝟘 → d .x ≡ 𝟘
+unfolding dot
+no-length-no-x d h₁ = prove (coordinates (d ∷ [])) ((dotᵉ (pt 0) (pt 0) ≼ 𝟘ᵉ) ∷ []) ((pt 0) .x ≈ 𝟘ᵉ) (both (given 1 ⊞ square (var 1) ⊞ given 0 ⊠ given 0) (given 1 ⊞ square (var 1) ⊞ given 0 ⊠ given 0)) (tt, tt) h₁
+
+pub no-length-no-y : (d : Point) → dot d d ≤ℤ 𝟘 → d .y ≡ 𝟘
+unfolding dot
+no-length-no-y d h₁ = prove (coordinates (d ∷ [])) ((dotᵉ (pt 0) (pt 0) ≼ 𝟘ᵉ) ∷ []) ((pt 0) .y ≈ 𝟘ᵉ) (both (given 1 ⊞ square (var 0) ⊞ given 0 ⊠ given 0) (given 1 ⊞ square (var 0) ⊞ given 0 ⊠ given 0)) (tt, tt) h₁
+
+pub no-zero-limit : (r v : Point) → 𝟘 <ℤ cross r v → 𝟘 <ℤ dot v v
+unfolding cross dot
+no-zero-limit r v h₁ = prove (coordinates (r ∷ v ∷ [])) ((𝟘ᵉ ≺ crossᵉ (pt 0) (pt 1)) ∷ []) (𝟘ᵉ ≺ dotᵉ (pt 1) (pt 1)) (only (square (dotᵉ (pt 0) (pt 1)) ⊞ given 1 ⊠ given 1 ⊞ given 0 ⊠ square (var 0) ⊞ given 0 ⊠ square (var 1))) tt h₁
+
+pub along-v-inside-is-ahead : (r l v d : Point) → 𝟘 <ℤ dot v v → Between r l v → Holds r l d → cross d v ≡ 𝟘 → 𝟘 <ℤ dot d v
+unfolding cross dot
+along-v-inside-is-ahead r l v d h₁ h₂ h₃ h₄ = prove (coordinates (r ∷ l ∷ v ∷ d ∷ [])) ((𝟘ᵉ ≺ dotᵉ (pt 2) (pt 2)) ∷ (𝟘ᵉ ≺ crossᵉ (pt 0) (pt 2)) ∷ (𝟘ᵉ ≺ crossᵉ (pt 0) (pt 3)) ∷ (crossᵉ (pt 3) (pt 2) ≈ 𝟘ᵉ) ∷ []) (𝟘ᵉ ≺ dotᵉ (pt 3) (pt 2)) (only (given 0 ⊠ given 2 ⊞ given 1 ⊠ given 3 ⊞ by (neg (dotᵉ (pt 0) (pt 2))) (given 4))) tt h₁ (h₂ .past-right) (h₃ .right) h₄
+
+-- seen from strictly inside a triangle, its corners are not all left of a direction
+pub not-all-left : (a b c d : Point) → 𝟘 <ℤ cross a b → 𝟘 <ℤ cross b c → 𝟘 <ℤ cross c a → 𝟘 <ℤ cross a d → 𝟘 <ℤ cross b d → 𝟘 <ℤ cross c d → ⊥
+unfolding cross
+not-all-left a b c d h₁ h₂ h₃ h₄ h₅ h₆ = refute (coordinates (a ∷ b ∷ c ∷ d ∷ [])) ((𝟘ᵉ ≺ crossᵉ (pt 0) (pt 1)) ∷ (𝟘ᵉ ≺ crossᵉ (pt 1) (pt 2)) ∷ (𝟘ᵉ ≺ crossᵉ (pt 2) (pt 0)) ∷ (𝟘ᵉ ≺ crossᵉ (pt 0) (pt 3)) ∷ (𝟘ᵉ ≺ crossᵉ (pt 1) (pt 3)) ∷ (𝟘ᵉ ≺ crossᵉ (pt 2) (pt 3)) ∷ []) (given 1 ⊠ given 6 ⊞ given 2 ⊠ given 4 ⊞ given 3 ⊠ given 5) tt h₁ h₂ h₃ h₄ h₅ h₆
+
+pub not-all-right : (a b c d : Point) → 𝟘 <ℤ cross a b → 𝟘 <ℤ cross b c → 𝟘 <ℤ cross c a → cross a d <ℤ 𝟘 → cross b d <ℤ 𝟘 → cross c d <ℤ 𝟘 → ⊥
+unfolding cross
+not-all-right a b c d h₁ h₂ h₃ h₄ h₅ h₆ = refute (coordinates (a ∷ b ∷ c ∷ d ∷ [])) ((𝟘ᵉ ≺ crossᵉ (pt 0) (pt 1)) ∷ (𝟘ᵉ ≺ crossᵉ (pt 1) (pt 2)) ∷ (𝟘ᵉ ≺ crossᵉ (pt 2) (pt 0)) ∷ (crossᵉ (pt 0) (pt 3) ≺ 𝟘ᵉ) ∷ (crossᵉ (pt 1) (pt 3) ≺ 𝟘ᵉ) ∷ (crossᵉ (pt 2) (pt 3) ≺ 𝟘ᵉ) ∷ []) (given 1 ⊠ given 6 ⊞ given 2 ⊠ given 4 ⊞ given 3 ⊠ given 5) tt h₁ h₂ h₃ h₄ h₅ h₆
+
+-- away from a corner of a triangle around the stand leads between the other two
+pub behind-a-corner-is-opposite : (a b c d : Point) → 𝟘 <ℤ cross a b → 𝟘 <ℤ cross c a → cross d a ≡ 𝟘 → dot d a <ℤ 𝟘 → Holds b c d
+unfolding cross dot
+behind-a-corner-is-opposite a b c d h₁ h₂ h₃ h₄ =
+    record {
+      right = prove (coordinates (a ∷ b ∷ c ∷ d ∷ [])) ((𝟘ᵉ ≺ crossᵉ (pt 0) (pt 1)) ∷ (crossᵉ (pt 3) (pt 0) ≈ 𝟘ᵉ) ∷ (dotᵉ (pt 3) (pt 0) ≺ 𝟘ᵉ) ∷ []) (𝟘ᵉ ≺ crossᵉ (pt 1) (pt 3)) (only (given 1 ⊠ given 3 ⊞ given 0 ⊠ square (var 0) ⊞ given 0 ⊠ square (var 1) ⊞ by (dotᵉ (pt 0) (pt 1)) (given 2))) tt h₁ h₃ h₄;
+      left = prove (coordinates (a ∷ b ∷ c ∷ d ∷ [])) ((𝟘ᵉ ≺ crossᵉ (pt 2) (pt 0)) ∷ (crossᵉ (pt 3) (pt 0) ≈ 𝟘ᵉ) ∷ (dotᵉ (pt 3) (pt 0) ≺ 𝟘ᵉ) ∷ []) (𝟘ᵉ ≺ crossᵉ (pt 3) (pt 2)) (only (given 1 ⊠ given 3 ⊞ given 0 ⊠ square (var 0) ⊞ given 0 ⊠ square (var 1) ⊞ by (neg (dotᵉ (pt 0) (pt 2))) (given 2))) tt h₂ h₃ h₄;
+    }
+
+pub along-is-ahead-or-behind : (a d : Point) → 𝟘 <ℤ dot a a → 𝟘 <ℤ dot d d → cross d a ≡ 𝟘 → dot d a ≡ 𝟘 → ⊥
+unfolding cross dot
+along-is-ahead-or-behind a d h₁ h₂ h₃ h₄ = refute (coordinates (a ∷ d ∷ [])) ((𝟘ᵉ ≺ dotᵉ (pt 0) (pt 0)) ∷ (𝟘ᵉ ≺ dotᵉ (pt 1) (pt 1)) ∷ (crossᵉ (pt 1) (pt 0) ≈ 𝟘ᵉ) ∷ (dotᵉ (pt 1) (pt 0) ≈ 𝟘ᵉ) ∷ []) (given 1 ⊠ given 2 ⊞ by (neg (crossᵉ (pt 0) (pt 1))) (given 3) ⊞ by (dotᵉ (pt 0) (pt 1)) (given 4)) tt h₁ h₂ h₃ h₄
+
+-- a cell entered by the line from a to b, with its apex beyond, is left by the line from a to v strictly later
+pub left-later-by-the-right-line : (a b v d : Point) → 𝟘 <ℤ cross a d → Beyond a b v → Earlier d a b a v
+unfolding cross
+left-later-by-the-right-line a b v d h₁ h₂ =
+    record {
+      earlier = prove (coordinates (a ∷ b ∷ v ∷ d ∷ [])) ((𝟘ᵉ ≺ crossᵉ (pt 0) (pt 3)) ∷ (𝟘ᵉ ≺ crossᵉ (pt 1) (pt 0) ⊕ crossᵉ (pt 0) (pt 2) ⊕ crossᵉ (pt 2) (pt 1)) ∷ []) (crossᵉ (pt 0) (pt 1) ⊗ (crossᵉ (pt 0) (pt 3) ⊕ crossᵉ (pt 3) (pt 2)) ≺ crossᵉ (pt 0) (pt 2) ⊗ (crossᵉ (pt 0) (pt 3) ⊕ crossᵉ (pt 3) (pt 1))) (only (given 0 ⊞ given 1 ⊠ given 2)) tt h₁ (h₂ .beyond);
+    }
+
+pub left-later-by-the-left-line : (a b v d : Point) → 𝟘 <ℤ cross d b → Beyond a b v → Earlier d a b v b
+unfolding cross
+left-later-by-the-left-line a b v d h₁ h₂ =
+    record {
+      earlier = prove (coordinates (a ∷ b ∷ v ∷ d ∷ [])) ((𝟘ᵉ ≺ crossᵉ (pt 3) (pt 1)) ∷ (𝟘ᵉ ≺ crossᵉ (pt 1) (pt 0) ⊕ crossᵉ (pt 0) (pt 2) ⊕ crossᵉ (pt 2) (pt 1)) ∷ []) (crossᵉ (pt 0) (pt 1) ⊗ (crossᵉ (pt 2) (pt 3) ⊕ crossᵉ (pt 3) (pt 1)) ≺ crossᵉ (pt 2) (pt 1) ⊗ (crossᵉ (pt 0) (pt 3) ⊕ crossᵉ (pt 3) (pt 1))) (only (given 0 ⊞ given 1 ⊠ given 2)) tt h₁ (h₂ .beyond);
+    }
+
+-- neither half of a split cone is empty
+pub right-half-is-not-empty : (r l v : Point) → Between r l v → Holds r v (plus r v)
+unfolding cross plus
+right-half-is-not-empty r l v h₁ =
+    record {
+      right = prove (coordinates (r ∷ l ∷ v ∷ [])) ((𝟘ᵉ ≺ crossᵉ (pt 0) (pt 2)) ∷ []) (𝟘ᵉ ≺ crossᵉ (pt 0) (plusᵉ (pt 0) (pt 2))) (only (given 0 ⊞ given 1)) tt (h₁ .past-right);
+      left = prove (coordinates (r ∷ l ∷ v ∷ [])) ((𝟘ᵉ ≺ crossᵉ (pt 0) (pt 2)) ∷ []) (𝟘ᵉ ≺ crossᵉ (plusᵉ (pt 0) (pt 2)) (pt 2)) (only (given 0 ⊞ given 1)) tt (h₁ .past-right);
+    }
+
+pub left-half-is-not-empty : (r l v : Point) → Between r l v → Holds v l (plus v l)
+unfolding cross plus
+left-half-is-not-empty r l v h₁ =
+    record {
+      right = prove (coordinates (r ∷ l ∷ v ∷ [])) ((𝟘ᵉ ≺ crossᵉ (pt 2) (pt 1)) ∷ []) (𝟘ᵉ ≺ crossᵉ (pt 2) (plusᵉ (pt 2) (pt 1))) (only (given 0 ⊞ given 1)) tt (h₁ .short-of-left);
+      left = prove (coordinates (r ∷ l ∷ v ∷ [])) ((𝟘ᵉ ≺ crossᵉ (pt 2) (pt 1)) ∷ []) (𝟘ᵉ ≺ crossᵉ (plusᵉ (pt 2) (pt 1)) (pt 1)) (only (given 0 ⊞ given 1)) tt (h₁ .short-of-left);
+    }
+
+-- so a cone is never empty of directions
+pub cone-holds-the-sum-of-its-limits : (r l : Point) → 𝟘 <ℤ cross r l → Holds r l (plus r l)
+unfolding cross plus
+cone-holds-the-sum-of-its-limits r l h₁ =
+    record {
+      right = prove (coordinates (r ∷ l ∷ [])) ((𝟘ᵉ ≺ crossᵉ (pt 0) (pt 1)) ∷ []) (𝟘ᵉ ≺ crossᵉ (pt 0) (plusᵉ (pt 0) (pt 1))) (only (given 0 ⊞ given 1)) tt h₁;
+      left = prove (coordinates (r ∷ l ∷ [])) ((𝟘ᵉ ≺ crossᵉ (pt 0) (pt 1)) ∷ []) (𝟘ᵉ ≺ crossᵉ (plusᵉ (pt 0) (pt 1)) (pt 1)) (only (given 0 ⊞ given 1)) tt h₁;
+    }

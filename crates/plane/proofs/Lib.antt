@@ -1,0 +1,4 @@
+pub mod Quote
+pub mod Found
+pub mod Cones
+pub mod Sides

@@ -1,0 +1,4 @@
+pub mod Side
+pub mod Tests
+pub mod Cone
+pub mod One
