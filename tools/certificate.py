@@ -30,14 +30,19 @@ from math import gcd
 # ---- polynomials: a monomial is a sorted tuple of variable numbers, a polynomial a dict from monomials to whole numbers
 
 
+def put(p, m, c):
+    """Adds c·m to p."""
+    s = p.get(m, 0) + c
+    if s:
+        p[m] = s
+    else:
+        p.pop(m, None)
+
+
 def add(p, q, k=1):
     r = dict(p)
     for m, c in q.items():
-        s = r.get(m, 0) + k * c
-        if s:
-            r[m] = s
-        else:
-            r.pop(m, None)
+        put(r, m, k * c)
     return r
 
 
@@ -45,12 +50,7 @@ def mul(p, q):
     r = {}
     for m, c in p.items():
         for n, d in q.items():
-            o = tuple(sorted(m + n))
-            s = r.get(o, 0) + c * d
-            if s:
-                r[o] = s
-            else:
-                r.pop(o, None)
+            put(r, tuple(sorted(m + n)), c * d)
     return r
 
 
@@ -216,11 +216,7 @@ def feasible(columns, strict):
             f = row.get(pivot)
             if f:
                 for j, c in kept.items():
-                    s = row.get(j, 0) - f * c
-                    if s:
-                        row[j] = s
-                    else:
-                        row.pop(j, None)
+                    put(row, j, -f * c)
         keys = [j for j in row if j != "rhs"]
         if not keys:
             if row.get("rhs"):
@@ -260,11 +256,7 @@ def feasible(columns, strict):
                 for j, c in body[i].items():
                     if other is cost and isinstance(j, tuple):
                         continue
-                    s = other.get(j, 0) - g * c
-                    if s:
-                        other[j] = s
-                    else:
-                        other.pop(j, None)
+                    put(other, j, -g * c)
         basis[i] = enter
     return {b: body[i].get("rhs", Fraction(0)) for i, b in enumerate(basis) if not isinstance(b, tuple) and body[i].get("rhs")}
 

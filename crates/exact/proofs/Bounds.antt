@@ -119,3 +119,14 @@ pub counted : (w : Width) (n : ℕ) {A : ℕ} → T (ltb A (2 ^ hbits w)) → n 
 counted w n {A} t h =
     let l : A < 2 ^ hbits w = lit< t in
     record { is = toZ-pos w n (omega arith); size = h }
+
+-- a number of one width, cast to another that is at least as wide
+module _ (w v : Width) (t : T (leb (2 ^ hbits w) (2 ^ hbits v))) (z : ℤ) (f : mag z < 2 ^ hbits w) where
+  pub widened-fits : SFits v (toZ w (ofZ w z))
+  widened-fits =
+      let l : 2 ^ hbits w ≤ 2 ^ hbits v = lit≤ t in
+      let wide : SFits v z = record { sfits = omega arith } in
+      subst (SFits v) (sym (handed w {r = z} {s = z} f refl)) wide
+
+  pub widened : toZ v (ofZ v (toZ w (ofZ w z))) ≡ z
+  widened = toZ-ofZ v (toZ w (ofZ w z)) widened-fits ∙ handed w {r = z} {s = z} f refl

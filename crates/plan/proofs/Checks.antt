@@ -1,0 +1,101 @@
+-- The plan check, way out by way out: what was found, and the reply.
+use mathlib.Core.Bool.{Bool, true, false, _||_}
+use mathlib.Core.List.{List}
+use mathlib.Core.Path.{_≡_, refl}
+use Prim.Native.Nat.{ℕ, _%_, _<_, _≤_}
+use native.Mathlib.Omega.{arith}
+use borrow.Author.Tests.{eq-eqb, ne-eqb, lt-ltb, le-ltb}
+use lib.Dec.{leb→le}
+use lib.ListN.{length}
+use lib.IntN.{ℤ, pos, negsuc, negℤ, natAbs}
+use lib.Signed.{_≤ℤ_, ltZ}
+use Rattle.exact.specs.Within.{Within}
+use Rattle.exact.proofs.Order.{ltZ-false}
+use Rattle.plan.specs.Limits.{sized, coordinate-limit}
+use Rattle.plan.specs.Lists.{corner-count, cell-count, face-count, corner-at}
+use Rattle.plan.specs.Check.{outside, wrong-corner, checked, first-wrong-corner, first-wrong-cell, first-wrong-face, first-wrong-door}
+use Rattle.plan.specs.Sound.{CornersNear, NeighboursRight}
+use Rattle.plan.specs.declared.Refusal.the-variants.{Frame, Size, Corner, Cell, Neighbour, Door}
+use Rattle.plan.specs.declared.Checked.the-variants.{Accepted, Refused}
+use Rattle.plan.proofs.Least.{none-holds}
+
+-- ---- what passed
+
+neither : (a b : Bool) → (a || b) ≡ false → (a ≡ false) × (b ≡ false)
+neither true b e = (e, absurd (no-way e))
+  where
+    no-way : true ≡ false → ⊥
+    no-way e = let z : _≡_ {A = ℕ} 0 1 = cc in omega arith
+neither false b e = (refl, e)
+
+between : (z : ℤ) → negℤ (pos coordinate-limit) ≤ℤ z → z ≤ℤ pos coordinate-limit → natAbs z ≤ coordinate-limit
+between (pos n) h k = leb→le n coordinate-limit (k .le)
+between (negsuc n) h k = let l : n ≤ 536870911 = leb→le n 536870911 (h .le) in omega arith
+
+pub not-outside : (z : ℤ) → outside z ≡ false → Within coordinate-limit z
+unfolding outside
+not-outside z e =
+    let both = neither (ltZ z (negℤ (pos coordinate-limit))) (ltZ (pos coordinate-limit) z) e in
+    record { size = between z (ltZ-false z _ (both .0)) (ltZ-false _ z (both .1)) }
+
+pub corners-near : (cs : List ℤ) → corner-count cs ≤ first-wrong-corner cs → CornersNear cs
+unfolding wrong-corner
+corners-near cs h =
+    record {
+      near = λ i l.
+          let both = neither (outside (corner-at cs i .x)) (outside (corner-at cs i .y)) (none-holds (wrong-corner cs) (corner-count cs) h i l) in
+          record { x-near = not-outside _ (both .0); y-near = not-outside _ (both .1) };
+    }
+
+pub neighbours-right : (ts : List ℕ) → face-count ts ≤ first-wrong-face ts → NeighboursRight ts
+neighbours-right ts h = record { right = none-holds _ (face-count ts) h }
+
+-- ---- the replies, in their order
+
+module _ (cs : List ℤ) (ts ds : List ℕ) where
+  pub odd-corners : (length cs % 2 ≡ 0 → ⊥) → Refused Frame ≡ checked cs ts ds
+  unfolding checked
+  odd-corners h = simp (ne-eqb _ _ h)
+
+  module _ (even : length cs % 2 ≡ 0) where
+    pub odd-cells : (length ts % 6 ≡ 0 → ⊥) → Refused Frame ≡ checked cs ts ds
+    unfolding checked
+    odd-cells h = simp (eq-eqb _ _ even, ne-eqb _ _ h)
+
+    module _ (six : length ts % 6 ≡ 0) where
+      pub out-of-size : sized (corner-count cs) (cell-count ts) (length ds) ≡ false → Refused Size ≡ checked cs ts ds
+      unfolding checked
+      out-of-size h = simp (eq-eqb _ _ even, eq-eqb _ _ six, h)
+
+      module _ (in-size : sized (corner-count cs) (cell-count ts) (length ds) ≡ true) where
+        pub at-a-corner : {i : ℕ} → i ≡ first-wrong-corner cs → i < corner-count cs → Refused (Corner i) ≡ checked cs ts ds
+        unfolding checked
+        at-a-corner {i} e h =
+            let k : first-wrong-corner cs < corner-count cs = rw e at h in
+            simp (eq-eqb _ _ even, eq-eqb _ _ six, in-size, lt-ltb _ _ k, e)
+
+        module _ (corners : corner-count cs ≤ first-wrong-corner cs) where
+          pub at-a-cell : {i : ℕ} → i ≡ first-wrong-cell cs ts → i < cell-count ts → Refused (Cell i) ≡ checked cs ts ds
+          unfolding checked
+          at-a-cell {i} e h =
+              let k : first-wrong-cell cs ts < cell-count ts = rw e at h in
+              simp (eq-eqb _ _ even, eq-eqb _ _ six, in-size, le-ltb _ _ corners, lt-ltb _ _ k, e)
+
+          module _ (cells : cell-count ts ≤ first-wrong-cell cs ts) where
+            pub at-a-face : {i : ℕ} → i ≡ first-wrong-face ts → i < face-count ts → Refused (Neighbour i) ≡ checked cs ts ds
+            unfolding checked
+            at-a-face {i} e h =
+                let k : first-wrong-face ts < face-count ts = rw e at h in
+                simp (eq-eqb _ _ even, eq-eqb _ _ six, in-size, le-ltb _ _ corners, le-ltb _ _ cells, lt-ltb _ _ k, e)
+
+            module _ (faces : face-count ts ≤ first-wrong-face ts) where
+              pub at-a-door : {i : ℕ} → i ≡ first-wrong-door ts ds → i < length ds → Refused (Door i) ≡ checked cs ts ds
+              unfolding checked
+              at-a-door {i} e h =
+                  let k : first-wrong-door ts ds < length ds = rw e at h in
+                  simp (eq-eqb _ _ even, eq-eqb _ _ six, in-size, le-ltb _ _ corners, le-ltb _ _ cells, le-ltb _ _ faces, lt-ltb _ _ k, e)
+
+              pub accepted : length ds ≤ first-wrong-door ts ds → Accepted (record { corners = corner-count cs; cells = cell-count ts; doors = length ds }) ≡ checked cs ts ds
+              unfolding checked
+              accepted h =
+                  simp (eq-eqb _ _ even, eq-eqb _ _ six, in-size, le-ltb _ _ corners, le-ltb _ _ cells, le-ltb _ _ faces, le-ltb _ _ h)

@@ -1,0 +1,6 @@
+pub mod Least
+pub mod Faces
+pub mod Neighbours
+pub mod Cells
+pub mod Doors
+pub mod Checks

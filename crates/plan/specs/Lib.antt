@@ -1,0 +1,6 @@
+pub mod Limits
+pub mod Least
+pub mod Lists
+pub mod Reply
+pub mod Check
+pub mod Sound

@@ -1,0 +1,32 @@
+-- The limits of a plan (document 01, "The plan file"). The code has the same numbers as constants of `Plan`.
+use mathlib.Core.Bool.{Bool, _&&_}
+use Prim.Native.Nat.{ℕ}
+use lib.Dec.{leb}
+use Rattle.plane.specs.Side.{limit}
+
+abbrev pub least-corners : ℕ
+least-corners = 3
+
+abbrev pub most-corners : ℕ
+most-corners = 2048
+
+abbrev pub least-cells : ℕ
+least-cells = 1
+
+abbrev pub most-cells : ℕ
+most-cells = 3000
+
+abbrev pub most-doors : ℕ
+most-doors = 64
+
+-- coordinates go from −coordinate-limit to coordinate-limit
+abbrev pub coordinate-limit : ℕ
+coordinate-limit = limit
+
+-- the neighbour of a side that is wall
+abbrev pub wall : ℕ
+wall = 65535
+
+-- are the counts of corners, cells and doors within the limits?
+unfoldable pub sized : ℕ → ℕ → ℕ → Bool
+sized n m k = leb least-corners n && leb n most-corners && leb least-cells m && leb m most-cells && leb k most-doors
