@@ -4,3 +4,5 @@ pub mod Neighbours
 pub mod Cells
 pub mod Doors
 pub mod Checks
+pub mod Accepted
+pub mod Plans

@@ -1,12 +1,14 @@
--- What a plan that passed a part of the check is known to be.
-use mathlib.Core.Bool.{false}
+-- What a plan that passed the check, or a part of it, is known to be.
+use mathlib.Core.Bool.{true, false}
 use mathlib.Core.List.{List}
 use mathlib.Core.Path.{_≡_}
-use Prim.Native.Nat.{ℕ, _<_}
+use Prim.Native.Nat.{ℕ, _%_, _<_}
+use lib.ListN.{length}
 use lib.IntN.{ℤ}
 use Rattle.plane.specs.Side.{Near}
-use Rattle.plan.specs.Lists.{corner-count, corner-at, face-count}
-use Rattle.plan.specs.Check.{wrong-neighbour}
+use Rattle.plan.specs.Limits.{sized}
+use Rattle.plan.specs.Lists.{corner-count, corner-at, cell-count, face-count}
+use Rattle.plan.specs.Check.{wrong-cell, wrong-neighbour, wrong-door}
 
 -- every corner's coordinates are within the limits
 pub record CornersNear (cs : List ℤ) : Type 0 where
@@ -15,3 +17,13 @@ pub record CornersNear (cs : List ℤ) : Type 0 where
 -- every neighbour is right
 pub record NeighboursRight (ts : List ℕ) : Type 0 where
   pub right : (f : ℕ) → f < face-count ts → wrong-neighbour ts f ≡ false
+
+-- an accepted plan
+pub record Sound (cs : List ℤ) (ts ds : List ℕ) : Type 0 where
+  pub whole-corners : length cs % 2 ≡ 0
+  pub whole-cells : length ts % 6 ≡ 0
+  pub in-size : sized (corner-count cs) (cell-count ts) (length ds) ≡ true
+  pub corners : CornersNear cs
+  pub cells : (c : ℕ) → c < cell-count ts → wrong-cell cs ts c ≡ false
+  pub neighbours : NeighboursRight ts
+  pub doors : (i : ℕ) → i < length ds → wrong-door ts ds i ≡ false

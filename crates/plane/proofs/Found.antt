@@ -29,6 +29,11 @@ pub side-changes-sign-ends : (a b c : Point) → side c b a ≡ negℤ (side a b
 unfolding side
 side-changes-sign-ends a b c = solve (coordinates (a ∷ b ∷ c ∷ [])) (sideᵉ (pt 2) (pt 1) (pt 0)) (neg (sideᵉ (pt 0) (pt 1) (pt 2))) tt
 
+-- two equal corners have no area
+pub flat-first-two : (a c : Point) → side a a c ≡ 𝟘
+unfolding side
+flat-first-two a c = solve (coordinates (a ∷ c ∷ [])) (sideᵉ (pt 0) (pt 0) (pt 1)) 𝟘ᵉ tt
+
 -- the side value is the sum of the three cross products seen from any q
 pub side-is-three-crosses : (a b v q : Point) → side a b v ≡ cross (minus a q) (minus b q) +ℤ cross (minus b q) (minus v q) +ℤ cross (minus v q) (minus a q)
 unfolding cross minus side
