@@ -21,7 +21,7 @@ use Rattle.plan.proofs.Least.{none-holds}
 
 -- ---- what passed
 
-neither : (a b : Bool) → (a || b) ≡ false → (a ≡ false) × (b ≡ false)
+pub neither : (a b : Bool) → (a || b) ≡ false → (a ≡ false) × (b ≡ false)
 neither true b e = (e, absurd (no-way e))
   where
     no-way : true ≡ false → ⊥

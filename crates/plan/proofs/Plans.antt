@@ -16,7 +16,7 @@ use Rattle.plan.specs.Limits.{sized, wall}
 use Rattle.plan.specs.Least.{least}
 use Rattle.plan.specs.Lists.{corner-count, cell-count, face-count, corner-at, next, start, neighbour, answers, back}
 use Rattle.plan.specs.Check.{wrong-cell, names, wrong-door}
-use Rattle.plan.specs.Sound.{Sound}
+use Rattle.plan.specs.Sound.{Sound, CornersExist}
 use Rattle.plan.proofs.Least.{not-both, holds-at-least, none-holds}
 use Rattle.plan.proofs.Faces.{SideOf, side-of, next-below, next-of-next-of-next, Mate, mates}
 use Rattle.plan.proofs.Faces.SideOf.{first, second, third}
@@ -214,3 +214,7 @@ module _ {cs : List ℤ} {ts ds : List ℕ} (sound : Sound cs ts ds) where
     no-earlier-door-names-its-line e l =
         let neither = none-holds (names ds (getD ds i 0) (back ts (getD ds i 0))) i (omega (arith, door-right .first)) e l in
         (λ k. not-both (names-the-face ds (getD ds i 0) (back ts (getD ds i 0)) e k) neither, λ k. not-both (names-the-back ds (getD ds i 0) (back ts (getD ds i 0)) e k) neither)
+
+-- every corner number of an accepted plan's cells exists
+pub corners-exist : {cs : List ℤ} {ts ds : List ℕ} → Sound cs ts ds → CornersExist cs ts
+corners-exist sound = record { exists = corner-exists sound }

@@ -7,12 +7,16 @@ use lib.ListN.{length}
 use lib.IntN.{ℤ}
 use Rattle.plane.specs.Side.{Near}
 use Rattle.plan.specs.Limits.{sized}
-use Rattle.plan.specs.Lists.{corner-count, corner-at, cell-count, face-count}
+use Rattle.plan.specs.Lists.{corner-count, corner-at, cell-count, face-count, start}
 use Rattle.plan.specs.Check.{wrong-cell, wrong-neighbour, wrong-door}
 
 -- every corner's coordinates are within the limits
 pub record CornersNear (cs : List ℤ) : Type 0 where
   pub near : (i : ℕ) → i < corner-count cs → Near (corner-at cs i)
+
+-- every corner number of a cell exists
+pub record CornersExist (cs : List ℤ) (ts : List ℕ) : Type 0 where
+  pub exists : (f : ℕ) → f < face-count ts → start ts f < corner-count cs
 
 -- every neighbour is right
 pub record NeighboursRight (ts : List ℕ) : Type 0 where

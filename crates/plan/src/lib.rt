@@ -5,10 +5,11 @@ ghost use Rattle.plan.specs.Limits.{sized};
 ghost use Rattle.plan.specs.Check.{checked};
 
 mod cell;
-mod corner;
+pub mod corner;
 mod door;
-mod face;
-mod neighbour;
+pub mod face;
+pub mod neighbour;
+pub mod setting;
 
 // The counts of an accepted plan; its constants are the limits of every plan.
 pub struct Plan {

@@ -230,3 +230,37 @@ cone-holds-the-sum-of-its-limits r l h₁ =
       right = prove (coordinates (r ∷ l ∷ [])) ((𝟘ᵉ ≺ crossᵉ (pt 0) (pt 1)) ∷ []) (𝟘ᵉ ≺ crossᵉ (pt 0) (plusᵉ (pt 0) (pt 1))) (only (given 0 ⊞ given 1)) tt h₁;
       left = prove (coordinates (r ∷ l ∷ [])) ((𝟘ᵉ ≺ crossᵉ (pt 0) (pt 1)) ∷ []) (𝟘ᵉ ≺ crossᵉ (plusᵉ (pt 0) (pt 1)) (pt 1)) (only (given 0 ⊞ given 1)) tt h₁;
     }
+
+-- what is strictly between the limits is strictly between the line's two ends
+pub within-the-limits-is-within-the-line : (a b r l d : Point) → Cone a b r l → Holds r l d → Holds a b d
+unfolding cross
+within-the-limits-is-within-the-line a b r l d h₁ h₂ =
+    record {
+      right = prove (coordinates (a ∷ b ∷ r ∷ l ∷ d ∷ [])) ((𝟘ᵉ ≼ crossᵉ (pt 0) (pt 2)) ∷ (𝟘ᵉ ≺ crossᵉ (pt 2) (pt 3)) ∷ (𝟘ᵉ ≺ crossᵉ (pt 0) (pt 3)) ∷ (𝟘ᵉ ≺ crossᵉ (pt 2) (pt 4)) ∷ (𝟘ᵉ ≺ crossᵉ (pt 4) (pt 3)) ∷ []) (𝟘ᵉ ≺ crossᵉ (pt 0) (pt 4)) (only (given 0 ⊠ given 2 ⊞ given 1 ⊠ given 5 ⊞ given 3 ⊠ given 4)) tt (h₁ .right-from-a) (h₁ .right-to-left) (h₁ .left-from-a) (h₂ .right) (h₂ .left);
+      left = prove (coordinates (a ∷ b ∷ r ∷ l ∷ d ∷ [])) ((𝟘ᵉ ≺ crossᵉ (pt 2) (pt 1)) ∷ (𝟘ᵉ ≺ crossᵉ (pt 2) (pt 3)) ∷ (𝟘ᵉ ≼ crossᵉ (pt 3) (pt 1)) ∷ (𝟘ᵉ ≺ crossᵉ (pt 2) (pt 4)) ∷ (𝟘ᵉ ≺ crossᵉ (pt 4) (pt 3)) ∷ []) (𝟘ᵉ ≺ crossᵉ (pt 4) (pt 1)) (only (given 0 ⊠ given 2 ⊞ given 1 ⊠ given 5 ⊞ given 3 ⊠ given 4)) tt (h₁ .right-to-b) (h₁ .right-to-left) (h₁ .left-to-b) (h₂ .right) (h₂ .left);
+    }
+
+pub no-line-is-earlier-than-itself : (d a b : Point) → Earlier d a b a b → ⊥
+unfolding cross
+no-line-is-earlier-than-itself d a b h₁ = refute (coordinates (d ∷ a ∷ b ∷ [])) ((crossᵉ (pt 1) (pt 2) ⊗ (crossᵉ (pt 1) (pt 0) ⊕ crossᵉ (pt 0) (pt 2)) ≺ crossᵉ (pt 1) (pt 2) ⊗ (crossᵉ (pt 1) (pt 0) ⊕ crossᵉ (pt 0) (pt 2))) ∷ []) (given 1) tt (h₁ .earlier)
+
+-- of the lines that a ray crosses
+pub earlier-is-transitive : (d a b a′ b′ a″ b″ : Point) → Holds a b d → Holds a′ b′ d → Holds a″ b″ d → Earlier d a b a′ b′ → Earlier d a′ b′ a″ b″ → Earlier d a b a″ b″
+unfolding cross
+earlier-is-transitive d a b a′ b′ a″ b″ h₁ h₂ h₃ h₄ h₅ =
+    record {
+      earlier = prove (coordinates (d ∷ a ∷ b ∷ a′ ∷ b′ ∷ a″ ∷ b″ ∷ [])) ((𝟘ᵉ ≺ crossᵉ (pt 1) (pt 0)) ∷ (𝟘ᵉ ≺ crossᵉ (pt 0) (pt 2)) ∷ (𝟘ᵉ ≺ crossᵉ (pt 3) (pt 0)) ∷ (𝟘ᵉ ≺ crossᵉ (pt 0) (pt 4)) ∷ (𝟘ᵉ ≺ crossᵉ (pt 5) (pt 0)) ∷ (𝟘ᵉ ≺ crossᵉ (pt 0) (pt 6)) ∷ (crossᵉ (pt 1) (pt 2) ⊗ (crossᵉ (pt 3) (pt 0) ⊕ crossᵉ (pt 0) (pt 4)) ≺ crossᵉ (pt 3) (pt 4) ⊗ (crossᵉ (pt 1) (pt 0) ⊕ crossᵉ (pt 0) (pt 2))) ∷ (crossᵉ (pt 3) (pt 4) ⊗ (crossᵉ (pt 5) (pt 0) ⊕ crossᵉ (pt 0) (pt 6)) ≺ crossᵉ (pt 5) (pt 6) ⊗ (crossᵉ (pt 3) (pt 0) ⊕ crossᵉ (pt 0) (pt 4))) ∷ []) (crossᵉ (pt 1) (pt 2) ⊗ (crossᵉ (pt 5) (pt 0) ⊕ crossᵉ (pt 0) (pt 6)) ≺ crossᵉ (pt 5) (pt 6) ⊗ (crossᵉ (pt 1) (pt 0) ⊕ crossᵉ (pt 0) (pt 2))) (only (given 0 ⊠ given 3 ⊞ given 0 ⊠ given 4 ⊞ given 1 ⊠ given 8 ⊞ given 2 ⊠ given 8 ⊞ given 5 ⊠ given 7 ⊞ given 6 ⊠ given 7)) tt (h₁ .right) (h₁ .left) (h₂ .right) (h₂ .left) (h₃ .right) (h₃ .left) (h₄ .earlier) (h₅ .earlier);
+    }
+
+-- with its own two ends as limits
+pub a-seen-line-is-a-cone : (a b : Point) → 𝟘 <ℤ cross a b → Cone a b a b
+unfolding cross
+a-seen-line-is-a-cone a b h₁ =
+    record {
+      seen = h₁;
+      right-from-a = prove (coordinates (a ∷ b ∷ [])) [] (𝟘ᵉ ≼ crossᵉ (pt 0) (pt 0)) (only (given 0)) tt;
+      right-to-b = h₁;
+      right-to-left = h₁;
+      left-from-a = h₁;
+      left-to-b = prove (coordinates (a ∷ b ∷ [])) [] (𝟘ᵉ ≼ crossᵉ (pt 1) (pt 1)) (only (given 0)) tt;
+    }

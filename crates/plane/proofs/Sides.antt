@@ -1,9 +1,11 @@
 -- The containment test by the signs of the three side values: each answer, and what each answer says.
 use mathlib.Core.Path.{_≡_, refl, ap, ap₂}
 use mathlib.Core.Bool.{Bool, true, false, _&&_}
+use Prim.Native.Nat.{ℕ}
+use native.Mathlib.Omega.{arith}
 use lib.IntN.{ℤ}
 use lib.Signed.{ltZ, leZ, _<ℤ_, _≤ℤ_}
-use Rattle.exact.proofs.Order.{𝟘, lt-ltZ, le-ltZ, le-leZ, lt-leZ, less-is-at-most}
+use Rattle.exact.proofs.Order.{𝟘, lt-ltZ, le-ltZ, le-leZ, lt-leZ, ltZ-true, less-is-at-most}
 use Rattle.plane.specs.Tests.{by-sides, chosen}
 use Rattle.plane.specs.declared.Containment.the-variants.{Inside, Border, Outside}
 
@@ -55,3 +57,18 @@ module _ (s t u : ℤ) where
     pub border-by-third : u ≤ℤ 𝟘 → by-sides s t u ≡ Border
     unfolding by-sides
     border-by-third z = ap₂ chosen (none₃ (ltZ 𝟘 s) (ltZ 𝟘 t) _ (le-ltZ z)) none-negative
+
+-- what the answer `Inside` says
+pub inside-has-three-positive-sides : (s t u : ℤ) → by-sides s t u ≡ Inside → (𝟘 <ℤ s) × (𝟘 <ℤ t) × (𝟘 <ℤ u)
+unfolding by-sides
+inside-has-three-positive-sides s t u e = by-test (ltZ 𝟘 s) refl (ltZ 𝟘 t) refl (ltZ 𝟘 u) refl e
+  where
+    none : (b : Bool) → chosen false b ≡ Inside → ⊥
+    none true p = let z : _≡_ {A = ℕ} 0 1 = cc in omega arith
+    none false p = let z : _≡_ {A = ℕ} 0 1 = cc in omega arith
+
+    by-test : (a : Bool) → ltZ 𝟘 s ≡ a → (b : Bool) → ltZ 𝟘 t ≡ b → (c : Bool) → ltZ 𝟘 u ≡ c → chosen (a && b && c) (leZ 𝟘 s && leZ 𝟘 t && leZ 𝟘 u) ≡ Inside → (𝟘 <ℤ s) × (𝟘 <ℤ t) × (𝟘 <ℤ u)
+    by-test true h true k true l p = (ltZ-true _ _ h, ltZ-true _ _ k, ltZ-true _ _ l)
+    by-test true h true k false l p = absurd (none (leZ 𝟘 s && leZ 𝟘 t && leZ 𝟘 u) p)
+    by-test true h false k c l p = absurd (none (leZ 𝟘 s && leZ 𝟘 t && leZ 𝟘 u) p)
+    by-test false h b k c l p = absurd (none (leZ 𝟘 s && leZ 𝟘 t && leZ 𝟘 u) p)

@@ -1,0 +1,14 @@
+-- `plan::setting::shut` meets its contract.
+use Rattle.plan.proofs.Settings.{or-shuts}
+use borrow.Author.Needs.{needs}
+use Rattle.plan.proofs.setting.shut.Statement.{statement}
+use Rattle.plan.proofs.setting.shut.Tie as tie
+
+shl-result : tie.Need-shl-result
+shl-result c = search needs
+
+returns : tie.Need-returns
+returns c = or-shuts (c .args .setting) (c .args .i) (c .pre)
+
+pub shut-spec : {M : Type 1} → statement M
+shut-spec = tie.close (tie.spec shl-result returns)

@@ -1,0 +1,43 @@
+// The door setting: bit i is one while door i is shut.
+ghost use Prim.Native.Nat.{_<_, _≤_};
+ghost use mathlib.Core.Path.{_≡_};
+ghost use Rattle.plan.specs.Setting.{shut as Setting·shut, with-shut, with-open, wrong-setting};
+
+// Is door i shut?
+pub fn is_shut(setting: u64, i: usize) -> bool
+    requires { ⌜ i < 64 ⌝ }
+    ensures { λ r. ⌜ r ≡ Setting·shut setting i ⌝ }
+{
+    (setting >> i) % 2 == 1
+}
+
+// The setting with door i shut.
+pub fn shut(setting: u64, i: usize) -> u64
+    requires { ⌜ i < 64 ⌝ }
+    ensures { λ r. ⌜ r ≡ with-shut setting i ⌝ }
+{
+    setting | (1 << i)
+}
+
+// The setting with door i open.
+pub fn open(setting: u64, i: usize) -> u64
+    requires { ⌜ i < 64 ⌝ }
+    ensures { λ r. ⌜ r ≡ with-open setting i ⌝ }
+{
+    let bit = 1 << i;
+    if !is_shut(setting, i) {
+        return setting;
+    }
+    setting ^ bit
+}
+
+// Is a bit at or above the door count one? For 64 doors there is no such bit, and a shift by the word's width is none.
+pub fn is_wrong(setting: u64, doors: usize) -> bool
+    requires { ⌜ doors ≤ 64 ⌝ }
+    ensures { λ r. ⌜ r ≡ wrong-setting setting doors ⌝ }
+{
+    if doors == 64 {
+        return false;
+    }
+    setting >> doors != 0
+}

@@ -1,0 +1,4 @@
+pub mod Whole
+pub mod Bits
+pub mod Spot
+pub mod Find
