@@ -264,3 +264,8 @@ a-seen-line-is-a-cone a b h₁ =
       left-from-a = h₁;
       left-to-b = prove (coordinates (a ∷ b ∷ [])) [] (𝟘ᵉ ≼ crossᵉ (pt 1) (pt 1)) (only (given 0)) tt;
     }
+
+-- no corner of a triangle around the stand lies between the other two
+pub corner-is-not-opposite : (a b c : Point) → 𝟘 <ℤ cross a b → Holds b c a → ⊥
+unfolding cross
+corner-is-not-opposite a b c h₁ h₂ = refute (coordinates (a ∷ b ∷ c ∷ [])) ((𝟘ᵉ ≺ crossᵉ (pt 0) (pt 1)) ∷ (𝟘ᵉ ≺ crossᵉ (pt 1) (pt 0)) ∷ []) (given 1 ⊞ given 2) tt h₁ (h₂ .right)

@@ -1,0 +1,17 @@
+pub mod Count
+pub mod Demand2
+pub mod Exit
+pub mod Expansion
+pub mod Fuel
+pub mod Geometry
+pub mod HandOn
+pub mod Listing
+pub mod Parts
+pub mod Places
+pub mod PlanFloor
+pub mod Rows
+pub mod Sightings
+pub mod Tree
+pub mod Trees
+pub mod Twice
+pub mod Views

@@ -1,0 +1,6 @@
+pub mod Sight
+pub mod Floor
+pub mod Walk
+pub mod Apex
+pub mod Once
+pub mod Listing

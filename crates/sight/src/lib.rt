@@ -1,0 +1,4 @@
+// Sight: the expansion and the listing (document 01, "Expansion").
+pub mod expand;
+pub mod list;
+pub mod view;

@@ -1,0 +1,7 @@
+// The listing.
+use plan::Refusal;
+
+pub enum Listed {
+    Rows(usize, usize),
+    Refused(Refusal),
+}
