@@ -7,3 +7,4 @@ pub mod Checks
 pub mod Accepted
 pub mod Plans
 pub mod Settings
+pub mod Unique

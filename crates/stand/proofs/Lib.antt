@@ -6,3 +6,4 @@ pub mod Examples
 pub mod Spots
 pub mod Finds
 pub mod Located
+pub mod Unique

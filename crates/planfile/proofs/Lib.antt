@@ -1,0 +1,14 @@
+pub mod Signs
+pub mod Spelled
+pub mod Stores
+pub mod Frames
+pub mod Accepts
+pub mod Writes
+pub mod Hands
+pub mod Decodes
+pub mod Widths
+pub mod There
+pub mod Back
+pub mod Records
+pub mod RoundTrip
+pub mod PlanQ

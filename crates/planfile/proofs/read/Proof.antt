@@ -1,0 +1,54 @@
+use lib.Dec.{lit≤}
+-- `planfile::read` meets its contract.
+use borrow.Author.Tests.{not-true, not-false}
+use denote.Ref.{now}
+use Rattle.planfile.proofs.Decodes.{not-framed}
+use mathlib.Core.Path.{sym, _∙_}
+use borrow.Author.Needs.{needs}
+use Rattle.planfile.proofs.read.Statement.{statement}
+use Rattle.planfile.proofs.read.Tie as tie
+
+is-framed-requires : tie.Need-is-framed-requires
+is-framed-requires c κs = search needs
+
+returns : tie.Need-returns
+returns c = not-framed (now (c .before .before .before .before .before .args .file)) (now (c .before .before .before .before .before .args .corners)) (now (c .before .before .before .before .before .args .cells)) (now (c .before .before .before .before .before .args .doors)) (sym (c .before .is-framed .ensures) ∙ not-true _ (c .if1 .taken))
+
+slice-aggregate-read-framed : tie.Need-slice-aggregate-read-framed
+slice-aggregate-read-framed c = search needs
+
+slice-aggregate-read-framed-2 : tie.Need-slice-aggregate-read-framed-2
+slice-aggregate-read-framed-2 c = search needs
+
+slice-aggregate-read-framed-3 : tie.Need-slice-aggregate-read-framed-3
+slice-aggregate-read-framed-3 c = search needs
+
+read-framed-requires : tie.Need-read-framed-requires
+read-framed-requires c κs = (sym (c .before .before .before .before .before .before .before .is-framed .ensures) ∙ not-false _ (c .before .before .before .before .before .before .if1 .left), (lit≤ tt, (lit≤ tt, lit≤ tt)))
+
+same-length : tie.Need-same-length
+same-length c = search needs
+
+same-length-2 : tie.Need-same-length-2
+same-length-2 c = search needs
+
+same-length-3 : tie.Need-same-length-3
+same-length-3 c = search needs
+
+returns-2 : tie.Need-returns-2
+returns-2 c = search needs
+
+pub read-spec : {M : Type 1} → statement M
+read-spec =
+    tie.close
+    (tie.spec
+    is-framed-requires
+    returns
+    slice-aggregate-read-framed
+    slice-aggregate-read-framed-2
+    slice-aggregate-read-framed-3
+    read-framed-requires
+    same-length
+    same-length-2
+    same-length-3
+    returns-2)

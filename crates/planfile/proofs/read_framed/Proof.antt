@@ -1,0 +1,159 @@
+-- `planfile::read_framed` meets its contract.
+use mathlib.Core.Path.{sym, _∙_}
+use native.Mathlib.Omega.{arith}
+use borrow.Author.Tests.{not-true, not-false}
+use denote.Ref.{now}
+use lib.ListN.{length}
+use Rattle.planfile.proofs.Decodes.{Places, Spaces, first-there, second-there, places, spaces, lent, back, shared, corners-fit, cells-fit, doors-fit, corners-decoded, cells-decoded, doors-decoded, wrong-size, lists-read}
+use borrow.Author.Needs.{needs}
+use Rattle.planfile.proofs.read_framed.Statement.{statement}
+use Rattle.planfile.proofs.read_framed.Tie as tie
+
+-- where the records lie
+places-at : (c : tie.After-end2) → Places (now (c .before .before .before .before .before .before .before .args .file)) (c .before .end .result) (c .end2 .result)
+places-at c = places (now (c .before .before .before .before .before .before .before .args .file)) (c .before .before .before .before .before .before .before .pre .0) (c .before .end .ensures .0) (c .end2 .ensures .0)
+
+-- the lists that are lent for decoding have room
+spaces-at : (c : tie.Else1) → Spaces (now (c .before .before .before .before .before .before .before .before .before .args .file)) (c .before .before .before .end .result) (c .before .before .end2 .result) (length (now (c .before .before .before .before .before .before .before .before .before .args .cs))) (length (now (c .before .before .before .before .before .before .before .before .before .args .ts))) (length (now (c .before .before .before .before .before .before .before .before .before .args .ds)))
+spaces-at c = spaces (places-at (c .before .before)) (sym (c .before .is-sized .ensures) ∙ not-false _ (c .if1 .left)) (c .before .before .before .before .before .before .before .before .before .pre .1 .0) (c .before .before .before .before .before .before .before .before .before .pre .1 .1 .0) (c .before .before .before .before .before .before .before .before .before .pre .1 .1 .1)
+
+end-requires : tie.Need-end-requires
+end-requires c κs = first-there (now (c .before .before .before .before .before .args .file)) (c .before .before .before .before .before .pre .0)
+
+end-requires-2 : tie.Need-end-requires-2
+end-requires-2 c κs = second-there (now (c .before .before .before .before .before .before .args .file)) (c .before .before .before .before .before .before .pre .0) (c .end .ensures .0)
+
+sub-n : tie.Need-sub-n
+sub-n c = places-at c .first
+
+sub-m : tie.Need-sub-m
+sub-m c = omega (arith, places-at c)
+
+sub-m-2 : tie.Need-sub-m-2
+sub-m-2 c = omega (arith, places-at c)
+
+sub-k : tie.Need-sub-k
+sub-k c = omega (arith, places-at c)
+
+sub-k-2 : tie.Need-sub-k-2
+sub-k-2 c = omega (arith, places-at c)
+
+is-sized-requires : tie.Need-is-sized-requires
+is-sized-requires c κs = search needs
+
+returns : tie.Need-returns
+returns c = wrong-size (now (c .before .before .before .before .before .before .before .before .before .args .file)) (now (c .before .before .before .before .before .before .before .before .before .args .corners)) (now (c .before .before .before .before .before .before .before .before .before .args .cells)) (now (c .before .before .before .before .before .before .before .before .before .args .doors)) (c .before .before .before .before .before .before .before .before .before .pre .0) (places-at (c .before .before)) (sym (c .before .is-sized .ensures) ∙ not-true _ (c .if1 .taken))
+
+slice-relend-prefix-get-corners : tie.Need-slice-relend-prefix-get-corners
+slice-relend-prefix-get-corners c = spaces-at c .corners
+
+slice-aggregate-get-corners : tie.Need-slice-aggregate-get-corners
+slice-aggregate-get-corners c = lent (now (c .before .before .before .before .before .before .before .before .before .before .args .cs)) _ (spaces-at (c .before) .corners)
+
+get-corners-requires : tie.Need-get-corners-requires
+get-corners-requires c κs = corners-fit (places-at (c .before .before .before)) (now (c .before .before .before .before .before .before .before .before .before .before .args .cs)) (spaces-at (c .before) .corners)
+
+add-get-numbers : tie.Need-add-get-numbers
+add-get-numbers c = search needs
+
+slice-relend-prefix-get-numbers : tie.Need-slice-relend-prefix-get-numbers
+slice-relend-prefix-get-numbers c = (spaces-at (c .before .before .before) .cells)
+
+slice-aggregate-get-numbers : tie.Need-slice-aggregate-get-numbers
+slice-aggregate-get-numbers c = lent (now (c .before .before .before .before .before .before .before .before .before .before .before .before .before .args .ts)) _ (spaces-at (c .before .before .before .before) .cells)
+
+get-numbers-requires : tie.Need-get-numbers-requires
+get-numbers-requires c κs = cells-fit (places-at (c .before .before .before .before .before .before)) (now (c .before .before .before .before .before .before .before .before .before .before .before .before .before .args .ts)) (spaces-at (c .before .before .before .before) .cells)
+
+add-get-numbers-2 : tie.Need-add-get-numbers-2
+add-get-numbers-2 c = search needs
+
+slice-relend-prefix-get-numbers-2 : tie.Need-slice-relend-prefix-get-numbers-2
+slice-relend-prefix-get-numbers-2 c = (spaces-at (c .before .before .before .before .before .before .before) .doors)
+
+slice-aggregate-get-numbers-2 : tie.Need-slice-aggregate-get-numbers-2
+slice-aggregate-get-numbers-2 c = lent (now (c .before .before .before .before .before .before .before .before .before .before .before .before .before .before .before .before .before .args .ds)) _ (spaces-at (c .before .before .before .before .before .before .before .before) .doors)
+
+get-numbers-requires-2 : tie.Need-get-numbers-requires-2
+get-numbers-requires-2 c κs = doors-fit (places-at (c .before .before .before .before .before .before .before .before .before .before)) (now (c .before .before .before .before .before .before .before .before .before .before .before .before .before .before .before .before .before .args .ds)) (spaces-at (c .before .before .before .before .before .before .before .before) .doors)
+
+slice-reshare-prefix-hand-over : tie.Need-slice-reshare-prefix-hand-over
+slice-reshare-prefix-hand-over c = back (now (c .before .before .before .before .before .before .before .before .before .before .before .before .before .before .before .before .before .before .before .before .args .cs)) _ (spaces-at (c .before .before .before .before .before .before .before .before .before .before .before) .corners) (c .before .before .before .before .before .before .before .before .before .get-corners .last .1 .1 .0) (c .before .before .before .before .before .before .before .before .before .get-corners .kept .1 .1 .0)
+
+slice-aggregate-hand-over : tie.Need-slice-aggregate-hand-over
+slice-aggregate-hand-over c = shared (now (c .before .before .before .before .before .before .before .before .before .before .before .before .before .before .before .before .before .before .before .before .before .args .cs)) _ (spaces-at (c .before .before .before .before .before .before .before .before .before .before .before .before) .corners) (c .before .before .before .before .before .before .before .before .before .before .get-corners .last .1 .1 .0) (c .before .before .before .before .before .before .before .before .before .before .get-corners .kept .1 .1 .0)
+
+slice-reshare-prefix-hand-over-2 : tie.Need-slice-reshare-prefix-hand-over-2
+slice-reshare-prefix-hand-over-2 c = back (now (c .before .before .before .before .before .before .before .before .before .before .before .before .before .before .before .before .before .before .before .before .before .args .ts)) _ (spaces-at (c .before .before .before .before .before .before .before .before .before .before .before .before) .cells) (c .before .before .before .before .before .before .before .get-numbers .last .1 .1 .0) (c .before .before .before .before .before .before .before .get-numbers .kept .1 .1 .0)
+
+slice-aggregate-hand-over-2 : tie.Need-slice-aggregate-hand-over-2
+slice-aggregate-hand-over-2 c = shared (now (c .before .before .before .before .before .before .before .before .before .before .before .before .before .before .before .before .before .before .before .before .before .before .args .ts)) _ (spaces-at (c .before .before .before .before .before .before .before .before .before .before .before .before .before) .cells) (c .before .before .before .before .before .before .before .before .get-numbers .last .1 .1 .0) (c .before .before .before .before .before .before .before .before .get-numbers .kept .1 .1 .0)
+
+slice-reshare-prefix-hand-over-3 : tie.Need-slice-reshare-prefix-hand-over-3
+slice-reshare-prefix-hand-over-3 c = back (now (c .before .before .before .before .before .before .before .before .before .before .before .before .before .before .before .before .before .before .before .before .before .before .args .ds)) _ (spaces-at (c .before .before .before .before .before .before .before .before .before .before .before .before .before) .doors) (c .before .before .before .before .get-numbers2 .last .1 .1 .0) (c .before .before .before .before .get-numbers2 .kept .1 .1 .0)
+
+slice-aggregate-hand-over-3 : tie.Need-slice-aggregate-hand-over-3
+slice-aggregate-hand-over-3 c = shared (now (c .before .before .before .before .before .before .before .before .before .before .before .before .before .before .before .before .before .before .before .before .before .before .before .args .ds)) _ (spaces-at (c .before .before .before .before .before .before .before .before .before .before .before .before .before .before) .doors) (c .before .before .before .before .before .get-numbers2 .last .1 .1 .0) (c .before .before .before .before .before .get-numbers2 .kept .1 .1 .0)
+
+hand-over-requires : tie.Need-hand-over-requires
+hand-over-requires c κs = search needs
+
+same-length : tie.Need-same-length
+same-length c = search needs
+
+same-length-2 : tie.Need-same-length-2
+same-length-2 c = search needs
+
+same-length-3 : tie.Need-same-length-3
+same-length-3 c = search needs
+
+same-length-4 : tie.Need-same-length-4
+same-length-4 c = search needs
+
+same-length-5 : tie.Need-same-length-5
+same-length-5 c = search needs
+
+same-length-6 : tie.Need-same-length-6
+same-length-6 c = search needs
+
+returns-2 : tie.Need-returns-2
+returns-2 c = lists-read (now (c .before .before .before .before .before .before .before .before .before .before .before .before .before .before .before .before .before .before .before .before .before .before .before .before .before .before .before .before .before .before .before .before .args .file)) (now (c .before .before .before .before .before .before .before .before .before .before .before .before .before .before .before .before .before .before .before .before .before .before .before .before .before .before .before .before .before .before .before .before .args .corners)) (now (c .before .before .before .before .before .before .before .before .before .before .before .before .before .before .before .before .before .before .before .before .before .before .before .before .before .before .before .before .before .before .before .before .args .cells)) (now (c .before .before .before .before .before .before .before .before .before .before .before .before .before .before .before .before .before .before .before .before .before .before .before .before .before .before .before .before .before .before .before .before .args .doors)) (c .before .before .before .before .before .before .before .before .before .before .before .before .before .before .before .before .before .before .before .before .before .before .before .before .before .before .before .before .before .before .before .before .pre .0) (corners-decoded (places-at (c .before .before .before .before .before .before .before .before .before .before .before .before .before .before .before .before .before .before .before .before .before .before .before .before .before)) (now (c .before .before .before .before .before .before .before .before .before .before .before .before .before .before .before .before .before .before .before .before .before .before .before .before .before .before .before .before .before .before .before .before .args .cs)) (spaces-at (c .before .before .before .before .before .before .before .before .before .before .before .before .before .before .before .before .before .before .before .before .before .before .before) .corners) (c .before .before .before .before .before .before .before .before .before .before .before .before .before .before .before .before .before .before .before .before .before .get-corners .last .1 .1 .0) (c .before .before .before .before .before .before .before .before .before .before .before .before .before .before .before .before .before .before .before .before .before .get-corners .kept .1 .1 .0) (c .before .before .before .before .before .before .before .before .before .before .before .before .before .before .before .before .before .before .before .before .before .get-corners .ensures)) (cells-decoded (places-at (c .before .before .before .before .before .before .before .before .before .before .before .before .before .before .before .before .before .before .before .before .before .before .before .before .before)) (now (c .before .before .before .before .before .before .before .before .before .before .before .before .before .before .before .before .before .before .before .before .before .before .before .before .before .before .before .before .before .before .before .before .args .ts)) (spaces-at (c .before .before .before .before .before .before .before .before .before .before .before .before .before .before .before .before .before .before .before .before .before .before .before) .cells) (c .before .before .before .before .before .before .before .before .before .before .before .before .before .before .before .before .before .before .get-numbers .last .1 .1 .0) (c .before .before .before .before .before .before .before .before .before .before .before .before .before .before .before .before .before .before .get-numbers .kept .1 .1 .0) (c .before .before .before .before .before .before .before .before .before .before .before .before .before .before .before .before .before .before .get-numbers .ensures)) (doors-decoded (places-at (c .before .before .before .before .before .before .before .before .before .before .before .before .before .before .before .before .before .before .before .before .before .before .before .before .before)) (now (c .before .before .before .before .before .before .before .before .before .before .before .before .before .before .before .before .before .before .before .before .before .before .before .before .before .before .before .before .before .before .before .before .args .ds)) (spaces-at (c .before .before .before .before .before .before .before .before .before .before .before .before .before .before .before .before .before .before .before .before .before .before .before) .doors) (c .before .before .before .before .before .before .before .before .before .before .before .before .before .before .get-numbers2 .last .1 .1 .0) (c .before .before .before .before .before .before .before .before .before .before .before .before .before .before .get-numbers2 .kept .1 .1 .0) (c .before .before .before .before .before .before .before .before .before .before .before .before .before .before .get-numbers2 .ensures)) (c .before .before .before .before .before .hand-over .ensures)
+
+pub read-framed-spec : {M : Type 1} → statement M
+read-framed-spec =
+    tie.close
+    (tie.spec
+    end-requires
+    end-requires-2
+    sub-n
+    sub-m
+    sub-m-2
+    sub-k
+    sub-k-2
+    is-sized-requires
+    returns
+    slice-relend-prefix-get-corners
+    slice-aggregate-get-corners
+    get-corners-requires
+    add-get-numbers
+    slice-relend-prefix-get-numbers
+    slice-aggregate-get-numbers
+    get-numbers-requires
+    add-get-numbers-2
+    slice-relend-prefix-get-numbers-2
+    slice-aggregate-get-numbers-2
+    get-numbers-requires-2
+    slice-reshare-prefix-hand-over
+    slice-aggregate-hand-over
+    slice-reshare-prefix-hand-over-2
+    slice-aggregate-hand-over-2
+    slice-reshare-prefix-hand-over-3
+    slice-aggregate-hand-over-3
+    hand-over-requires
+    same-length
+    same-length-2
+    same-length-3
+    same-length-4
+    same-length-5
+    same-length-6
+    returns-2)

@@ -1,0 +1,11 @@
+-- The promise of finding leaves one reply.
+use mathlib.Core.List.{List}
+use mathlib.Core.Path.{_≡_, sym, _∙_}
+use Prim.Native.Nat.{ℕ}
+use lib.IntN.{ℤ}
+use Rattle.stand.specs.Find.{found}
+use Rattle.stand.specs.declared.spot.Stand.{Stand}
+use Rattle.stand.specs.declared.find.Found.{Found}
+
+pub find-has-one-reply : (cs : List ℤ) (ts ds : List ℕ) (stand : Stand) {r s : Found} → r ≡ found cs ts ds stand → s ≡ found cs ts ds stand → r ≡ s
+find-has-one-reply cs ts ds stand h k = h ∙ sym k
