@@ -1,11 +1,9 @@
--- The reader, way out by way out: where the records lie, the lists that are decoded, and the reply.
-use mathlib.Core.Bool.{Bool, true, false, _&&_}
+-- The reader, way out by way out: the lists that are decoded, and the reply with the lists that are left.
+use mathlib.Core.Bool.{Bool, true, false}
 use mathlib.Core.List.{List, _++_, map}
-use mathlib.Core.Path.{_≡_, refl, sym, ap, ap₂, _∙_}
+use mathlib.Core.Path.{_≡_, sym, ap, ap₂, _∙_}
 use Prim.Native.Nat.{ℕ, _+_, _-_, _*_, _/_, _%_, _≤_}
 use native.Mathlib.Omega.{arith}
-use borrow.Author.Tests.{eqb-true}
-use lib.Dec.{eqb}
 use lib.ListN.{length, take, drop, length-map}
 use lib.Seq.{length-take-le, length-front, take-at}
 use lib.IntN.{ℤ}
@@ -16,104 +14,12 @@ use Rattle.plan.specs.declared.Refusal.the-variants.{Frame, Size}
 use Rattle.plan.specs.declared.Checked.{Checked}
 use Rattle.plan.specs.declared.Checked.the-variants.{Refused}
 use Rattle.plan.proofs.Checks.{out-of-size}
-use Rattle.planfile.specs.Bytes.{number-at, numbers-at, signed}
-use Rattle.planfile.specs.File.{body-length, end-of, second, third, is-record, framed, corners-in, cells-in, doors-in}
+use Rattle.planfile.specs.Bytes.{numbers-at, signed}
+use Rattle.planfile.specs.File.{framed, corners-in, cells-in, doors-in}
 use Rattle.planfile.specs.Calls.{given-room, has-room, lists-reply, read-reply, handed-over, read}
 use Rattle.planfile.proofs.Spelled.{length-numbers-at}
-use Rattle.planfile.proofs.Accepts.{both, sized-bounds, refused-stays}
-
--- ---- a framed file
-
--- a record's body, of what its head says
-pub record Body (s : List ℕ) (at end kind size : ℕ) : Type 0 where
-  pub ends : end ≡ at + 6 + body-length s at
-  pub of-kind : number-at 2 s (at + 4) ≡ kind
-  pub multiple : body-length s at % size ≡ 0
-
-pub record Framed (s : List ℕ) : Type 0 where
-  pub corners : Body s 0 (second s) 1 8
-  pub cells : Body s (second s) (third s) 2 12
-  pub doors : Body s (third s) (length s) 3 2
-
-body : (s : List ℕ) (at end kind size : ℕ) → end ≡ end-of s at → is-record s at kind size ≡ true → Body s at end kind size
-unfolding end-of is-record
-body s at end kind size e h =
-    let two = both (eqb (number-at 2 s (at + 4)) kind) (eqb (body-length s at % size) 0) h in
-    record { ends = e; of-kind = eqb-true _ _ (two .0); multiple = eqb-true _ _ (two .1) }
-
-pub is-framed : (s : List ℕ) → framed s ≡ true → Framed s
-unfolding framed
-is-framed s h =
-    let c = both (eqb (end-of s (third s)) (length s) && is-record s 0 1 8 && is-record s (second s) 2 12) (is-record s (third s) 3 2) h in
-    let b = both (eqb (end-of s (third s)) (length s) && is-record s 0 1 8) (is-record s (second s) 2 12) (c .0) in
-    let a = both (eqb (end-of s (third s)) (length s)) (is-record s 0 1 8) (b .0) in
-    record {
-      corners = body s 0 (second s) 1 8 refl (a .1);
-      cells = body s (second s) (third s) 2 12 refl (b .1);
-      doors = body s (third s) (length s) 3 2 (sym (eqb-true _ _ (a .0))) (c .1);
-    }
-
--- where the second record begins, and the third, as the code has them
-pub record Places (s : List ℕ) (b c : ℕ) : Type 0 where
-  pub first : 6 ≤ b
-  pub next : b + 6 ≤ c
-  pub last : c + 6 ≤ length s
-  pub eight : (b - 6) % 8 ≡ 0
-  pub twelve : (c - b - 6) % 12 ≡ 0
-  pub corners : corners-in s ≡ map signed (numbers-at 4 s 6 ((b - 6) / 4))
-  pub cells : cells-in s ≡ numbers-at 2 s (b + 6) ((c - b - 6) / 2)
-  pub doors : doors-in s ≡ numbers-at 2 s (c + 6) ((length s - c - 6) / 2)
-
-module _ (s : List ℕ) (fr : framed s ≡ true) where
-  pub first-there : 0 + 6 ≤ length s
-  first-there =
-      let f = is-framed s fr in
-      let x = f .corners .ends in
-      let y = f .cells .ends in
-      let z = f .doors .ends in
-      omega arith
-
-  module _ {b : ℕ} (is-b : b ≡ end-of s 0) where
-    pub second-there : b + 6 ≤ length s
-    second-there =
-        let f = is-framed s fr in
-        let y = f .cells .ends in
-        let z = f .doors .ends in
-        omega arith
-
-    module _ {c : ℕ} (is-c : c ≡ end-of s b) where
-      pub places : Places s b c
-      unfolding corners-in cells-in doors-in
-      places =
-          let f = is-framed s fr in
-          let at-third : c ≡ third s = is-c ∙ ap (end-of s) is-b in
-          let x : b ≡ 6 + body-length s 0 = is-b ∙ f .corners .ends ∙ omega arith in
-          let y : c ≡ b + 6 + body-length s (second s) = let e = f .cells .ends in omega arith in
-          let z : length s ≡ c + 6 + body-length s (third s) = let e = f .doors .ends in omega arith in
-          let n : body-length s 0 ≡ b - 6 = omega arith in
-          let m : body-length s (second s) ≡ c - b - 6 = omega arith in
-          let k : body-length s (third s) ≡ length s - c - 6 = omega arith in
-          record {
-            first = omega arith;
-            next = omega arith;
-            last = omega arith;
-            eight = ap (λ (j : ℕ). j % 8) (sym n) ∙ f .corners .multiple;
-            twelve = ap (λ (j : ℕ). j % 12) (sym m) ∙ f .cells .multiple;
-            corners = ap (λ (j : ℕ). map signed (numbers-at 4 s 6 (j / 4))) n;
-            cells = ap (λ (j : ℕ). numbers-at 2 s (second s + 6) (j / 2)) m ∙ ap (λ (j : ℕ). numbers-at 2 s (j + 6) ((c - b - 6) / 2)) (sym is-b);
-            doors = ap (λ (j : ℕ). numbers-at 2 s (third s + 6) (j / 2)) k ∙ ap (λ (j : ℕ). numbers-at 2 s (j + 6) ((length s - c - 6) / 2)) (sym at-third);
-          }
-
--- the lists that are lent for decoding have room
-pub record Spaces (s : List ℕ) (b c x y z : ℕ) : Type 0 where
-  pub corners : (b - 6) / 4 ≤ x
-  pub cells : (c - b - 6) / 2 ≤ y
-  pub doors : (length s - c - 6) / 2 ≤ z
-
-pub spaces : {s : List ℕ} {b c x y z : ℕ} → Places s b c → sized ((b - 6) / 4 / 2) ((c - b - 6) / 2 / 6) ((length s - c - 6) / 2) ≡ true → 4096 ≤ x → 18000 ≤ y → 64 ≤ z → Spaces s b c x y z
-spaces p h i j k =
-    let limits = sized-bounds _ _ _ h in
-    record { corners = omega arith; cells = omega arith; doors = omega arith }
+use Rattle.planfile.proofs.Accepts.{refused-stays}
+use Rattle.planfile.proofs.Places.{Places}
 
 -- ---- a list decoded into the beginning of another
 

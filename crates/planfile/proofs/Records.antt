@@ -11,7 +11,7 @@ use Rattle.planfile.specs.Bytes.{bytes, number-at, all-bytes, numbers-at
 use Rattle.planfile.specs.File.{record-of, body-length, end-of, second, third, is-record, framed, AllBytes}
 use Rattle.planfile.proofs.Spelled.{length-bytes}
 use Rattle.planfile.proofs.Writes.{length-record}
-use Rattle.planfile.proofs.Decodes.{Body, is-framed}
+use Rattle.planfile.proofs.Places.{Body, is-framed}
 use Rattle.planfile.proofs.There.{above, above-two, above-four, number-there, numbers-there}
 use Rattle.planfile.proofs.Back.{bytes-back}
 

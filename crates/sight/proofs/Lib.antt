@@ -15,3 +15,7 @@ pub mod Tree
 pub mod Trees
 pub mod Twice
 pub mod Views
+pub mod CellTree
+pub mod Marks
+pub mod Lined
+pub mod Lister

@@ -1,36 +1,43 @@
 -- Replies 1 to 11 or the stand and its cell, by what was found.
 use mathlib.Core.Bool.{Bool, true, false}
 use mathlib.Core.List.{List, [], _∷_}
-use mathlib.Core.Path.{_≡_, ap, ap₂, sym, _∙_, subst}
+use mathlib.Core.Path.{_≡_, refl, ap, ap₂, sym, _∙_, subst, subst₂}
+use native.Mathlib.Omega.{arith}
 use Prim.Native.Nat.{ℕ, _*_, _<_, _≤_}
-use borrow.Author.Tests.{lt-ltb, le-ltb}
+use borrow.Author.Tests.{lt-ltb, le-ltb, ltb-false}
+use lib.Dec.{ltb}
+use lib.Seq.{sets}
 use lib.ListN.{length}
 use lib.IntN.{ℤ}
 use mir.Syntax.{w64}
 use mir.Val.{toZ, ofZ}
 use Rattle.exact.proofs.Bounds.{coordinate}
-use Rattle.plane.specs.Side.{point, Near}
+use Rattle.plane.specs.Side.{Point, point, Near}
 use Rattle.plan.specs.Lists.{corner-count}
 use Rattle.plan.specs.Setting.{wrong-setting}
 use Rattle.plan.specs.Check.{checked}
-use Rattle.plan.specs.Sound.{CornersNear, CornersExist}
+use Rattle.plan.specs.Sound.{CornersNear, CornersExist, Sound}
 use Rattle.plan.specs.declared.Plan.{Plan}
 use Rattle.plan.specs.declared.Refusal.{Refusal}
 use Rattle.plan.specs.declared.Refusal.the-variants as R
+use Rattle.plan.specs.declared.Checked.{Checked}
 use Rattle.plan.specs.declared.Checked.the-variants as C
 use Rattle.plan.proofs.Accepted.{accepted-is-sound}
 use Rattle.plan.proofs.Plans.{corners-exist, counts}
 use Rattle.stand.specs.Spot.{stood}
 use Rattle.stand.specs.Find.{located}
 use Rattle.stand.specs.declared.spot.Stand.{Stand}
+use Rattle.stand.specs.declared.spot.Spot.{Spot}
 use Rattle.stand.specs.declared.spot.Spot.the-variants as S
 use Rattle.stand.specs.declared.find.Found.{Found}
 use Rattle.stand.specs.declared.find.Found.the-variants as F
 use Rattle.stand.proofs.Spots.{stand-is-near}
 use Rattle.stand.proofs.Finds.{as-read, near-as-read}
-use Rattle.sight.specs.Listing.{view-of-cell, view-of-spot, view-of-plan, unless, viewed}
+use Rattle.sight.specs.Listing.{view-of-cell, view-of-spot, view-of-plan, unless, viewed, listing-row-count, listing-crossings, listing-numbers, listed-from, listed}
 use Rattle.sight.specs.declared.view.View.{View}
 use Rattle.sight.specs.declared.view.View.the-variants as O
+use Rattle.sight.specs.declared.list.Listed.{Listed}
+use Rattle.sight.specs.declared.list.Listed.the-variants as L
 
 module _ (cs : List ℤ) (ts : List ℕ) (room : ℕ) (s : Stand) where
   pub stand-refused : stood cs s ≡ S.Refused → O.Refused R.Stand ≡ view-of-spot cs ts room (stood cs s)
@@ -86,3 +93,80 @@ module _ (cs : List ℤ) (ts ds : List ℕ) (w : ℕ) (s : Stand) (room : ℕ) w
     unfolding viewed
     setting-accepted e h k =
         k ∙ ap (λ b. unless b R.Setting (view-of-spot cs ts room (stood cs s))) (sym (doors-are e ∙ h)) ∙ ap (view-of-plan cs ts ds w s room) (sym accepted)
+
+-- what a view says: the plan is accepted, the stand is within the limits and strictly inside its cell, and the table has room
+pub record Viewed (cs : List ℤ) (ts ds : List ℕ) (room : ℕ) (x y : ℤ) (c : ℕ) : Type 0 where
+  pub sound : Sound cs ts ds
+  pub stand-near : Near (record { x = x; y = y })
+  pub stand-cell : located cs ts (record { x = x; y = y }) ≡ F.Cell c
+  pub has-room : 3 * corner-count cs ≤ room
+
+module _ (cs : List ℤ) (ts ds : List ℕ) (w : ℕ) (s : Stand) (room : ℕ) where
+  pub view-says : {x y : ℤ} {c : ℕ} → viewed cs ts ds w s room ≡ O.From x y c → Viewed cs ts ds room x y c
+  unfolding viewed
+  view-says {x} {y} {c} e = by-plan (checked cs ts ds) refl e
+    where
+      never : {r : Refusal} → O.Refused r ≡ O.From x y c → ⊥
+      never p = let z : _≡_ {A = ℕ} 0 1 = cc in omega arith
+
+      by-room : Sound cs ts ds → (u v : ℤ) (k : ℕ) → stood cs s ≡ S.At u v → located cs ts (record { x = u; y = v }) ≡ F.Cell k → (b : Bool) → ltb room (3 * corner-count cs) ≡ b → unless b R.Room (O.From u v k) ≡ O.From x y c → Viewed cs ts ds room x y c
+      by-room sound u v k st lo true h p = absurd (never p)
+      by-room sound u v k st lo false h p =
+          let same-x : u ≡ x = cc in
+          let same-y : v ≡ y = cc in
+          let same-c : k ≡ c = cc in
+          record {
+            sound = sound;
+            stand-near = subst₂ (λ (u v : ℤ). Near (record { x = u; y = v })) same-x same-y (stand-is-near cs s st);
+            stand-cell = subst₂ (λ (u v : ℤ). located cs ts (record { x = u; y = v }) ≡ F.Cell c) same-x same-y (lo ∙ ap F.Cell same-c);
+            has-room = ltb-false _ _ h;
+          }
+
+      by-cell : Sound cs ts ds → (u v : ℤ) → stood cs s ≡ S.At u v → (f : Found) → located cs ts (record { x = u; y = v }) ≡ f → view-of-cell cs room u v f ≡ O.From x y c → Viewed cs ts ds room x y c
+      by-cell sound u v st (F.Cell k) lo p = by-room sound u v k st lo (ltb room (3 * corner-count cs)) refl p
+      by-cell sound u v st (F.Refused r) lo p = absurd (never p)
+
+      by-spot : Sound cs ts ds → (t : Spot) → stood cs s ≡ t → view-of-spot cs ts room t ≡ O.From x y c → Viewed cs ts ds room x y c
+      by-spot sound (S.At u v) st p = by-cell sound u v st (located cs ts (record { x = u; y = v })) refl p
+      by-spot sound S.Refused st p = absurd (never p)
+
+      by-setting : Sound cs ts ds → (b : Bool) → unless b R.Setting (view-of-spot cs ts room (stood cs s)) ≡ O.From x y c → Viewed cs ts ds room x y c
+      by-setting sound true p = absurd (never p)
+      by-setting sound false p = by-spot sound (stood cs s) refl p
+
+      by-plan : (k : Checked) → checked cs ts ds ≡ k → view-of-plan cs ts ds w s room k ≡ O.From x y c → Viewed cs ts ds room x y c
+      by-plan (C.Accepted p) h q = by-setting (accepted-is-sound cs ts ds p h .0) (wrong-setting w (length ds)) q
+      by-plan (C.Refused r) h q = absurd (never q)
+
+-- ---- the whole listing
+
+module _ (cs : List ℤ) (ts ds : List ℕ) (w : ℕ) (s : Stand) (table : List ℕ) where
+  pub listing-refused : {r : Refusal} → viewed cs ts ds w s (length table) ≡ O.Refused r → (L.Refused r, table) ≡ listed cs ts ds w s table
+  unfolding listed
+  listing-refused e = ap (listed-from cs ts ds w table) (sym e)
+
+  module _ {x y : ℤ} {c : ℕ} (view : viewed cs ts ds w s (length table) ≡ O.From x y c) where
+    read : point (toZ w64 (ofZ w64 x) ∷ toZ w64 (ofZ w64 y) ∷ []) ≡ record { x = x; y = y }
+    read = as-read (view-says cs ts ds w s (length table) view .stand-near)
+
+    pub listing-sound : Sound cs ts ds
+    listing-sound = view-says cs ts ds w s (length table) view .sound
+
+    pub listing-stands : Near (point (toZ w64 (ofZ w64 x) ∷ toZ w64 (ofZ w64 y) ∷ [])) × (located cs ts (point (toZ w64 (ofZ w64 x) ∷ toZ w64 (ofZ w64 y) ∷ [])) ≡ F.Cell c)
+    listing-stands =
+        let says = view-says cs ts ds w s (length table) view in
+        (near-as-read (says .stand-near), ap (located cs ts) read ∙ says .stand-cell)
+
+    pub listing-room : 3 * corner-count cs ≤ length table
+    listing-room = view-says cs ts ds w s (length table) view .has-room
+
+    pub listing-done : {i j : ℕ} {new : List ℕ} → (i ≡ listing-row-count cs ts ds w (point (toZ w64 (ofZ w64 x) ∷ toZ w64 (ofZ w64 y) ∷ [])) c) × ((j ≡ listing-crossings cs ts ds w (point (toZ w64 (ofZ w64 x) ∷ toZ w64 (ofZ w64 y) ∷ [])) c) × (new ≡ sets table 0 (listing-numbers cs ts ds w (point (toZ w64 (ofZ w64 x) ∷ toZ w64 (ofZ w64 y) ∷ [])) c))) → (L.Rows i j, new) ≡ listed cs ts ds w s table
+    unfolding listed
+    listing-done {i} {j} {new} h =
+        let rows = h .0 ∙ ap (λ (q : Point). listing-row-count cs ts ds w q c) read in
+        let passed = h .1 .0 ∙ ap (λ (q : Point). listing-crossings cs ts ds w q c) read in
+        let numbers = h .1 .1 ∙ ap (λ (q : Point). sets table 0 (listing-numbers cs ts ds w q c)) read in
+        pairs rows passed numbers ∙ ap (listed-from cs ts ds w table) (sym view)
+      where
+        pairs : {i i′ j j′ : ℕ} {a b : List ℕ} → i ≡ i′ → j ≡ j′ → a ≡ b → _≡_ {A = Listed × List ℕ} (L.Rows i j, a) (L.Rows i′ j′, b)
+        pairs e f g = λ k. (L.Rows (e k) (f k), g k)

@@ -12,7 +12,8 @@ use Rattle.plane.specs.Side.{Point, side}
 use Rattle.plan.specs.Limits.{wall}
 use Rattle.plan.specs.Lists.{corner-count, corner-at, next}
 use Rattle.plan.specs.Sound.{CornersNear}
-use Rattle.sight.specs.Sight.{Floor, Place}
+use Rattle.sight.specs.Sight.{Floor, Place, Sight, follow}
+use Rattle.sight.specs.Sight.Sight.{both}
 use Rattle.sight.specs.Sight.Place.{between, right-of-r, left-of-l}
 
 -- v on or right of the ray to r, on or left of the ray to l, or strictly between; on a checked plan exactly one applies
@@ -43,3 +44,16 @@ pub record Lines (cs : List ℤ) (ls : List ℕ) : Type 0 where
   pub corners-near : CornersNear cs
   pub start-exists : (f : ℕ) → 2 * f + 1 < length ls → getD ls (2 * f) 0 < corner-count cs
   pub across-exists : (f : ℕ) → 2 * f + 1 < length ls → (getD ls (2 * f + 1) 0 ≡ wall → ⊥) → 2 * getD ls (2 * f + 1) 0 + 1 < length ls
+
+-- what is seen through side f of a cell whose sides are two numbers a face each, from corner a to corner b
+abbrev pub side-tree : List ℤ → List ℕ → Point → ℕ → ℕ → ℕ → ℕ → Sight
+side-tree cs ls q n f a b = follow (floor-of cs ls q) n f a b
+
+-- the sides 0, 1, 2 of cell c, one after the other
+abbrev pub cell-tree : List ℤ → List ℕ → Point → ℕ → ℕ → Sight
+cell-tree cs ls q n c =
+    both
+    (both
+    (side-tree cs ls q n (3 * c) (getD ls (2 * (3 * c)) 0) (getD ls (2 * (3 * c) + 2) 0))
+    (side-tree cs ls q n (3 * c + 1) (getD ls (2 * (3 * c) + 2) 0) (getD ls (2 * (3 * c) + 4) 0)))
+    (side-tree cs ls q n (3 * c + 2) (getD ls (2 * (3 * c) + 4) 0) (getD ls (2 * (3 * c)) 0))

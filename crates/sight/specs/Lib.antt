@@ -4,3 +4,4 @@ pub mod Walk
 pub mod Apex
 pub mod Once
 pub mod Listing
+pub mod Lined

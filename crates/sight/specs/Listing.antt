@@ -91,18 +91,14 @@ view-of-plan cs ts ds w s room (C.Refused r) = O.Refused r
 unfoldable pub viewed : List ℤ → List ℕ → List ℕ → ℕ → Stand → ℕ → View
 viewed cs ts ds w s room = view-of-plan cs ts ds w s room (checked cs ts ds)
 
--- the reply, and the table at exit: on a refusal it keeps its contents, and beyond the numbers written it keeps its values
-abbrev pub reply-of : List ℤ → List ℕ → List ℕ → ℕ → View → Listed
-reply-of cs ts ds w (O.From x y c) =
-    L.Rows (listing-row-count cs ts ds w (record { x = x; y = y }) c) (listing-crossings cs ts ds w (record { x = x; y = y }) c)
-reply-of cs ts ds w (O.Refused r) = L.Refused r
+-- the reply and the table at exit: on a refusal it keeps its contents, and beyond the numbers written it keeps its values
+abbrev pub listed-from : List ℤ → List ℕ → List ℕ → ℕ → List ℕ → View → Listed × List ℕ
+listed-from cs ts ds w table (O.From x y c) = (
+  L.Rows (listing-row-count cs ts ds w (record { x = x; y = y }) c) (listing-crossings cs ts ds w (record { x = x; y = y }) c),
+  sets table 0 (listing-numbers cs ts ds w (record { x = x; y = y }) c),
+)
+listed-from cs ts ds w table (O.Refused r) = (L.Refused r, table)
 
-abbrev pub table-of : List ℤ → List ℕ → List ℕ → ℕ → List ℕ → View → List ℕ
-table-of cs ts ds w table (O.From x y c) = sets table 0 (listing-numbers cs ts ds w (record { x = x; y = y }) c)
-table-of cs ts ds w table (O.Refused r) = table
-
-unfoldable pub listed-reply : List ℤ → List ℕ → List ℕ → ℕ → Stand → List ℕ → Listed
-listed-reply cs ts ds w s table = reply-of cs ts ds w (viewed cs ts ds w s (length table))
-
-unfoldable pub listed-table : List ℤ → List ℕ → List ℕ → ℕ → Stand → List ℕ → List ℕ
-listed-table cs ts ds w s table = table-of cs ts ds w table (viewed cs ts ds w s (length table))
+-- the listing: plan, setting, stand and table
+unfoldable pub listed : List ℤ → List ℕ → List ℕ → ℕ → Stand → List ℕ → Listed × List ℕ
+listed cs ts ds w s table = listed-from cs ts ds w table (viewed cs ts ds w s (length table))

@@ -1,7 +1,7 @@
 -- `planfile::hand_over` meets its contract.
+use borrow.Author.Needs.{needs}
 use denote.Ref.{now}
 use Rattle.planfile.proofs.Hands.{not-accepted, no-room-for-corners, no-room-for-cells, no-room-for-doors, all-handed}
-use borrow.Author.Needs.{needs}
 use Rattle.planfile.proofs.hand_over.Statement.{statement}
 use Rattle.planfile.proofs.hand_over.Tie as tie
 

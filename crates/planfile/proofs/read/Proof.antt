@@ -1,10 +1,10 @@
-use lib.Dec.{lit≤}
 -- `planfile::read` meets its contract.
-use borrow.Author.Tests.{not-true, not-false}
-use denote.Ref.{now}
-use Rattle.planfile.proofs.Decodes.{not-framed}
 use mathlib.Core.Path.{sym, _∙_}
+use borrow.Author.Tests.{not-true, not-false}
 use borrow.Author.Needs.{needs}
+use denote.Ref.{now}
+use lib.Dec.{lit≤}
+use Rattle.planfile.proofs.Decodes.{not-framed}
 use Rattle.planfile.proofs.read.Statement.{statement}
 use Rattle.planfile.proofs.read.Tie as tie
 

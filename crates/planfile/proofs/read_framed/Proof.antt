@@ -2,10 +2,11 @@
 use mathlib.Core.Path.{sym, _∙_}
 use native.Mathlib.Omega.{arith}
 use borrow.Author.Tests.{not-true, not-false}
+use borrow.Author.Needs.{needs}
 use denote.Ref.{now}
 use lib.ListN.{length}
-use Rattle.planfile.proofs.Decodes.{Places, Spaces, first-there, second-there, places, spaces, lent, back, shared, corners-fit, cells-fit, doors-fit, corners-decoded, cells-decoded, doors-decoded, wrong-size, lists-read}
-use borrow.Author.Needs.{needs}
+use Rattle.planfile.proofs.Places.{Places, Spaces, first-there, second-there, places, spaces}
+use Rattle.planfile.proofs.Decodes.{lent, back, shared, corners-fit, cells-fit, doors-fit, corners-decoded, cells-decoded, doors-decoded, wrong-size, lists-read}
 use Rattle.planfile.proofs.read_framed.Statement.{statement}
 use Rattle.planfile.proofs.read_framed.Tie as tie
 

@@ -1,10 +1,10 @@
 -- `planfile::write` meets its contract.
-use native.Mathlib.Omega.{arith}
 use mathlib.Core.Path.{refl}
+use native.Mathlib.Omega.{arith}
+use borrow.Author.Needs.{needs}
 use denote.Ref.{now}
 use Rattle.planfile.proofs.Accepts.{small}
 use Rattle.planfile.proofs.Writes.{length-file, not-accepted, no-room, all-written, records-put}
-use borrow.Author.Needs.{needs}
 use Rattle.planfile.proofs.write.Statement.{statement}
 use Rattle.planfile.proofs.write.Tie as tie
 

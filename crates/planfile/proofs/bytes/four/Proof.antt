@@ -1,6 +1,6 @@
 -- `planfile::bytes::four` meets its contract.
-use Rattle.planfile.proofs.Spelled.{four-at}
 use borrow.Author.Needs.{needs}
+use Rattle.planfile.proofs.Spelled.{four-at}
 use Rattle.planfile.proofs.bytes.four.Statement.{statement}
 use Rattle.planfile.proofs.bytes.four.Tie as tie
 

@@ -1,7 +1,7 @@
 -- `planfile::bytes::put_four` meets its contract.
+use borrow.Author.Needs.{needs}
 use denote.Ref.{now}
 use Rattle.planfile.proofs.Stores.{four-put}
-use borrow.Author.Needs.{needs}
 use Rattle.planfile.proofs.bytes.put_four.Statement.{statement}
 use Rattle.planfile.proofs.bytes.put_four.Tie as tie
 

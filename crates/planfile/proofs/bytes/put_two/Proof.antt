@@ -1,9 +1,9 @@
 -- `planfile::bytes::put_two` meets its contract.
 use native.Mathlib.Omega.{arith}
 use native.Mathlib.Numerals.{add-one}
+use borrow.Author.Needs.{needs}
 use lib.ListN.{length-set}
 use Rattle.planfile.specs.Bytes.{bytes}
-use borrow.Author.Needs.{needs}
 use Rattle.planfile.proofs.bytes.put_two.Statement.{statement}
 use Rattle.planfile.proofs.bytes.put_two.Tie as tie
 

@@ -1,6 +1,6 @@
 -- `planfile::bytes::signed` meets its contract.
-use Rattle.planfile.proofs.Signs.{signed-is, flipped-fits, flipped-is-signed}
 use borrow.Author.Needs.{needs}
+use Rattle.planfile.proofs.Signs.{signed-is, flipped-fits, flipped-is-signed}
 use Rattle.planfile.proofs.bytes.signed.Statement.{statement}
 use Rattle.planfile.proofs.bytes.signed.Tie as tie
 

@@ -1,6 +1,6 @@
 -- `planfile::bytes::two` meets its contract.
-use Rattle.planfile.proofs.Spelled.{two-at}
 use borrow.Author.Needs.{needs}
+use Rattle.planfile.proofs.Spelled.{two-at}
 use Rattle.planfile.proofs.bytes.two.Statement.{statement}
 use Rattle.planfile.proofs.bytes.two.Tie as tie
 

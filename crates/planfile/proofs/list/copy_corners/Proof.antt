@@ -1,15 +1,14 @@
-use mir.Syntax.{w32}
-use Rattle.exact.proofs.Bounds.{handed}
-use lib.ListN.{getD}
-use denote.Ref.{now}
 -- `planfile::list::copy_corners` meets its contract.
 use mathlib.Core.Path.{refl}
-use Rattle.planfile.proofs.Stores.{Fills, fills-begin, fills-go-on, fills-end}
-use native.Mathlib.Omega.{arith}
 use Prim.Native.Nat.{_-_}
-use lib.ListN.{length}
+use native.Mathlib.Omega.{arith}
 use borrow.Author.Needs.{needs}
+use denote.Ref.{now}
+use lib.ListN.{getD, length}
 use lib.IntN.{pos}
+use mir.Syntax.{w32}
+use Rattle.exact.proofs.Bounds.{handed}
+use Rattle.planfile.proofs.Stores.{Fills, fills-begin, fills-go-on, fills-end}
 use Rattle.planfile.proofs.list.copy_corners.Statement.{statement}
 use Rattle.planfile.proofs.list.copy_corners.Tie as tie
 

@@ -1,10 +1,10 @@
 -- `planfile::list::copy_numbers` meets its contract.
 use mathlib.Core.Path.{refl}
-use Rattle.planfile.proofs.Stores.{Fills, fills-begin, fills-go-on, fills-end}
-use native.Mathlib.Omega.{arith}
 use Prim.Native.Nat.{_-_}
-use lib.ListN.{length}
+use native.Mathlib.Omega.{arith}
 use borrow.Author.Needs.{needs}
+use lib.ListN.{length}
+use Rattle.planfile.proofs.Stores.{Fills, fills-begin, fills-go-on, fills-end}
 use Rattle.planfile.proofs.list.copy_numbers.Statement.{statement}
 use Rattle.planfile.proofs.list.copy_numbers.Tie as tie
 

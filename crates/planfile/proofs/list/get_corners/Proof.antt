@@ -1,14 +1,13 @@
+-- `planfile::list::get_corners` meets its contract.
 use mathlib.Core.Path.{_∙_, ap}
+use mathlib.Core.List.{map}
+use Prim.Native.Nat.{_-_}
+use native.Mathlib.Omega.{arith}
+use lib.ListN.{length}
 use mir.Syntax.{w32}
 use Rattle.exact.proofs.Bounds.{handed}
-use Rattle.planfile.proofs.Stores.{corners-go-on, corners-end}
--- `planfile::list::get_corners` meets its contract.
-use mathlib.Core.List.{map}
 use Rattle.planfile.specs.Bytes.{numbers-at, signed}
-use Rattle.planfile.proofs.Stores.{Fills, fills-begin}
-use native.Mathlib.Omega.{arith}
-use Prim.Native.Nat.{_-_}
-use lib.ListN.{length}
+use Rattle.planfile.proofs.Stores.{corners-go-on, corners-end, Fills, fills-begin}
 use Rattle.planfile.proofs.list.get_corners.Statement.{statement}
 use Rattle.planfile.proofs.list.get_corners.Tie as tie
 

@@ -1,11 +1,10 @@
-use Rattle.planfile.proofs.Stores.{numbers-go-on, numbers-end}
 -- `planfile::list::get_numbers` meets its contract.
-use Rattle.planfile.specs.Bytes.{numbers-at}
-use Rattle.planfile.proofs.Stores.{Fills, fills-begin}
-use native.Mathlib.Omega.{arith}
 use Prim.Native.Nat.{_-_}
-use lib.ListN.{length}
+use native.Mathlib.Omega.{arith}
 use borrow.Author.Needs.{needs}
+use lib.ListN.{length}
+use Rattle.planfile.specs.Bytes.{numbers-at}
+use Rattle.planfile.proofs.Stores.{numbers-go-on, numbers-end, Fills, fills-begin}
 use Rattle.planfile.proofs.list.get_numbers.Statement.{statement}
 use Rattle.planfile.proofs.list.get_numbers.Tie as tie
 

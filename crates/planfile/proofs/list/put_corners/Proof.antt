@@ -1,17 +1,16 @@
-use lib.ListN.{getD}
-use lib.IntN.{pos}
 -- `planfile::list::put_corners` meets its contract.
 use mathlib.Core.List.{map}
 use mathlib.Core.Path.{_∙_}
+use Prim.Native.Nat.{_-_}
+use native.Mathlib.Omega.{arith}
+use borrow.Author.Needs.{needs}
 use denote.Ref.{now}
+use lib.ListN.{getD, length}
+use lib.IntN.{pos}
 use Rattle.planfile.specs.Bytes.{complement}
 use Rattle.planfile.proofs.Signs.{complement-told}
 use Rattle.planfile.proofs.Spelled.{complement-there, complements-below, complements-end}
 use Rattle.planfile.proofs.Stores.{Puts, puts-begin, puts-go-on, puts-end}
-use native.Mathlib.Omega.{arith}
-use Prim.Native.Nat.{_-_}
-use lib.ListN.{length}
-use borrow.Author.Needs.{needs}
 use Rattle.planfile.proofs.list.put_corners.Statement.{statement}
 use Rattle.planfile.proofs.list.put_corners.Tie as tie
 

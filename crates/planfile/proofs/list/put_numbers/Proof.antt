@@ -1,10 +1,10 @@
 -- `planfile::list::put_numbers` meets its contract.
 use mathlib.Core.Path.{refl}
-use Rattle.planfile.proofs.Stores.{Puts, puts-begin, puts-go-on, puts-end}
-use native.Mathlib.Omega.{arith}
 use Prim.Native.Nat.{_-_}
-use lib.ListN.{length}
+use native.Mathlib.Omega.{arith}
 use borrow.Author.Needs.{needs}
+use lib.ListN.{length}
+use Rattle.planfile.proofs.Stores.{Puts, puts-begin, puts-go-on, puts-end}
 use Rattle.planfile.proofs.list.put_numbers.Statement.{statement}
 use Rattle.planfile.proofs.list.put_numbers.Tie as tie
 

@@ -1,7 +1,7 @@
 -- `planfile::record::end` meets its contract.
 use native.Mathlib.Omega.{arith}
-use Rattle.planfile.specs.File.{end-of}
 use borrow.Author.Needs.{needs}
+use Rattle.planfile.specs.File.{end-of}
 use Rattle.planfile.proofs.record.end.Statement.{statement}
 use Rattle.planfile.proofs.record.end.Tie as tie
 

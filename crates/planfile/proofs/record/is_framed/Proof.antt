@@ -1,8 +1,8 @@
 -- `planfile::record::is_framed` meets its contract.
-use denote.Ref.{now}
 use borrow.Author.Tests.{not-true, not-false}
-use Rattle.planfile.proofs.Frames.{no-first, no-second, no-third, not-all, first-wrong, second-wrong, by-third}
 use borrow.Author.Needs.{needs}
+use denote.Ref.{now}
+use Rattle.planfile.proofs.Frames.{no-first, no-second, no-third, not-all, first-wrong, second-wrong, by-third}
 use Rattle.planfile.proofs.record.is_framed.Statement.{statement}
 use Rattle.planfile.proofs.record.is_framed.Tie as tie
 

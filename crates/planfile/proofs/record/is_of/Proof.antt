@@ -1,7 +1,7 @@
 -- `planfile::record::is_of` meets its contract.
+use borrow.Author.Needs.{needs}
 use denote.Ref.{now}
 use Rattle.planfile.proofs.Frames.{of-another-kind, by-its-size}
-use borrow.Author.Needs.{needs}
 use Rattle.planfile.proofs.record.is_of.Statement.{statement}
 use Rattle.planfile.proofs.record.is_of.Tie as tie
 

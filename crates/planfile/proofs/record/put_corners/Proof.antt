@@ -1,7 +1,7 @@
 -- `planfile::record::put_corners` meets its contract.
+use borrow.Author.Needs.{needs}
 use denote.Ref.{now}
 use Rattle.planfile.proofs.Writes.{corner-record-put}
-use borrow.Author.Needs.{needs}
 use Rattle.planfile.proofs.record.put_corners.Statement.{statement}
 use Rattle.planfile.proofs.record.put_corners.Tie as tie
 

@@ -1,7 +1,7 @@
-use Rattle.planfile.proofs.Stores.{head-put}
 -- `planfile::record::put_head` meets its contract.
-use denote.Ref.{now}
 use borrow.Author.Needs.{needs}
+use denote.Ref.{now}
+use Rattle.planfile.proofs.Stores.{head-put}
 use Rattle.planfile.proofs.record.put_head.Statement.{statement}
 use Rattle.planfile.proofs.record.put_head.Tie as tie
 

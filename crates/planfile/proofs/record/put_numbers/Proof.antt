@@ -1,7 +1,7 @@
 -- `planfile::record::put_numbers` meets its contract.
+use borrow.Author.Needs.{needs}
 use denote.Ref.{now}
 use Rattle.planfile.proofs.Writes.{number-record-put}
-use borrow.Author.Needs.{needs}
 use Rattle.planfile.proofs.record.put_numbers.Statement.{statement}
 use Rattle.planfile.proofs.record.put_numbers.Tie as tie
 

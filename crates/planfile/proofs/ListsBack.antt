@@ -1,0 +1,90 @@
+-- The lists of the file of accepted lists are those lists.
+use mathlib.Core.Bool.{true}
+use mathlib.Core.List.{List, [], _++_, map}
+use mathlib.Core.Path.{_≡_, refl, ap, _∙_}
+use Prim.Native.Nat.{ℕ, _+_, _*_, _/_, _^_, _<_}
+use native.Mathlib.Omega.{arith}
+use lib.ListN.{length, getD, length-map, List·getD-map}
+use lib.IntN.{ℤ, pos, negsuc}
+use lib.Signed.{mag}
+use Rattle.plan.specs.Check.{checked}
+use Rattle.plan.specs.declared.Plan.{Plan}
+use Rattle.plan.specs.declared.Checked.the-variants.{Accepted}
+use Rattle.planfile.specs.Bytes.{all-bytes, numbers-at, complement, signed}
+use Rattle.planfile.specs.File.{record-of, corner-record, cell-record, door-record, file-of, body-length, second, third, framed, corners-in, cells-in, doors-in}
+use Rattle.planfile.proofs.Spelled.{length-all-bytes}
+use Rattle.planfile.proofs.Accepts.{Accepts, accepts}
+use Rattle.planfile.proofs.Widths.{coordinate-in-width, cell-in-width, door-in-width}
+use Rattle.planfile.proofs.There.{above, above-two, above-four, all-signed-complements}
+use Rattle.planfile.proofs.Records.{length-read, numbers-read, three, at-second, at-third, as-third, three-records-are-framed}
+
+complement-small : (z : ℤ) → mag z < 2 ^ 31 → complement z < 2 ^ 32
+complement-small (pos n) h = omega arith
+complement-small (negsuc n) h = omega arith
+
+module _ (cs : List ℤ) (ts ds : List ℕ) {p : Plan} (ok : checked cs ts ds ≡ Accepted p) where
+  abbrev a : List ℕ
+  a = all-bytes 4 (map complement cs)
+
+  abbrev b : List ℕ
+  b = all-bytes 2 ts
+
+  abbrev c : List ℕ
+  c = all-bytes 2 ds
+
+  is-three : file-of cs ts ds ≡ three a b c
+  unfolding file-of corner-record cell-record door-record
+  is-three = refl
+
+  long-a : length a ≡ 4 * length cs
+  long-a = length-all-bytes 4 (map complement cs) ∙ ap (λ (n : ℕ). 4 * n) (length-map cs complement)
+
+  known : Accepts cs ts ds p
+  known = accepts cs ts ds ok
+
+  short-a : length a < 2 ^ 32
+  short-a = let k = known in let l = long-a in omega arith
+
+  short-b : length b < 2 ^ 32
+  short-b = let k = known in omega (arith, length-all-bytes 2 ts)
+
+  short-c : length c < 2 ^ 32
+  short-c = let k = known in omega (arith, length-all-bytes 2 ds)
+
+  pub the-file-is-framed : framed (file-of cs ts ds) ≡ true
+  the-file-is-framed =
+      let k = known in
+      let l = long-a in
+      ap framed is-three
+      ∙ three-records-are-framed a b c short-a short-b short-c (omega arith) (omega (arith, length-all-bytes 2 ts)) (omega (arith, length-all-bytes 2 ds))
+
+  pub corners-read-back : corners-in (file-of cs ts ds) ≡ cs
+  unfolding corners-in
+  corners-read-back =
+      let n : body-length (three a b c) 0 ≡ 4 * length cs = length-read [] 1 a (record-of 2 b ++ record-of 3 c) 0 refl refl short-a ∙ long-a in
+      let m : body-length (three a b c) 0 / 4 ≡ length (map complement cs) = let l = length-map cs complement in omega arith in
+      let small : (i : ℕ) → above 4 (getD (map complement cs) i 0) ≡ 0 =
+      λ i. ap (above 4) (List·getD-map complement cs i (pos 0)) ∙ above-four _ (complement-small (getD cs i (pos 0)) (coordinate-in-width cs ts ds known i))
+      in
+      ap corners-in is-three
+      ∙ ap (λ (j : ℕ). map signed (numbers-at 4 (three a b c) 6 j)) m
+      ∙ ap (map signed) (numbers-read [] 1 a (record-of 2 b ++ record-of 3 c) 0 refl refl 4 (map complement cs) refl small)
+      ∙ all-signed-complements cs (coordinate-in-width cs ts ds known)
+
+  pub cells-read-back : cells-in (file-of cs ts ds) ≡ ts
+  unfolding cells-in
+  cells-read-back =
+      let n : body-length (three a b c) (second (three a b c)) ≡ 2 * length ts = length-read (record-of 1 a) 2 b (record-of 3 c) (second (three a b c)) refl (at-second a b c short-a short-b short-c) short-b ∙ length-all-bytes 2 ts in
+      let m : body-length (three a b c) (second (three a b c)) / 2 ≡ length ts = omega arith in
+      ap cells-in is-three
+      ∙ ap (numbers-at 2 (three a b c) (second (three a b c) + 6)) m
+      ∙ numbers-read (record-of 1 a) 2 b (record-of 3 c) (second (three a b c)) refl (at-second a b c short-a short-b short-c) 2 ts refl (λ i. above-two _ (cell-in-width cs ts ds known i))
+
+  pub doors-read-back : doors-in (file-of cs ts ds) ≡ ds
+  unfolding doors-in
+  doors-read-back =
+      let n : body-length (three a b c) (third (three a b c)) ≡ 2 * length ds = length-read (record-of 1 a ++ record-of 2 b) 3 c [] (third (three a b c)) (as-third a b c) (at-third a b c short-a short-b short-c) short-c ∙ length-all-bytes 2 ds in
+      let m : body-length (three a b c) (third (three a b c)) / 2 ≡ length ds = omega arith in
+      ap doors-in is-three
+      ∙ ap (numbers-at 2 (three a b c) (third (three a b c) + 6)) m
+      ∙ numbers-read (record-of 1 a ++ record-of 2 b) 3 c [] (third (three a b c)) (as-third a b c) (at-third a b c short-a short-b short-c) 2 ds refl (λ i. above-two _ (door-in-width cs ts ds known i))
