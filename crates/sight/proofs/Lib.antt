@@ -19,3 +19,4 @@ pub mod CellTree
 pub mod Marks
 pub mod Lined
 pub mod Lister
+pub mod Cases

@@ -1,0 +1,22 @@
+-- The listing's definition is the tree's: rows, numbers and crossings.
+use mathlib.Core.List.{List}
+use mathlib.Core.Path.{_≡_, refl}
+use Prim.Native.Nat.{ℕ}
+use lib.IntN.{ℤ}
+use Rattle.plane.specs.Side.{Point}
+use Rattle.sight.specs.Sight.{rows, numbers, crossings}
+use Rattle.sight.specs.Listing.{listing-rows, listing-numbers, listing-crossings}
+use Rattle.doors.specs.PlanFloor.{sight-from}
+
+module _ (cs : List ℤ) (ts ds : List ℕ) (w : ℕ) (q : Point) (c : ℕ) where
+  pub rows-are : listing-rows cs ts ds w q c ≡ rows (sight-from cs ts ds w q c)
+  unfolding listing-rows rows
+  rows-are = refl
+
+  pub numbers-are : listing-numbers cs ts ds w q c ≡ numbers (sight-from cs ts ds w q c)
+  unfolding listing-numbers numbers
+  numbers-are = refl
+
+  pub crossings-are : listing-crossings cs ts ds w q c ≡ crossings (sight-from cs ts ds w q c)
+  unfolding listing-crossings crossings
+  crossings-are = refl

@@ -1,0 +1,145 @@
+-- Demand 3 (document 01, "Changing a door"): the listings of an accepted plan from a stand strictly inside its cell, with door i open and with it shut,
+-- every other door as the setting has it.
+use mathlib.Core.Bool.{true, false}
+use mathlib.Core.List.{List, map}
+use mathlib.Core.Path.{_≡_, sym, _∙_, ap, subst}
+use Prim.Native.Nat.{ℕ, _+_, _*_, _-_, _<_}
+use lib.ListN.{length, getD}
+use lib.IntN.{ℤ}
+use Rattle.plane.specs.Side.{Point}
+use Rattle.plan.specs.Lists.{cell-count, face-count, start, back}
+use Rattle.plan.specs.Setting.{shut, with-shut, with-open, ends}
+use Rattle.plan.specs.Sound.{Sound}
+use Rattle.plan.proofs.Plans.{back-starts-at-the-finish, back-finishes-at-the-start, door-exists, door-is-free}
+use Rattle.plan.proofs.Settings.{opening-opens-the-door, opening-undoes-shutting, shutting-undoes-opening}
+use Rattle.stand.proofs.Located.{InCell}
+use Rattle.sight.specs.Sight.{Sight, rows, numbers, crossings}
+use Rattle.sight.specs.Once.{At}
+use Rattle.doors.specs.Route.{Routed, routed, way, row-numbers}
+use Rattle.doors.specs.Door.{is-door, same-to-door, on-door, untouched, those}
+use Rattle.doors.specs.Shutting.{Piece, runs, door-row, shut-rows, prune, crossings-left, crossings-lost}
+use Rattle.doors.specs.Opening.{open-rows}
+use Rattle.doors.specs.PlanFloor.{plan-floor, seen, finish, sight-from}
+use Rattle.doors.proofs.Demand3 as Any
+use Rattle.doors.proofs.Demand3.{DoorChange, listed}
+use Rattle.doors.proofs.Routes.{routed-numbers-are-the-numbers, face-is-on-the-way}
+use Rattle.doors.proofs.Ways.{way-tells-the-place, every-row-has-its-own-way}
+use Rattle.doors.proofs.SideSeen as Side
+use Rattle.sight.proofs.PlanFloor.{plan-geometry}
+use Rattle.doors.proofs.PlanDoors.{plan-faces, start-in-the-cell, plan-sides, plan-change}
+
+module _ {cs : List ℤ} {ts ds : List ℕ} (sound : Sound cs ts ds) (q : Point) (c : ℕ) (stands : InCell cs ts q c) (i : ℕ) (h : i < length ds) where
+  -- the door's two faces
+  abbrev f₀ : ℕ
+  f₀ = getD ds i 0
+
+  abbrev g₀ : ℕ
+  g₀ = back ts (getD ds i 0)
+
+  -- what is seen under a setting, and its rows with their routes
+  abbrev under : ℕ → Sight
+  under w = sight-from cs ts ds w q c
+
+  abbrev listing : ℕ → List Routed
+  listing w = routed (sight-from cs ts ds w q c)
+
+  change : (w : ℕ) → shut w i ≡ false → DoorChange (face-count ts) f₀ g₀ (plan-floor cs ts ds w q) (ends ts ds (with-shut w i)) (start ts) (finish ts) (cell-count ts - 1) (3 * c) (3 * c + 1) (3 * c + 2)
+  change w is-open = plan-change sound w q c stands i h is-open
+
+  -- ---- shutting an open door
+
+  module _ (w : ℕ) (is-open : shut w i ≡ false) where
+    -- on the tree: sight ends where the door was passed
+    pub shutting-prunes : under (with-shut w i) ≡ prune f₀ g₀ (under w)
+    shutting-prunes = Any.shutting-prunes (change w is-open)
+
+    -- the listing under the shut setting is the listing under the open one with each run replaced by one row
+    pub shutting-replaces-each-run : listing (with-shut w i) ≡ shut-rows f₀ g₀ (listing w)
+    shutting-replaces-each-run = Any.shutting-replaces-each-run (change w is-open)
+
+    pub shut-rows-are-the-rows : rows (under (with-shut w i)) ≡ map (λ (x : Routed). x .row) (shut-rows f₀ g₀ (listing w))
+    shut-rows-are-the-rows = Any.shut-rows-are-the-rows (change w is-open)
+
+    pub shut-numbers-are-the-numbers : numbers (under (with-shut w i)) ≡ row-numbers (shut-rows f₀ g₀ (listing w))
+    shut-numbers-are-the-numbers = Any.shut-numbers-are-the-numbers (change w is-open)
+
+    -- rows whose routes neither cross the door nor end on it stand in both lists, unaltered, in the same order
+    pub untouched-rows-stand-in-both : those (untouched f₀ g₀) (listing (with-shut w i)) ≡ those (untouched f₀ g₀) (listing w)
+    untouched-rows-stand-in-both = Any.untouched-rows-stand-in-both (change w is-open)
+
+    -- runs through the open door and rows on the shut door correspond one to one, in order
+    pub rows-on-the-shut-door-are-the-runs : those (on-door f₀ g₀) (listing (with-shut w i)) ≡ map (door-row f₀ g₀) (runs f₀ g₀ (listing w))
+    rows-on-the-shut-door-are-the-runs = Any.rows-on-the-shut-door-are-the-runs (change w is-open)
+
+    -- no two runs have the same route up to and including the door: two visits by different routes stay two rows
+    pub runs-have-routes-of-their-own : {k k′ : Piece} {a b : ℕ} → At k (runs f₀ g₀ (listing w)) a → At k′ (runs f₀ g₀ (listing w)) b → same-to-door f₀ g₀ (k .first .route) (k′ .first .route) ≡ true → a ≡ b
+    runs-have-routes-of-their-own p r same = Any.runs-have-routes-of-their-own (change w is-open) p r same
+
+    -- crossings once the door is shut, and while it is open
+    pub crossings-once-shut : crossings (under (with-shut w i)) ≡ crossings-left f₀ g₀ (under w)
+    crossings-once-shut = Any.crossings-once-shut-are-those-left (change w is-open)
+
+    pub crossings-while-open : crossings (under w) ≡ crossings (under (with-shut w i)) + crossings-lost f₀ g₀ (under w)
+    crossings-while-open = Any.crossings-while-open-are-those-and-the-lost (change w is-open)
+
+    -- the listing under the open setting is the listing under the shut one with each row on the door replaced by its run
+    pub shutting-is-undone : listing w ≡ open-rows (plan-floor cs ts ds w q) f₀ g₀ (cell-count ts - 1) (listing (with-shut w i))
+    shutting-is-undone = Any.opening-replaces-each-door-row (change w is-open)
+
+    -- shutting and then opening returns the first list
+    pub shut-then-opened : listing (with-open (with-shut w i) i) ≡ listing w
+    shut-then-opened = ap listing (opening-undoes-shutting w i is-open)
+
+  -- ---- opening a shut door
+
+  module _ (w : ℕ) (is-shut : shut w i ≡ true) where
+    -- each row on the door is replaced by its run
+    pub opening-replaces-each-door-row : listing (with-open w i) ≡ open-rows (plan-floor cs ts ds (with-open w i) q) f₀ g₀ (cell-count ts - 1) (listing w)
+    opening-replaces-each-door-row =
+        subst (λ (v : ℕ). listing (with-open w i) ≡ open-rows (plan-floor cs ts ds (with-open w i) q) f₀ g₀ (cell-count ts - 1) (listing v))
+        (shutting-undoes-opening w i is-shut) (shutting-is-undone (with-open w i) (opening-opens-the-door w i))
+
+    pub opened-numbers-are-the-numbers : numbers (under (with-open w i)) ≡ row-numbers (open-rows (plan-floor cs ts ds (with-open w i) q) f₀ g₀ (cell-count ts - 1) (listing w))
+    opened-numbers-are-the-numbers = sym (routed-numbers-are-the-numbers (under (with-open w i))) ∙ ap row-numbers opening-replaces-each-door-row
+
+    -- the reverse of shutting
+    pub opening-is-the-reverse-of-shutting : listing w ≡ shut-rows f₀ g₀ (listing (with-open w i))
+    opening-is-the-reverse-of-shutting =
+        subst (λ (v : ℕ). listing v ≡ shut-rows f₀ g₀ (listing (with-open w i))) (shutting-undoes-opening w i is-shut)
+        (shutting-replaces-each-run (with-open w i) (opening-opens-the-door w i))
+
+    -- opening and then shutting returns the first list
+    pub opened-then-shut : listing (with-shut (with-open w i) i) ≡ listing w
+    opened-then-shut = ap listing (shutting-undoes-opening w i is-shut)
+
+  -- ---- the door, seen
+
+  -- the door's other face has its two ends reversed
+  other-starts : start ts g₀ ≡ finish ts f₀
+  other-starts = back-starts-at-the-finish sound f₀ (door-exists sound i h) (door-is-free sound i h)
+
+  other-finishes : finish ts g₀ ≡ start ts f₀
+  other-finishes = back-finishes-at-the-start sound f₀ (door-exists sound i h) (door-is-free sound i h)
+
+  -- the door is always seen from the same side from one stand, under whatever settings: crossed or ended on, by one face
+  pub door-is-seen-from-the-same-side : (w w′ : ℕ) {x y : Routed} {a b k m e e′ : ℕ} → At x (listing w) a → At y (listing w′) b → At e (way x) k → At e′ (way y) m → is-door f₀ g₀ e ≡ true → is-door f₀ g₀ e′ ≡ true → e ≡ e′
+  door-is-seen-from-the-same-side w w′ {e = e} {e′ = e′} p p′ r r′ d d′ =
+      Side.seen-from-one-side (seen cs q) (start ts) (finish ts) f₀ g₀ other-starts other-finishes e e′ d d′
+      (Side.way-is-seen (plan-geometry sound w q) (start-in-the-cell sound w q c stands) (cell-count ts - 1) p r)
+      (Side.way-is-seen (plan-geometry sound w′ q) (start-in-the-cell sound w′ q c stands) (cell-count ts - 1) p′ r′)
+
+  -- no route crosses it twice, nor ends on it after crossing it
+  pub no-route-crosses-the-door-twice : (w : ℕ) {x : Routed} {k : ℕ} → At x (listing w) k → (a b : ℕ) → a < b → b < length (way x) → is-door f₀ g₀ (getD (way x) a 0) ≡ true → is-door f₀ g₀ (getD (way x) b 0) ≡ true → ⊥
+  no-route-crosses-the-door-twice w p =
+      Side.no-way-meets-the-door-twice (plan-geometry sound w q) (start-in-the-cell sound w q c stands) (cell-count ts - 1) f₀ g₀ other-starts other-finishes p
+
+  -- rows on the door have one face, and each a route of its own
+  pub rows-on-the-door-have-one-face : (w w′ : ℕ) {x y : Routed} {a b : ℕ} → At x (listing w) a → At y (listing w′) b → on-door f₀ g₀ x ≡ true → on-door f₀ g₀ y ≡ true → x .row .face ≡ y .row .face
+  unfolding on-door
+  rows-on-the-door-have-one-face w w′ {x} {y} p r d d′ = door-is-seen-from-the-same-side w w′ p r (face-is-on-the-way x) (face-is-on-the-way y) d d′
+
+  pub rows-on-the-door-have-routes-of-their-own : (w : ℕ) {x y : Routed} {a b : ℕ} → At x (listing w) a → At y (listing w) b → on-door f₀ g₀ x ≡ true → on-door f₀ g₀ y ≡ true → x .route ≡ y .route → a ≡ b
+  unfolding way
+  rows-on-the-door-have-routes-of-their-own w p r d d′ same =
+      way-tells-the-place (every-row-has-its-own-way (listed (plan-faces sound w q .lines-differ) (plan-sides sound w q c stands))) p r
+      (rw (same, rows-on-the-door-have-one-face w w p r d d′))

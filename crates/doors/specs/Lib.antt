@@ -1,0 +1,6 @@
+pub mod Route
+pub mod Door
+pub mod Shutting
+pub mod Opening
+pub mod Floors
+pub mod PlanFloor
