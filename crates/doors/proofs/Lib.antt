@@ -18,3 +18,4 @@ pub mod PlanDoors
 pub mod PlanDemand3
 pub mod Examples
 pub mod Fresh
+pub mod Changes

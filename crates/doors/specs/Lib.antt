@@ -4,3 +4,4 @@ pub mod Shutting
 pub mod Opening
 pub mod Floors
 pub mod PlanFloor
+pub mod Change

@@ -85,7 +85,8 @@ fn list_lines(
     sides(corners, lines, q, table, c, m - 1)
 }
 
-fn list_from(
+// Lists from a stand in whole millimetres, strictly inside cell c of an accepted plan.
+pub fn list_from(
     corners: &[i32],
     cells: &[u16],
     doors: &[u16],

@@ -1,0 +1,137 @@
+-- The door change: when the given list is the true one, and the replies in their order.
+use mathlib.Core.Bool.{Bool, true, false, not, _&&_, _||_}
+use mathlib.Core.List.{List, [], _∷_, _++_}
+use mathlib.Core.Path.{_≡_, refl, ap, sym, _∙_}
+use native.Mathlib.Omega.{arith}
+use Prim.Native.Nat.{ℕ, _*_, _+_, _<_, _≤_}
+use borrow.Author.Tests.{eqb-true, eq-eqb, lt-ltb, le-ltb}
+use lib.Dec.{eqb}
+use lib.ListN.{length, length-append, take, drop}
+use lib.Seq.{sets, sets-eq, take-at}
+use lib.IntN.{ℤ}
+use mir.Syntax.{w64}
+use mir.Val.{toZ, ofZ}
+use Rattle.plane.specs.Side.{Point}
+use Rattle.plan.specs.Lists.{corner-count}
+use Rattle.plan.specs.Sound.{Sound}
+use Rattle.plan.specs.declared.Refusal.{Refusal}
+use Rattle.plan.specs.declared.Refusal.the-variants as R
+use Rattle.plan.proofs.Plans.{counts}
+use Rattle.stand.specs.Find.{located}
+use Rattle.stand.specs.declared.spot.Stand.{Stand}
+use Rattle.stand.specs.declared.find.Found.the-variants as F
+use Rattle.stand.proofs.Finds.{as-read}
+use Rattle.stand.proofs.Located.{found-cell-holds-the-stand}
+use Rattle.sight.specs.Sight.{numbers}
+use Rattle.sight.specs.Listing.{through, viewed, listing-numbers, listing-row-count, listing-crossings, listed-from}
+use Rattle.sight.specs.declared.view.View.the-variants as O
+use Rattle.sight.specs.declared.list.Listed.{Listed}
+use Rattle.sight.specs.declared.list.Listed.the-variants as L
+use Rattle.sight.proofs.Trees.{three-numbers-a-row}
+use Rattle.sight.proofs.Sightings.{rows-never-outnumber-corners}
+use Rattle.sight.proofs.Views.{view-says}
+use Rattle.doors.specs.Change.{same-list, in-state, wished, no-change, refuse, changed-from, changed}
+
+pub same-is-true : (a : List ℕ) → same-list a a ≡ true
+unfolding same-list
+same-is-true [] = refl
+same-is-true (x ∷ xs) = ap (λ b. b && same-list xs xs) (eq-eqb x x refl) ∙ same-is-true xs
+
+pub true-is-same : (a b : List ℕ) → same-list a b ≡ true → a ≡ b
+unfolding same-list
+true-is-same [] [] e = refl
+true-is-same (x ∷ xs) (y ∷ ys) e = by-first (true-is-same xs ys) (eqb x y) refl e
+  where
+    by-first : (same-list xs ys ≡ true → xs ≡ ys) → (t : Bool) → eqb x y ≡ t → t && same-list xs ys ≡ true → x ∷ xs ≡ y ∷ ys
+    by-first rest true h r = λ i. eqb-true x y h i ∷ rest r i
+    by-first rest false h r = absurd (let z : _≡_ {A = ℕ} 0 1 = cc in omega arith)
+true-is-same [] (y ∷ ys) e = absurd (let z : _≡_ {A = ℕ} 0 1 = cc in omega arith)
+true-is-same (x ∷ xs) [] e = absurd (let z : _≡_ {A = ℕ} 0 1 = cc in omega arith)
+
+pub is-the-same : {a b : List ℕ} → a ≡ b → true ≡ same-list a b
+is-the-same {a} e = sym (same-is-true a) ∙ ap (same-list a) e
+
+pub is-another : {a b : List ℕ} → (a ≡ b → ⊥) → false ≡ same-list a b
+is-another {a} {b} apart = by-test (same-list a b) refl
+  where
+    by-test : (t : Bool) → same-list a b ≡ t → false ≡ same-list a b
+    by-test true h = absurd (apart (true-is-same a b h))
+    by-test false h = sym h
+
+in-all : (a b d : List ℕ) (i j k : ℕ) → length a ≡ 3 * i → length b ≡ 3 * j → length d ≡ 3 * k → length (a ++ b ++ d) ≡ 3 * (i + j + k)
+in-all a b d i j k p r s =
+    let e = length-append (a ++ b) d in
+    let f = length-append a b in
+    omega arith
+
+-- the numbers stand at the start of the table that was written
+pub first-numbers : (table new numbers : List ℕ) (n : ℕ) → new ≡ sets table 0 numbers → length numbers ≡ n → n ≤ length table → take n new ≡ numbers
+first-numbers table new numbers n is counted room =
+    ap (take n) (is ∙ sets-eq numbers table 0 (omega arith)) ∙ take-at numbers (drop (0 + length numbers) table) n counted
+
+module _ {cs : List ℤ} {ts ds : List ℕ} (sound : Sound cs ts ds) (w : ℕ) (q : Point) (c : ℕ) (stands : located cs ts q ≡ F.Cell c) where
+  counted : length (listing-numbers cs ts ds w q c) ≡ 3 * listing-row-count cs ts ds w q c
+  unfolding listing-numbers listing-row-count
+  counted = in-all (numbers (through cs ts ds w q (3 * c))) (numbers (through cs ts ds w q (3 * c + 1))) (numbers (through cs ts ds w q (3 * c + 2))) _ _ _ (three-numbers-a-row (through cs ts ds w q (3 * c))) (three-numbers-a-row (through cs ts ds w q (3 * c + 1))) (three-numbers-a-row (through cs ts ds w q (3 * c + 2)))
+
+  pub numbers-fit : {n : ℕ} → n ≡ listing-row-count cs ts ds w q c → 3 * n ≤ 3 * corner-count cs
+  numbers-fit e =
+      let most = rows-never-outnumber-corners sound w q c (found-cell-holds-the-stand cs ts q stands) in
+      omega arith
+
+  pub few-numbers : 3 * corner-count cs ≤ 6144
+  few-numbers =
+      let most = counts _ _ _ (sound .in-size) .corners-at-most in
+      omega arith
+
+  pub listed-anew : {n : ℕ} (table : List ℕ) {new : List ℕ} → n ≡ listing-row-count cs ts ds w q c → 3 * corner-count cs ≤ length table → new ≡ sets table 0 (listing-numbers cs ts ds w q c) → take (3 * n) new ≡ listing-numbers cs ts ds w q c
+  listed-anew {n} table {new} e room is =
+      let fit = numbers-fit e in
+      first-numbers table new (listing-numbers cs ts ds w q c) (3 * n) is (counted ∙ ap (λ (k : ℕ). 3 * k) (sym e)) (omega arith)
+
+-- ---- replies 12 and 13, or the list under the new setting
+
+module _ (cs : List ℤ) (ts ds : List ℕ) (w : ℕ) (given : List ℕ) (i : ℕ) (b : Bool) (table : List ℕ) (q : Point) (c : ℕ) where
+  abbrev after : Bool → Listed × List ℕ
+  after t = refuse t R.Rows table (listed-from cs ts ds (wished b w i) table (O.From (q .x) (q .y) c))
+
+  pub no-such-door : length ds ≤ i → (L.Refused R.Change, table) ≡ changed-from cs ts ds w given i b table (O.From (q .x) (q .y) c)
+  unfolding no-change
+  no-such-door h =
+      ap (λ (t : Bool). refuse (not t || in-state b w i) R.Change table (after (not (same-list given (listing-numbers cs ts ds w q c))))) (sym (le-ltb _ _ h))
+
+  module _ (exists : i < length ds) where
+    by-state : {t : Bool} → t ≡ in-state b w i → refuse t R.Change table (after (not (same-list given (listing-numbers cs ts ds w q c)))) ≡ changed-from cs ts ds w given i b table (O.From (q .x) (q .y) c)
+    unfolding no-change
+    by-state {t} e =
+        ap (λ (t : Bool). refuse t R.Change table (after (not (same-list given (listing-numbers cs ts ds w q c))))) e
+        ∙ ap (λ (t : Bool). refuse (not t || in-state b w i) R.Change table (after (not (same-list given (listing-numbers cs ts ds w q c))))) (sym (lt-ltb _ _ exists))
+
+    pub already-so : true ≡ in-state b w i → (L.Refused R.Change, table) ≡ changed-from cs ts ds w given i b table (O.From (q .x) (q .y) c)
+    already-so e = by-state e
+
+    module _ (otherwise : false ≡ in-state b w i) where
+      pub not-true : {t : Bool} → t ≡ same-list given (listing-numbers cs ts ds w q c) → not t ≡ true → (L.Refused R.Rows, table) ≡ changed-from cs ts ds w given i b table (O.From (q .x) (q .y) c)
+      not-true e h = ap after (sym h) ∙ ap (λ (t : Bool). after (not t)) e ∙ by-state otherwise
+
+      pub change-made : {r p : ℕ} {new : List ℕ} {v : ℕ} {t : Bool} → t ≡ same-list given (listing-numbers cs ts ds w q c) → not t ≡ false → v ≡ wished b w i → (r ≡ listing-row-count cs ts ds v q c) × ((p ≡ listing-crossings cs ts ds v q c) × (new ≡ sets table 0 (listing-numbers cs ts ds v q c))) → (L.Rows r p, new) ≡ changed-from cs ts ds w given i b table (O.From (q .x) (q .y) c)
+      change-made e g f h =
+          (λ k. (L.Rows (h .0 k) (h .1 .0 k), h .1 .1 k))
+          ∙ ap (λ (v : ℕ). listed-from cs ts ds v table (O.From (q .x) (q .y) c)) f
+          ∙ ap after (sym g)
+          ∙ ap (λ (t : Bool). after (not t)) e
+          ∙ by-state otherwise
+
+-- ---- the whole change
+
+module _ (cs : List ℤ) (ts ds : List ℕ) (w : ℕ) (s : Stand) (given : List ℕ) (i : ℕ) (b : Bool) (table : List ℕ) where
+  pub change-refused : {r : Refusal} → viewed cs ts ds w s (length table) ≡ O.Refused r → (L.Refused r, table) ≡ changed cs ts ds w s given i b table
+  unfolding changed
+  change-refused e = ap (changed-from cs ts ds w given i b table) (sym e)
+
+  pub change-done : {x y : ℤ} {c : ℕ} {reply : Listed × List ℕ} → viewed cs ts ds w s (length table) ≡ O.From x y c → reply ≡ changed-from cs ts ds w given i b table (O.From (toZ w64 (ofZ w64 x)) (toZ w64 (ofZ w64 y)) c) → reply ≡ changed cs ts ds w s given i b table
+  unfolding changed
+  change-done {x} {y} {c} view e =
+      e
+      ∙ ap (λ (q : Point). changed-from cs ts ds w given i b table (O.From (q .x) (q .y) c)) (as-read (view-says cs ts ds w s (length table) view .stand-near))
+      ∙ ap (changed-from cs ts ds w given i b table) (sym view)

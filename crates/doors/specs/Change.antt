@@ -1,0 +1,54 @@
+-- The door change (document 01, "Changing a door" and "Reply numbers"): plan, old setting, stand, the list under the old setting, a door and the wished state.
+use mathlib.Core.Bool.{Bool, true, false, not, _&&_, _||_}
+use mathlib.Core.List.{List, [], _∷_}
+use Prim.Native.Nat.{ℕ}
+use lib.Dec.{eqb, ltb}
+use lib.ListN.{length}
+use lib.IntN.{ℤ}
+use Rattle.plan.specs.Setting.{shut, with-shut, with-open}
+use Rattle.plan.specs.declared.Refusal.{Refusal}
+use Rattle.plan.specs.declared.Refusal.the-variants.{Change, Rows}
+use Rattle.stand.specs.declared.spot.Stand.{Stand}
+use Rattle.sight.specs.Listing.{listing-numbers, listed-from, viewed}
+use Rattle.sight.specs.declared.view.View.{View}
+use Rattle.sight.specs.declared.view.View.the-variants.{From, Refused}
+use Rattle.sight.specs.declared.list.Listed.{Listed}
+use Rattle.sight.specs.declared.list.Listed.the-variants as L
+
+-- two lists of the same length and the same numbers
+unfoldable pub same-list : List ℕ → List ℕ → Bool
+same-list [] [] = true
+same-list [] (y ∷ ys) = false
+same-list (x ∷ xs) [] = false
+same-list (x ∷ xs) (y ∷ ys) = eqb x y && same-list xs ys
+
+-- door i is in the wished state, true for shut
+abbrev pub in-state : Bool → ℕ → ℕ → Bool
+in-state true w i = shut w i
+in-state false w i = not (shut w i)
+
+-- the setting with door i in the wished state
+abbrev pub wished : Bool → ℕ → ℕ → ℕ
+wished true w i = with-shut w i
+wished false w i = with-open w i
+
+-- no such door, or already in that state
+unfoldable pub no-change : List ℕ → ℕ → ℕ → Bool → Bool
+no-change ds w i b = not (ltb i (length ds)) || in-state b w i
+
+-- refused where the test holds, and the table keeps its contents
+abbrev pub refuse : Bool → Refusal → List ℕ → Listed × List ℕ → Listed × List ℕ
+refuse true r table rest = (L.Refused r, table)
+refuse false r table rest = rest
+
+-- replies 12 and 13, or the list and crossings under the new setting
+abbrev pub changed-from : List ℤ → List ℕ → List ℕ → ℕ → List ℕ → ℕ → Bool → List ℕ → View → Listed × List ℕ
+changed-from cs ts ds w given i b table (Refused r) = (L.Refused r, table)
+changed-from cs ts ds w given i b table (From x y c) =
+    refuse (no-change ds w i b) Change table
+    (refuse (not (same-list given (listing-numbers cs ts ds w (record { x = x; y = y }) c))) Rows table
+    (listed-from cs ts ds (wished b w i) table (From x y c)))
+
+-- the door change
+unfoldable pub changed : List ℤ → List ℕ → List ℕ → ℕ → Stand → List ℕ → ℕ → Bool → List ℕ → Listed × List ℕ
+changed cs ts ds w s given i b table = changed-from cs ts ds w given i b table (viewed cs ts ds w s (length table))
