@@ -19,3 +19,5 @@ pub mod PlanDemand3
 pub mod Examples
 pub mod Fresh
 pub mod Changes
+pub mod Changed
+pub mod ChangesOfQ

@@ -20,3 +20,5 @@ pub mod Marks
 pub mod Lined
 pub mod Lister
 pub mod Cases
+pub mod Written
+pub mod ShutOut

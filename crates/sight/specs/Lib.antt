@@ -6,3 +6,4 @@ pub mod Once
 pub mod Listing
 pub mod Lined
 pub mod Cases
+pub mod Written

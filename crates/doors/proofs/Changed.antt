@@ -1,0 +1,91 @@
+-- What the door change gives (document 01, "Changing a door"): from a true list what a fresh listing gives, and otherwise a refusal.
+use mathlib.Core.Bool.{Bool, true, false, not}
+use mathlib.Core.List.{List}
+use mathlib.Core.Path.{_≡_, refl, ap, sym, _∙_}
+use native.Mathlib.Omega.{arith}
+use Prim.Native.Nat.{ℕ, _^_, _<_, _≤_}
+use borrow.Author.Tests.{lt-ltb, ltb-true}
+use lib.Dec.{ltb}
+use lib.ListN.{length}
+use lib.IntN.{ℤ}
+use Rattle.plane.specs.Side.{Point}
+use Rattle.plan.specs.Setting.{wrong-setting}
+use Rattle.plan.specs.Check.{checked}
+use Rattle.plan.specs.declared.Refusal.{Refusal}
+use Rattle.plan.specs.declared.Refusal.the-variants as R
+use Rattle.plan.specs.declared.Checked.{Checked}
+use Rattle.plan.specs.declared.Checked.the-variants as C
+use Rattle.plan.proofs.Settings.{shutting-keeps-within, opening-keeps-within}
+use Rattle.stand.specs.Spot.{stood}
+use Rattle.stand.specs.declared.spot.Stand.{Stand}
+use Rattle.sight.specs.Listing.{unless, view-of-spot, view-of-plan, viewed, listing-numbers, listed-from, listed}
+use Rattle.sight.specs.declared.view.View.{View}
+use Rattle.sight.specs.declared.view.View.the-variants as O
+use Rattle.sight.specs.declared.list.Listed.{Listed}
+use Rattle.sight.specs.declared.list.Listed.the-variants as L
+use Rattle.doors.specs.Change.{in-state, wished, changed-from, changed}
+use Rattle.doors.proofs.Changes.{is-the-same, is-another, no-such-door, already-so, not-true, change-made}
+
+-- a setting without a bit at or above the door count has none after one door's change
+pub the-wished-setting-is-not-wrong : (w i k : ℕ) (b : Bool) → i < k → wrong-setting w k ≡ false → wrong-setting (wished b w i) k ≡ false
+unfolding wrong-setting
+the-wished-setting-is-not-wrong w i k b exists e = ap not (lt-ltb _ _ (by-state b))
+  where
+    by-test : (t : Bool) → ltb w (2 ^ k) ≡ t → not t ≡ false → w < 2 ^ k
+    by-test true h r = ltb-true _ _ h
+    by-test false h r = absurd (let z : _≡_ {A = ℕ} 0 1 = cc in omega arith)
+
+    within : w < 2 ^ k
+    within = by-test (ltb w (2 ^ k)) refl e
+
+    by-state : (b : Bool) → wished b w i < 2 ^ k
+    by-state true = shutting-keeps-within w i k exists within
+    by-state false = opening-keeps-within w i k within
+
+module _ (cs : List ℤ) (ts ds : List ℕ) (w : ℕ) (s : Stand) (given : List ℕ) (i : ℕ) (b : Bool) (table : List ℕ) {x y : ℤ} {c : ℕ} (view : viewed cs ts ds w s (length table) ≡ O.From x y c) where
+  abbrev q : Point
+  q = record { x = x; y = y }
+
+  of-view : changed-from cs ts ds w given i b table (O.From x y c) ≡ changed cs ts ds w s given i b table
+  unfolding changed
+  of-view = ap (changed-from cs ts ds w given i b table) (sym view)
+
+  -- no such door
+  pub a-door-that-is-not-there-is-refused : length ds ≤ i → changed cs ts ds w s given i b table ≡ (L.Refused R.Change, table)
+  a-door-that-is-not-there-is-refused h = sym (no-such-door cs ts ds w given i b table q c h ∙ of-view)
+
+  module _ (exists : i < length ds) where
+    -- already in that state
+    pub a-door-already-so-is-refused : in-state b w i ≡ true → changed cs ts ds w s given i b table ≡ (L.Refused R.Change, table)
+    a-door-already-so-is-refused e = sym (already-so cs ts ds w given i b table q c exists (sym e) ∙ of-view)
+
+    module _ (otherwise : in-state b w i ≡ false) where
+      -- a list that is not true is refused
+      pub a-list-that-is-not-true-is-refused : (given ≡ listing-numbers cs ts ds w q c → ⊥) → changed cs ts ds w s given i b table ≡ (L.Refused R.Rows, table)
+      a-list-that-is-not-true-is-refused apart = sym (not-true cs ts ds w given i b table q c exists (sym otherwise) (is-another apart) refl ∙ of-view)
+
+      same-view : viewed cs ts ds (wished b w i) s (length table) ≡ O.From x y c
+      unfolding viewed
+      same-view = by-plan (checked cs ts ds) view
+        where
+          never : {r : Refusal} → O.Refused r ≡ O.From x y c → ⊥
+          never p = let z : _≡_ {A = ℕ} 0 1 = cc in omega arith
+
+          by-setting : (v : View) (t : Bool) → wrong-setting w (length ds) ≡ t → unless t R.Setting v ≡ O.From x y c → unless (wrong-setting (wished b w i) (length ds)) R.Setting v ≡ O.From x y c
+          by-setting v true h p = absurd (never p)
+          by-setting v false h p = ap (λ (t : Bool). unless t R.Setting v) (the-wished-setting-is-not-wrong w i (length ds) b exists h) ∙ p
+
+          by-plan : (k : Checked) → view-of-plan cs ts ds w s (length table) k ≡ O.From x y c → view-of-plan cs ts ds (wished b w i) s (length table) k ≡ O.From x y c
+          by-plan (C.Accepted p) e = by-setting (view-of-spot cs ts (length table) (stood cs s)) (wrong-setting w (length ds)) refl e
+          by-plan (C.Refused r) e = absurd (never e)
+
+      -- from a true list the change gives what a fresh listing gives: rows, order, crossings and the table
+      pub the-change-is-a-fresh-listing : given ≡ listing-numbers cs ts ds w q c → changed cs ts ds w s given i b table ≡ listed cs ts ds (wished b w i) s table
+      unfolding listed
+      the-change-is-a-fresh-listing same =
+          sym (change-made cs ts ds w given i b table q c exists (sym otherwise) (is-the-same same) refl refl (refl, (refl, refl)) ∙ of-view)
+          ∙ ap (listed-from cs ts ds (wished b w i) table) (sym same-view)
+
+-- the promise of the door change leaves one reply and one table
+pub change-has-one-reply : (cs : List ℤ) (ts ds : List ℕ) (w : ℕ) (stand : Stand) (given : List ℕ) (i : ℕ) (b : Bool) (table : List ℕ) {r s : Listed × List ℕ} → r ≡ changed cs ts ds w stand given i b table → s ≡ changed cs ts ds w stand given i b table → r ≡ s
+change-has-one-reply cs ts ds w stand given i b table h k = h ∙ sym k

@@ -1,0 +1,36 @@
+-- The door change, computed on document 01's plan Q from the stand of cases a and b: its door is shut and opened, and lists that are not true are refused.
+use mathlib.Core.Bool.{true, false}
+use mathlib.Core.List.{List, [], _∷_}
+use mathlib.Core.Path.{_≡_, refl}
+use Prim.Native.Nat.{ℕ}
+use lib.Ieee.{ofBits}
+use Rattle.plane.specs.Side.{side}
+use Rattle.plane.specs.Tests.{by-sides}
+use Rattle.plan.specs.Limits.{sized}
+use Rattle.plan.specs.Least.{least}
+use Rattle.plan.specs.Lists.{next, start, neighbour, answers, back}
+use Rattle.plan.specs.Check.{outside, wrong-corner, wrong-cell, wrong-neighbour, names, wrong-door, checked}
+use Rattle.plan.specs.Setting.{shut, with-shut, with-open, wrong-setting, bars, ends}
+use Rattle.plan.specs.declared.Refusal.the-variants.{Change, Rows as Untrue}
+use Rattle.stand.specs.Whole.{whole}
+use Rattle.stand.specs.Spot.{whole-point, stood}
+use Rattle.stand.specs.Find.{against, located}
+use Rattle.stand.specs.declared.spot.Stand.the-variants.{Point}
+use Rattle.sight.specs.Sight.{follow, numbers, row-count, crossings}
+use Rattle.sight.specs.Floor.{placed}
+use Rattle.sight.specs.Listing.{viewed, listing-numbers, listing-row-count, listing-crossings}
+use Rattle.sight.specs.Cases.{corners-of-Q, cells-of-Q, doors-of-Q, six, three, old, untouched}
+use Rattle.sight.specs.declared.list.Listed.the-variants.{Rows, Refused}
+use Rattle.doors.specs.Change.{same-list, no-change, changed}
+
+-- the list of case a, door open, and of case b, door shut
+abbrev list-a : List ℕ
+list-a = 0 ∷ 0 ∷ 1 ∷ 1 ∷ 1 ∷ 2 ∷ 4 ∷ 2 ∷ 3 ∷ 5 ∷ 3 ∷ 0 ∷ []
+
+abbrev list-b : List ℕ
+list-b = 0 ∷ 0 ∷ 1 ∷ 1 ∷ 1 ∷ 2 ∷ 2 ∷ 2 ∷ 0 ∷ []
+
+-- door 0 of Q: shut from case a gives case b, opened from case b gives case a, and each list is untrue under the other setting; shut twice, and a door 1
+pub changes-of-Q : (changed corners-of-Q cells-of-Q doors-of-Q 0 (Point six three) list-a 0 true untouched ∷ changed corners-of-Q cells-of-Q doors-of-Q 1 (Point six three) list-b 0 false untouched ∷ changed corners-of-Q cells-of-Q doors-of-Q 0 (Point six three) list-b 0 true untouched ∷ changed corners-of-Q cells-of-Q doors-of-Q 1 (Point six three) list-a 0 false untouched ∷ changed corners-of-Q cells-of-Q doors-of-Q 1 (Point six three) list-b 0 true untouched ∷ changed corners-of-Q cells-of-Q doors-of-Q 0 (Point six three) list-a 1 true untouched ∷ []) ≡ ((Rows 3 0, 0 ∷ 0 ∷ 1 ∷ 1 ∷ 1 ∷ 2 ∷ 2 ∷ 2 ∷ 0 ∷ old ∷ old ∷ old ∷ []) ∷ (Rows 4 1, list-a) ∷ (Refused Untrue, untouched) ∷ (Refused Untrue, untouched) ∷ (Refused Change, untouched) ∷ (Refused Change, untouched) ∷ [])
+unfolding ofBits side by-sides sized least next start neighbour answers back outside wrong-corner wrong-cell wrong-neighbour names wrong-door checked shut with-shut with-open wrong-setting bars ends whole whole-point stood against located follow numbers row-count crossings placed viewed listing-numbers listing-row-count listing-crossings same-list no-change changed
+changes-of-Q = refl

@@ -1,0 +1,72 @@
+-- What `list` writes: the listing's rows, one after another, and their count (document 01, "Expansion" and "Reply").
+use mathlib.Core.List.{List, [], _∷_, _++_}
+use mathlib.Core.Path.{_≡_, refl, ap, ap₂, sym, _∙_}
+use native.Mathlib.Omega.{arith}
+use Prim.Native.Nat.{ℕ, _+_, _*_, _<_}
+use lib.Seq.{sets}
+use lib.ListN.{length}
+use lib.IntN.{ℤ}
+use Rattle.plane.specs.Side.{Point}
+use Rattle.plan.specs.Lists.{corner-count, start}
+use Rattle.plane.specs.Cone.{Meets, Direction}
+use Rattle.plan.specs.Sound.{Sound}
+use Rattle.stand.specs.declared.spot.Stand.{Stand}
+use Rattle.stand.proofs.Located.{InCell}
+use Rattle.sight.specs.Sight.{Sight, Row, rows, numbers, row-count}
+use Rattle.sight.specs.Sight.Sight.{row, pass, both, cut}
+use Rattle.sight.specs.Once.{At}
+use Rattle.sight.specs.Walk.{WalkEnds}
+use Rattle.sight.specs.Written.{written}
+use Rattle.sight.specs.Listing.{plan-floor, seen, finish, through, viewed, listing-rows, listing-numbers, listing-row-count, listing-crossings, listed-from, listed}
+use Rattle.sight.specs.declared.view.View.the-variants as O
+use Rattle.sight.specs.declared.list.Listed.{Listed}
+use Rattle.sight.specs.declared.list.Listed.the-variants as L
+use Rattle.sight.proofs.Trees.{row-count-counts-the-rows, whole-has-a-row}
+use Rattle.sight.proofs.Sightings.{first-side-is-whole, demand-2, walk-is-unique}
+
+written-joined : (a b : List Row) → written (a ++ b) ≡ written a ++ written b
+unfolding written
+written-joined [] b = refl
+written-joined (r ∷ a) b = ap (λ (l : List ℕ). r .face ∷ r .right ∷ r .left ∷ l) (written-joined a b)
+
+numbers-are-the-rows : (t : Sight) → numbers t ≡ written (rows t)
+unfolding numbers rows written
+numbers-are-the-rows (row f r l) = refl
+numbers-are-the-rows (pass f r l t) = numbers-are-the-rows t
+numbers-are-the-rows (both t u) = ap₂ (λ (a b : List ℕ). a ++ b) (numbers-are-the-rows t) (numbers-are-the-rows u) ∙ sym (written-joined (rows t) (rows u))
+numbers-are-the-rows cut = refl
+
+module _ (cs : List ℤ) (ts ds : List ℕ) (w : ℕ) (q : Point) (c : ℕ) where
+  pub the-numbers-are-the-rows : listing-numbers cs ts ds w q c ≡ written (listing-rows cs ts ds w q c)
+  unfolding listing-numbers listing-rows numbers rows
+  the-numbers-are-the-rows = numbers-are-the-rows (both (both (through cs ts ds w q (3 * c)) (through cs ts ds w q (3 * c + 1))) (through cs ts ds w q (3 * c + 2)))
+
+  pub the-count-is-the-rows : listing-row-count cs ts ds w q c ≡ length (listing-rows cs ts ds w q c)
+  unfolding listing-row-count listing-rows row-count rows
+  the-count-is-the-rows = row-count-counts-the-rows (both (both (through cs ts ds w q (3 * c)) (through cs ts ds w q (3 * c + 1))) (through cs ts ds w q (3 * c + 2)))
+
+-- from a stand that is not refused, `list` replies the rows' count and the crossings, writes the rows and keeps what stands beyond them
+pub list-writes-the-rows : (cs : List ℤ) (ts ds : List ℕ) (w : ℕ) (s : Stand) (table : List ℕ) {x y : ℤ} {c : ℕ} → viewed cs ts ds w s (length table) ≡ O.From x y c → listed cs ts ds w s table ≡ (L.Rows (length (listing-rows cs ts ds w (record { x = x; y = y }) c)) (listing-crossings cs ts ds w (record { x = x; y = y }) c), sets table 0 (written (listing-rows cs ts ds w (record { x = x; y = y }) c)))
+unfolding listed
+list-writes-the-rows cs ts ds w s table {x} {y} {c} view =
+    ap (listed-from cs ts ds w table) view
+    ∙ ap₂ (λ (n : ℕ) (l : List ℕ). (L.Rows n (listing-crossings cs ts ds w (record { x = x; y = y }) c), sets table 0 l)) (the-count-is-the-rows cs ts ds w (record { x = x; y = y }) c) (the-numbers-are-the-rows cs ts ds w (record { x = x; y = y }) c)
+
+module _ {cs : List ℤ} {ts ds : List ℕ} (sound : Sound cs ts ds) (w : ℕ) (q : Point) (c : ℕ) (stands : InCell cs ts q c) where
+  -- no listing is empty
+  pub a-listing-has-a-row : 0 < length (listing-rows cs ts ds w q c)
+  unfolding listing-row-count
+  a-listing-has-a-row =
+      let some = whole-has-a-row (first-side-is-whole sound w q c stands) in
+      let count = the-count-is-the-rows cs ts ds w q c in
+      omega arith
+
+  -- a wall met first in a direction whose ray meets no corner has a row
+  pub a-wall-met-first-has-a-row : (d : Point) → Direction d → ((k : ℕ) → k < corner-count cs → ¬ Meets d (seen cs q k)) → {f : ℕ} → WalkEnds (plan-floor cs ts ds w q) (seen cs q) (start ts) (finish ts) d (3 * c) (3 * c + 1) (3 * c + 2) f → (r : Row) × (i : ℕ) × At r (listing-rows cs ts ds w q c) i × (r .face ≡ f)
+  a-wall-met-first-has-a-row d n clear met =
+      let held = demand-2 sound w q c stands d n clear in
+      (held .0, held .1 .place, held .1 .stands, walk-is-unique sound w q c stands d (held .2) met)
+
+-- the promise of the listing leaves one reply and one table
+pub list-has-one-reply : (cs : List ℤ) (ts ds : List ℕ) (w : ℕ) (stand : Stand) (table : List ℕ) {r s : Listed × List ℕ} → r ≡ listed cs ts ds w stand table → s ≡ listed cs ts ds w stand table → r ≡ s
+list-has-one-reply cs ts ds w stand table h k = h ∙ sym k
