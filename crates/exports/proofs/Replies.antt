@@ -1,0 +1,44 @@
+-- What a call leaves: nothing is touched where the reply has no room for five numbers, else the answer's numbers are put there.
+use mathlib.Core.Bool.{Bool}
+use mathlib.Core.List.{List}
+use mathlib.Core.Path.{_≡_, sym, ap, ap₂, _∙_}
+use Prim.Native.Nat.{ℕ, _<_, _≤_}
+use borrow.Author.Tests.{le-leb, lt-leb}
+use lib.ListN.{length}
+use lib.Seq.{sets}
+use Rattle.plan.specs.Reply.{number, place}
+use Rattle.plan.specs.declared.Refusal.{Refusal}
+use Rattle.exports.specs.Reply.{five, refused, has-five, replied, left}
+
+-- an answer's numbers, put by its variant
+module _ {R : Type 0} (numbers : R → List ℕ) {answer variant : R} (is-answer : answer ≡ variant) (old : List ℕ) {new : List ℕ} where
+  pub put-as : new ≡ sets old 0 (numbers variant) → new ≡ sets old 0 (numbers answer)
+  put-as e = e ∙ ap (λ (q : R). sets old 0 (numbers q)) (sym is-answer)
+
+  pub put-refused : (r : Refusal) → numbers variant ≡ refused r → {n p : ℕ} → n ≡ number r → p ≡ place r → new ≡ sets old 0 (five n p 0 0 0) → new ≡ sets old 0 (numbers answer)
+  put-refused r are e f g = put-as (g ∙ ap (sets old 0) (ap₂ (λ (n p : ℕ). five n p 0 0 0) e f ∙ sym are))
+
+-- a call that lends nothing but the reply
+module _ {R : Type 0} (numbers : R → List ℕ) (reply : List ℕ) where
+  pub none-replied : (said : R) → length reply < 5 → reply ≡ replied (has-five reply) reply (numbers said)
+  none-replied said h = ap (λ (t : Bool). replied t reply (numbers said)) (sym (lt-leb _ _ h))
+
+  pub all-replied : {answer said : R} {new : List ℕ} → 5 ≤ length reply → answer ≡ said → new ≡ sets reply 0 (numbers answer) → new ≡ replied (has-five reply) reply (numbers said)
+  all-replied {answer} {said} {new} h e f =
+      f
+      ∙ ap (λ (q : R). sets reply 0 (numbers q)) e
+      ∙ ap (λ (t : Bool). replied t reply (numbers said)) (sym (le-leb _ _ h))
+
+-- a call that lends other memory too
+module _ {R A : Type 0} (numbers : R → List ℕ) (old : A) (reply : List ℕ) where
+  abbrev Left : R × A → A → List ℕ → Type 0
+  Left said lent r = _≡_ {A = A × List ℕ} (lent, r) (left (has-five reply) old (said .1), replied (has-five reply) reply (numbers (said .0)))
+
+  pub none-left : (said : R × A) → length reply < 5 → Left said old reply
+  none-left said h = ap (λ (t : Bool). (left t old (said .1), replied t reply (numbers (said .0)))) (sym (lt-leb _ _ h))
+
+  pub all-left : {answer : R} {lent : A} {said : R × A} {new : List ℕ} → 5 ≤ length reply → (answer, lent) ≡ said → new ≡ sets reply 0 (numbers answer) → Left said lent new
+  all-left {answer} {lent} {said} {new} h e f =
+      ap (λ (r : List ℕ). (lent, r)) f
+      ∙ ap (λ (q : R × A). (q .1, sets reply 0 (numbers (q .0)))) e
+      ∙ ap (λ (t : Bool). (left t old (said .1), replied t reply (numbers (said .0)))) (sym (le-leb _ _ h))

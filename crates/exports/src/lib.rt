@@ -1,0 +1,215 @@
+// The public calls for C and Rust: each slice passes as a pointer and a length, each reply is five numbers (document 01, "Reply numbers"):
+// number, place, and up to three values. A reply with room for fewer is left alone, and so is all other lent memory.
+// include/manopluea.h has the promise of each function in words, specs/Reply.antt what each leaves as a function of the input.
+ghost use mathlib.Core.Path.{_≡_};
+ghost use Rattle.stand.specs.declared.spot.Stand.the-variants.{Point, Offset};
+ghost use Rattle.exports.specs.Reply.{check-left, read-left, write-left, find-left, list-left, change-left};
+use stand::spot::Stand;
+
+mod reply;
+
+// The plan check; the values are the counts of corners, cells and doors.
+#[no_mangle]
+pub extern "C" fn manopluea_check(corners: &[i32], cells: &[u16], doors: &[u16], reply: &mut [u64])
+    ensures { λ _. ⌜ now (reply .exit) ≡ check-left (now (corners .entry)) (now (cells .entry)) (now (doors .entry)) (now (reply .entry)) ⌝ }
+{
+    if reply.len() < 5 {
+        return;
+    }
+    let answer = plan::check(corners, cells, doors);
+    reply::put_checked(reply, answer);
+}
+
+// Reads the three lists of a plan file; the values are the counts.
+#[no_mangle]
+pub extern "C" fn manopluea_read(
+    file: &[u8],
+    corners: &mut [i32],
+    cells: &mut [u16],
+    doors: &mut [u16],
+    reply: &mut [u64],
+)
+    ensures { λ _. ⌜ ((now (corners .exit), (now (cells .exit), now (doors .exit))), now (reply .exit)) ≡ read-left (now (file .entry)) (now (corners .entry)) (now (cells .entry)) (now (doors .entry)) (now (reply .entry)) ⌝ }
+{
+    if reply.len() < 5 {
+        return;
+    }
+    let answer = planfile::read(file, corners, cells, doors);
+    reply::put_checked(reply, answer);
+}
+
+// Writes the one file of three lists; the values are the counts.
+#[no_mangle]
+pub extern "C" fn manopluea_write(
+    corners: &[i32],
+    cells: &[u16],
+    doors: &[u16],
+    file: &mut [u8],
+    reply: &mut [u64],
+)
+    ensures { λ _. ⌜ (now (file .exit), now (reply .exit)) ≡ write-left (now (corners .entry)) (now (cells .entry)) (now (doors .entry)) (now (file .entry)) (now (reply .entry)) ⌝ }
+{
+    if reply.len() < 5 {
+        return;
+    }
+    let answer = planfile::write(corners, cells, doors, file);
+    reply::put_checked(reply, answer);
+}
+
+// The cell of a stand that is a point; the value is the cell.
+#[no_mangle]
+pub extern "C" fn manopluea_find_point(
+    corners: &[i32],
+    cells: &[u16],
+    doors: &[u16],
+    x: f64,
+    y: f64,
+    reply: &mut [u64],
+)
+    ensures { λ _. ⌜ now (reply .exit) ≡ find-left (now (corners .entry)) (now (cells .entry)) (now (doors .entry)) (Point x y) (now (reply .entry)) ⌝ }
+{
+    if reply.len() < 5 {
+        return;
+    }
+    let answer = stand::find::find(corners, cells, doors, Stand::Point(x, y));
+    reply::put_found(reply, answer);
+}
+
+// The cell of a stand that is an offset from a corner; the value is the cell.
+#[no_mangle]
+pub extern "C" fn manopluea_find_offset(
+    corners: &[i32],
+    cells: &[u16],
+    doors: &[u16],
+    corner: u16,
+    dx: f64,
+    dy: f64,
+    reply: &mut [u64],
+)
+    ensures { λ _. ⌜ now (reply .exit) ≡ find-left (now (corners .entry)) (now (cells .entry)) (now (doors .entry)) (Offset corner dx dy) (now (reply .entry)) ⌝ }
+{
+    if reply.len() < 5 {
+        return;
+    }
+    let answer = stand::find::find(corners, cells, doors, Stand::Offset(corner, dx, dy));
+    reply::put_found(reply, answer);
+}
+
+// The listing from a point; the values are row count and crossings.
+#[no_mangle]
+pub extern "C" fn manopluea_list_point(
+    corners: &[i32],
+    cells: &[u16],
+    doors: &[u16],
+    setting: u64,
+    x: f64,
+    y: f64,
+    table: &mut [u16],
+    reply: &mut [u64],
+)
+    ensures { λ _. ⌜ (now (table .exit), now (reply .exit)) ≡ list-left (now (corners .entry)) (now (cells .entry)) (now (doors .entry)) setting (Point x y) (now (table .entry)) (now (reply .entry)) ⌝ }
+{
+    if reply.len() < 5 {
+        return;
+    }
+    let answer = sight::list::list(corners, cells, doors, setting, Stand::Point(x, y), table);
+    reply::put_listed(reply, answer);
+}
+
+// The listing from an offset; the values are row count and crossings.
+#[no_mangle]
+pub extern "C" fn manopluea_list_offset(
+    corners: &[i32],
+    cells: &[u16],
+    doors: &[u16],
+    setting: u64,
+    corner: u16,
+    dx: f64,
+    dy: f64,
+    table: &mut [u16],
+    reply: &mut [u64],
+)
+    ensures { λ _. ⌜ (now (table .exit), now (reply .exit)) ≡ list-left (now (corners .entry)) (now (cells .entry)) (now (doors .entry)) setting (Offset corner dx dy) (now (table .entry)) (now (reply .entry)) ⌝ }
+{
+    if reply.len() < 5 {
+        return;
+    }
+    let answer = sight::list::list(
+        corners,
+        cells,
+        doors,
+        setting,
+        Stand::Offset(corner, dx, dy),
+        table,
+    );
+    reply::put_listed(reply, answer);
+}
+
+// The door change from a point: the given list, the door and its wished state; the values are row count and crossings.
+#[no_mangle]
+pub extern "C" fn manopluea_change_point(
+    corners: &[i32],
+    cells: &[u16],
+    doors: &[u16],
+    setting: u64,
+    x: f64,
+    y: f64,
+    given: &[u16],
+    door: usize,
+    shut: bool,
+    table: &mut [u16],
+    reply: &mut [u64],
+)
+    ensures { λ _. ⌜ (now (table .exit), now (reply .exit)) ≡ change-left (now (corners .entry)) (now (cells .entry)) (now (doors .entry)) setting (Point x y) (now (given .entry)) door shut (now (table .entry)) (now (reply .entry)) ⌝ }
+{
+    if reply.len() < 5 {
+        return;
+    }
+    let answer = doors::change(
+        corners,
+        cells,
+        doors,
+        setting,
+        Stand::Point(x, y),
+        given,
+        door,
+        shut,
+        table,
+    );
+    reply::put_listed(reply, answer);
+}
+
+// The door change from an offset.
+#[no_mangle]
+pub extern "C" fn manopluea_change_offset(
+    corners: &[i32],
+    cells: &[u16],
+    doors: &[u16],
+    setting: u64,
+    corner: u16,
+    dx: f64,
+    dy: f64,
+    given: &[u16],
+    door: usize,
+    shut: bool,
+    table: &mut [u16],
+    reply: &mut [u64],
+)
+    ensures { λ _. ⌜ (now (table .exit), now (reply .exit)) ≡ change-left (now (corners .entry)) (now (cells .entry)) (now (doors .entry)) setting (Offset corner dx dy) (now (given .entry)) door shut (now (table .entry)) (now (reply .entry)) ⌝ }
+{
+    if reply.len() < 5 {
+        return;
+    }
+    let answer = doors::change(
+        corners,
+        cells,
+        doors,
+        setting,
+        Stand::Offset(corner, dx, dy),
+        given,
+        door,
+        shut,
+        table,
+    );
+    reply::put_listed(reply, answer);
+}

@@ -1,0 +1,134 @@
+/* The proved library: the public calls of document 01 for C and every language that speaks its calling convention.
+ *
+ * `rt staticlib exports` writes target/staticlib/libexports.a, for x86-64 Linux. It needs memcpy and memset, and nothing else.
+ *
+ * Lists. A list passes as a pointer and a length in numbers, not bytes. The pointer is not null, also where the length is 0, and is
+ * aligned for its type. Memory that a call may write to (no `const`) overlaps nothing else that is passed to the call. This is all that a
+ * caller has to keep: no list, number or setting is wrong input, and every call returns.
+ *
+ *   corners  two numbers a corner: x, y, in millimetres
+ *   cells    six numbers a cell: three corner numbers, then three neighbours; 65535 means wall
+ *   doors    one number a door: a face, which is 3*cell + side
+ *
+ * Reply. Five numbers: reply[0] number, reply[1] place, reply[2..4] up to three values; those that a call has no use for are 0. On a
+ * refusal the three values are 0. Numbers beyond the five keep their values. Where reply_length is below 5, the call does nothing at
+ * all: no lent memory is touched, the reply neither.
+ *
+ *    number       when                                                                                            place
+ *    0            done                                                                                            0
+ *    1 FRAME      not the three records, or a body not a multiple of 8, 12, 2; lists not multiples of 2, 6, 1      0
+ *    2 SIZE       a count outside the limits: 3 to 2048 corners, 1 to 3000 cells, 0 to 64 doors                    0
+ *    3 CORNER     a coordinate outside -536870912 to 536870912                                                    least corner
+ *    4 CELL       a wrong cell: a corner number that does not exist, or a side value that is not positive          least cell
+ *    5 NEIGHBOUR  a wrong neighbour: neither wall, nor a cell with a side that answers                             least face
+ *    6 DOOR       a wrong door: its face does not exist or is wall, or an earlier door names the same line         least door
+ *    7 SETTING    a bit at or above the door count                                                                0
+ *    8 STAND      number or corner not accepted                                                                   0
+ *    9 LINE       strictly inside no cell, on some cell's border                                                  0
+ *   10 OUTSIDE    inside or on no cell                                                                            0
+ *   11 ROOM       table shorter than 3*corners numbers (listing); bytes shorter than the file (writer); any list
+ *                 shorter than its numbers (reader)                                                               0
+ *
+ * The lowest number that applies is the reply. A refusal returns its number and place only, and every lent table, list and file keeps its
+ * contents. On 0, numbers and bytes beyond those written keep their old values. Each call checks its plan anew.
+ *
+ * Each promise below is proved: crates/exports/specs/Reply.antt defines what a call leaves in the lent memory and in the reply as a
+ * function of its input, and the call's contract says that it leaves exactly that.
+ */
+#ifndef MANOPLUEA_H
+#define MANOPLUEA_H
+
+#include <stdbool.h>
+#include <stddef.h>
+#include <stdint.h>
+
+#ifdef __cplusplus
+extern "C" {
+#endif
+
+/* The numbers of a reply. */
+#define MANOPLUEA_REPLY 5
+
+/* The plan check. Replies 0 to 6. On 0 the values are the counts of corners, cells and doors. Writes to the reply only. */
+void manopluea_check(const int32_t *corners, size_t corners_length,
+                     const uint16_t *cells, size_t cells_length,
+                     const uint16_t *doors, size_t doors_length,
+                     uint64_t *reply, size_t reply_length);
+
+/* The reader. Replies 0 to 6 and 11. On 0 the values are the counts of corners, cells and doors, and the three lists hold the numbers of
+ * the file from their beginnings on: 2*corners, 6*cells and doors of them. Writing them again gives the same bytes. */
+void manopluea_read(const uint8_t *file, size_t file_length,
+                    int32_t *corners, size_t corners_length,
+                    uint16_t *cells, size_t cells_length,
+                    uint16_t *doors, size_t doors_length,
+                    uint64_t *reply, size_t reply_length);
+
+/* The writer. Replies 0 to 6 and 11. On 0 the values are the counts of corners, cells and doors, and the file holds the one file of the
+ * three lists from its beginning on: 18 + 8*corners + 12*cells + 2*doors bytes. Reading it returns those lists. */
+void manopluea_write(const int32_t *corners, size_t corners_length,
+                     const uint16_t *cells, size_t cells_length,
+                     const uint16_t *doors, size_t doors_length,
+                     uint8_t *file, size_t file_length,
+                     uint64_t *reply, size_t reply_length);
+
+/* Finding. Replies 0 to 6 and 8 to 10. On 0 the first value is the stand's cell: the least-numbered cell that holds it strictly inside.
+ * Writes to the reply only.
+ *
+ * The stand is a point, or an offset from a corner, in millimetres. A number is accepted exactly when it is a whole number of millimetres
+ * within the coordinate limits; minus zero reads as 0. For an offset the corner must exist, and the sums must also lie within the limits. */
+void manopluea_find_point(const int32_t *corners, size_t corners_length,
+                          const uint16_t *cells, size_t cells_length,
+                          const uint16_t *doors, size_t doors_length,
+                          double x, double y,
+                          uint64_t *reply, size_t reply_length);
+
+void manopluea_find_offset(const int32_t *corners, size_t corners_length,
+                           const uint16_t *cells, size_t cells_length,
+                           const uint16_t *doors, size_t doors_length,
+                           uint16_t corner, double dx, double dy,
+                           uint64_t *reply, size_t reply_length);
+
+/* The listing. Replies 0 to 11. On 0 the first two values are row count and crossings, and the table holds three numbers a row from its
+ * beginning on: face (on the side seen), right limit, left limit. Rows never outnumber corners.
+ *
+ * Bit i of the setting is one while door i is shut; both faces of a shut door count as wall. The stand is as for finding. */
+void manopluea_list_point(const int32_t *corners, size_t corners_length,
+                          const uint16_t *cells, size_t cells_length,
+                          const uint16_t *doors, size_t doors_length,
+                          uint64_t setting, double x, double y,
+                          uint16_t *table, size_t table_length,
+                          uint64_t *reply, size_t reply_length);
+
+void manopluea_list_offset(const int32_t *corners, size_t corners_length,
+                           const uint16_t *cells, size_t cells_length,
+                           const uint16_t *doors, size_t doors_length,
+                           uint64_t setting, uint16_t corner, double dx, double dy,
+                           uint16_t *table, size_t table_length,
+                           uint64_t *reply, size_t reply_length);
+
+/* The door change. Replies 0 to 13. The given list is the one that is true under the setting, three numbers a row; a list that differs from it in
+ * length or any number is refused with 13, and a door that does not exist or is already as wished with 12. On 0 the values and the table are
+ * those of the listing with that door shut or open as wished. The given list and the table do not overlap. */
+void manopluea_change_point(const int32_t *corners, size_t corners_length,
+                            const uint16_t *cells, size_t cells_length,
+                            const uint16_t *doors, size_t doors_length,
+                            uint64_t setting, double x, double y,
+                            const uint16_t *given, size_t given_length,
+                            size_t door, bool shut,
+                            uint16_t *table, size_t table_length,
+                            uint64_t *reply, size_t reply_length);
+
+void manopluea_change_offset(const int32_t *corners, size_t corners_length,
+                             const uint16_t *cells, size_t cells_length,
+                             const uint16_t *doors, size_t doors_length,
+                             uint64_t setting, uint16_t corner, double dx, double dy,
+                             const uint16_t *given, size_t given_length,
+                             size_t door, bool shut,
+                             uint16_t *table, size_t table_length,
+                             uint64_t *reply, size_t reply_length);
+
+#ifdef __cplusplus
+}
+#endif
+
+#endif

@@ -1,0 +1,125 @@
+/* The proved library behind a pipe, for machines that its archive is not made for: built for x86-64 and run under the kit's emulator.
+ * It reads requests from standard input and writes what each call leaves to standard output, until the input ends.
+ *
+ * A request is fourteen numbers of eight bytes, call, setting, corner, x, y, door, shut and the lengths of reply, corners, cells, doors, given,
+ * table and file, then the contents of those seven lists, back to back. The answer is the seven lists after the call. */
+#include "../../include/manopluea.h"
+
+enum { CHECK, READ, WRITE, FIND_POINT, FIND_OFFSET, LIST_POINT, LIST_OFFSET, CHANGE_POINT, CHANGE_OFFSET };
+
+static _Alignas(8) uint8_t lists[1 << 21];
+
+static long system_call(long number, long a, const void *b, size_t c)
+{
+    long result;
+    __asm__ volatile("syscall" : "=a"(result) : "a"(number), "D"(a), "S"(b), "d"(c) : "rcx", "r11", "memory");
+    return result;
+}
+
+static _Noreturn void leave(long status)
+{
+    for (;;)
+        system_call(231, status, 0, 0);
+}
+
+static void receive(void *to, size_t length)
+{
+    uint8_t *at = to;
+    while (length) {
+        long got = system_call(0, 0, at, length);
+        if (got <= 0)
+            leave(got < 0);
+        at += got;
+        length -= (size_t)got;
+    }
+}
+
+static void send(const void *from, size_t length)
+{
+    const uint8_t *at = from;
+    while (length) {
+        long sent = system_call(1, 1, at, length);
+        if (sent <= 0)
+            leave(1);
+        at += sent;
+        length -= (size_t)sent;
+    }
+}
+
+/* What the archive needs of the C library. */
+void *memcpy(void *to, const void *from, size_t length)
+{
+    void *start = to;
+    __asm__ volatile("rep movsb" : "+D"(to), "+S"(from), "+c"(length) : : "memory");
+    return start;
+}
+
+void *memset(void *to, int byte, size_t length)
+{
+    void *start = to;
+    __asm__ volatile("rep stosb" : "+D"(to), "+c"(length) : "a"(byte) : "memory");
+    return start;
+}
+
+static void serve_one(void)
+{
+    struct {
+        uint64_t call, setting, corner;
+        double x, y;
+        uint64_t door, shut, reply, corners, cells, doors, given, table, file;
+    } asked;
+    receive(&asked, sizeof asked);
+    size_t r = asked.reply, n = asked.corners, m = asked.cells, k = asked.doors, g = asked.given, t = asked.table, f = asked.file;
+    if ((r | n | m | k | g | t | f) >> 32 || 8 * r + 4 * n + 2 * (m + k + g + t) + f > sizeof lists)
+        leave(2);
+    /* the widest numbers come first, so each list is aligned */
+    uint64_t *reply = (uint64_t *)lists;
+    int32_t *corners = (int32_t *)(reply + r);
+    uint16_t *cells = (uint16_t *)(corners + n), *doors = cells + m, *given = doors + k, *table = given + g;
+    uint8_t *file = (uint8_t *)(table + t);
+    size_t length = (size_t)(file + f - lists);
+    uint16_t corner = (uint16_t)asked.corner;
+    receive(lists, length);
+    switch (asked.call) {
+    case CHECK:
+        manopluea_check(corners, n, cells, m, doors, k, reply, r);
+        break;
+    case READ:
+        manopluea_read(file, f, corners, n, cells, m, doors, k, reply, r);
+        break;
+    case WRITE:
+        manopluea_write(corners, n, cells, m, doors, k, file, f, reply, r);
+        break;
+    case FIND_POINT:
+        manopluea_find_point(corners, n, cells, m, doors, k, asked.x, asked.y, reply, r);
+        break;
+    case FIND_OFFSET:
+        manopluea_find_offset(corners, n, cells, m, doors, k, corner, asked.x, asked.y, reply, r);
+        break;
+    case LIST_POINT:
+        manopluea_list_point(corners, n, cells, m, doors, k, asked.setting, asked.x, asked.y, table, t, reply, r);
+        break;
+    case LIST_OFFSET:
+        manopluea_list_offset(corners, n, cells, m, doors, k, asked.setting, corner, asked.x, asked.y, table, t, reply, r);
+        break;
+    case CHANGE_POINT:
+        manopluea_change_point(corners, n, cells, m, doors, k, asked.setting, asked.x, asked.y, given, g, asked.door, asked.shut, table, t, reply, r);
+        break;
+    case CHANGE_OFFSET:
+        manopluea_change_offset(corners, n, cells, m, doors, k, asked.setting, corner, asked.x, asked.y, given, g, asked.door, asked.shut, table, t,
+                                reply, r);
+        break;
+    default:
+        leave(3);
+    }
+    send(lists, length);
+}
+
+static _Noreturn __attribute__((used)) void serve(void)
+{
+    for (;;)
+        serve_one();
+}
+
+/* The stack is aligned as a called function expects it. */
+__asm__(".globl _start\n_start:\n\tandq $-16, %rsp\n\tcall serve\n");

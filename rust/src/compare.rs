@@ -1,0 +1,149 @@
+//! The comparison of two implementors of the public calls over a seeded run.
+
+mod show;
+mod shrink;
+mod trial;
+
+pub use shrink::smallest;
+pub use trial::{Asked, AskedOfBytes, Both, Trial};
+
+use crate::calls::Calls;
+use crate::generate::{self, Case};
+use std::fmt;
+
+/// How often each reply number came up, for each call.
+#[derive(Clone, Debug, Default, PartialEq, Eq)]
+pub struct Tally {
+    pub cases: u64,
+    /// By call, then by reply number.
+    pub replies: [[u64; 14]; 7],
+    /// Directions tried for demand 2, those that meet a corner left out.
+    pub directions: u64,
+    /// Door changes tried for demand 3.
+    pub changes: u64,
+    pub rows: u64,
+    pub crossings: u64,
+}
+
+/// The public calls, in the order of the tally.
+#[derive(Clone, Copy, Debug)]
+pub enum Call {
+    Check,
+    Read,
+    Write,
+    Find,
+    List,
+    Change,
+    Print,
+}
+
+const CALL_NAMES: [&str; 7] = ["check", "read", "write", "find", "list", "change", "print"];
+
+impl Tally {
+    pub fn count(&mut self, call: Call, number: u32) {
+        // A number the paper does not know is a mismatch, or both agree on
+        // it; the tally has no place for it.
+        if let Some(count) = self.replies[call as usize].get_mut(number as usize) {
+            *count += 1;
+        }
+    }
+
+    /// How often a reply number came up in any call.
+    pub fn of_number(&self, number: usize) -> u64 {
+        self.replies.iter().map(|replies| replies[number]).sum()
+    }
+}
+
+impl fmt::Display for Tally {
+    fn fmt(&self, f: &mut fmt::Formatter<'_>) -> fmt::Result {
+        write!(f, "{:>6}", "reply")?;
+        CALL_NAMES
+            .iter()
+            .try_for_each(|name| write!(f, "{name:>9}"))?;
+        writeln!(f, "{:>9}", "all")?;
+        for number in 0..14 {
+            write!(f, "{number:>6}")?;
+            for replies in &self.replies {
+                write!(f, "{:>9}", replies[number])?;
+            }
+            writeln!(f, "{:>9}", self.of_number(number))?;
+        }
+        writeln!(f, "cases {}", self.cases)?;
+        writeln!(f, "rows {} crossings {}", self.rows, self.crossings)?;
+        writeln!(f, "demand 2: {} directions", self.directions)?;
+        writeln!(f, "demand 3: {} door changes", self.changes)
+    }
+}
+
+/// A trial that failed, as small as it could be made.
+#[derive(Debug)]
+pub struct Mismatch {
+    pub case: u64,
+    pub trial: Trial,
+    pub fault: String,
+}
+
+impl fmt::Display for Mismatch {
+    fn fmt(&self, f: &mut fmt::Formatter<'_>) -> fmt::Result {
+        writeln!(f, "mismatch in case {}, made smaller:", self.case)?;
+        writeln!(f, "{}", self.trial)?;
+        writeln!(f, "{}", self.fault)
+    }
+}
+
+/// Runs the cases of a seed through both implementors, and stops at the first
+/// mismatch.
+pub fn compare(
+    left: &dyn Calls,
+    right: &dyn Calls,
+    seed: u64,
+    count: u64,
+) -> Result<Tally, Box<Mismatch>> {
+    let both = Both { left, right };
+    let mut tally = Tally::default();
+    for number in 0..count {
+        for trial in trials(generate::case(seed, number)) {
+            if trial.run(both, &mut tally).is_err() {
+                return Err(mismatch(both, number, trial));
+            }
+        }
+        tally.cases += 1;
+    }
+    Ok(tally)
+}
+
+fn mismatch(both: Both<'_>, case: u64, trial: Trial) -> Box<Mismatch> {
+    let run = |trial: &Trial| trial.run(both, &mut Tally::default());
+    let trial = smallest(trial, |smaller| run(smaller).is_err());
+    let fault = run(&trial).expect_err("a trial is only made smaller while it fails");
+    Box::new(Mismatch { case, trial, fault })
+}
+
+/// What a case asks: each call once, and the demands.
+fn trials(case: Case) -> Vec<Trial> {
+    let of_lists = [
+        Asked::Check,
+        Asked::Write { bytes: case.bytes },
+        Asked::Find,
+        Asked::List { table: case.table },
+        Asked::Change {
+            shut: case.shut,
+            given: case.given,
+            table: case.table,
+        },
+        Asked::RoundTrip,
+        Asked::Demand2 {
+            directions: case.directions,
+        },
+        Asked::Demand3,
+    ];
+    let of_bytes = [
+        Trial::Bytes(case.file, AskedOfBytes::Read { lists: case.lists }),
+        Trial::Bytes(case.input, AskedOfBytes::Print),
+    ];
+    of_lists
+        .into_iter()
+        .map(|asked| Trial::Lists(case.scene.clone(), asked))
+        .chain(of_bytes)
+        .collect()
+}

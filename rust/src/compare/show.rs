@@ -1,0 +1,30 @@
+//! A trial in words, so that it can be tried by hand.
+
+use super::{Asked, AskedOfBytes, Trial};
+use std::fmt;
+
+impl fmt::Display for Trial {
+    fn fmt(&self, f: &mut fmt::Formatter<'_>) -> fmt::Result {
+        match self {
+            Trial::Lists(scene, asked) => {
+                writeln!(f, "corners {:?}", scene.plan.corners)?;
+                writeln!(f, "cells {:?}", scene.plan.cells)?;
+                writeln!(f, "doors {:?}", scene.plan.doors)?;
+                writeln!(f, "setting {:#x}", scene.setting)?;
+                writeln!(f, "stand {:?}", scene.stand)?;
+                if matches!(asked, Asked::Change { .. } | Asked::Demand3) {
+                    writeln!(f, "door {}", scene.door)?;
+                }
+                write!(f, "asked {asked:?}")
+            }
+            Trial::Bytes(bytes, asked) => {
+                let hex: Vec<String> = bytes.iter().map(|byte| format!("{byte:02x}")).collect();
+                writeln!(f, "{} bytes: {}", bytes.len(), hex.join(" "))?;
+                match asked {
+                    AskedOfBytes::Read { lists } => write!(f, "asked to read into {lists:?}"),
+                    AskedOfBytes::Print => write!(f, "asked to print"),
+                }
+            }
+        }
+    }
+}

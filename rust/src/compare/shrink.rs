@@ -1,0 +1,348 @@
+//! Making a failing trial smaller while it still fails.
+
+use super::{Asked, AskedOfBytes, Trial};
+use crate::calls::Stand;
+use crate::generate::{query_record, Given, Room, Scene};
+use crate::paper::{self, WALL};
+
+/// A trial that fails is run again so often at most.
+const MOST_RUNS: usize = 40_000;
+
+/// The smallest trial found that still fails.
+pub fn smallest(mut trial: Trial, fails: impl Fn(&Trial) -> bool) -> Trial {
+    let mut runs = 0;
+    let mut still_fails = |smaller: &Trial| {
+        runs += 1;
+        runs <= MOST_RUNS && fails(smaller)
+    };
+    loop {
+        let found = smaller_trials(&trial).find(&mut still_fails);
+        match found {
+            Some(smaller) => trial = smaller,
+            None => return trial,
+        }
+    }
+}
+
+/// Smaller trials, those that leave out most first. Each has fewer parts, or
+/// numbers nearer to zero, so that this comes to an end.
+fn smaller_trials(trial: &Trial) -> Box<dyn Iterator<Item = Trial> + '_> {
+    match trial {
+        Trial::Lists(scene, asked) => Box::new(
+            smaller_scenes(scene.clone())
+                .map(|scene| Trial::Lists(scene, asked.clone()))
+                .chain(
+                    simpler_asked(asked)
+                        .into_iter()
+                        .map(|asked| Trial::Lists(scene.clone(), asked)),
+                ),
+        ),
+        Trial::Bytes(bytes, asked) => Box::new(
+            smaller_inputs(bytes, asked)
+                .chain(smaller_bytes(bytes))
+                .map(|bytes| Trial::Bytes(bytes, asked.clone()))
+                .chain(
+                    simpler_asked_of_bytes(asked)
+                        .into_iter()
+                        .map(|asked| Trial::Bytes(bytes.clone(), asked)),
+                ),
+        ),
+    }
+}
+
+fn simpler_asked(asked: &Asked) -> Vec<Asked> {
+    match asked {
+        Asked::Write { bytes } if *bytes != Room::Exact => {
+            vec![Asked::Write { bytes: Room::Exact }]
+        }
+        Asked::List { table } if *table != Room::Exact => vec![Asked::List { table: Room::Exact }],
+        &Asked::Change { shut, given, table } => {
+            let change = |given, table| Asked::Change { shut, given, table };
+            let mut simpler = Vec::new();
+            if given != Given::True {
+                simpler.push(change(Given::True, table));
+            }
+            if table != Room::Exact {
+                simpler.push(change(given, Room::Exact));
+            }
+            simpler
+        }
+        Asked::Demand2 { directions } if directions.len() > 1 => directions
+            .iter()
+            .map(|&d| Asked::Demand2 {
+                directions: vec![d],
+            })
+            .collect(),
+        _ => Vec::new(),
+    }
+}
+
+fn simpler_asked_of_bytes(asked: &AskedOfBytes) -> Vec<AskedOfBytes> {
+    match *asked {
+        AskedOfBytes::Read { lists } => (0..3)
+            .filter(|&i| lists[i] != Room::Exact)
+            .map(|i| {
+                let mut lists = lists;
+                lists[i] = Room::Exact;
+                AskedOfBytes::Read { lists }
+            })
+            .collect(),
+        AskedOfBytes::Print => Vec::new(),
+    }
+}
+
+/// One way to make a scene smaller.
+#[derive(Clone, Copy)]
+enum Step {
+    /// Leave out the cells, or the doors, from one number up to another.
+    DropCells(usize, usize),
+    DropDoors(usize, usize),
+    /// Leave out a corner that is in no cell.
+    DropCorner(usize),
+    ClearBit(u32),
+    /// Move the whole scene by these numbers, or divide it by one.
+    MoveBack([i64; 2]),
+    Divide(i64),
+    /// Give a coordinate, or a number of the stand, another value.
+    SetCoordinate(usize, i32),
+    SetStand(f64, f64),
+    /// Leave out the last number of a list, which then may not be whole.
+    ShortenCorners,
+    ShortenCells,
+    ShortenDoors,
+}
+
+fn smaller_scenes(scene: Scene) -> impl Iterator<Item = Scene> {
+    steps(&scene)
+        .into_iter()
+        .map(move |step| take_step(&scene, step))
+}
+
+fn steps(scene: &Scene) -> Vec<Step> {
+    let plan = &scene.plan;
+    let mut steps: Vec<Step> = blocks(plan.cells.len() / 6)
+        .map(|(from, to)| Step::DropCells(from, to))
+        .collect();
+    steps.extend(blocks(plan.doors.len()).map(|(from, to)| Step::DropDoors(from, to)));
+    steps.extend(unused_corners(scene).map(Step::DropCorner));
+    steps.extend(
+        (0..64)
+            .filter(|bit| scene.setting >> bit & 1 == 1)
+            .map(Step::ClearBit),
+    );
+    steps.extend(nearer_to_zero(scene));
+    steps.extend(simpler_coordinates(scene));
+    steps.extend(simpler_stands(scene));
+    if !plan.corners.is_empty() {
+        steps.push(Step::ShortenCorners);
+    }
+    if !plan.cells.is_empty() {
+        steps.push(Step::ShortenCells);
+    }
+    if !plan.doors.is_empty() {
+        steps.push(Step::ShortenDoors);
+    }
+    steps
+}
+
+fn take_step(scene: &Scene, step: Step) -> Scene {
+    let mut smaller = scene.clone();
+    match step {
+        Step::DropCells(from, to) => drop_cells(&mut smaller, from, to),
+        Step::DropDoors(from, to) => drop_doors(&mut smaller, from, to),
+        Step::DropCorner(corner) => drop_corner(&mut smaller, corner),
+        Step::ClearBit(bit) => smaller.setting &= !(1 << bit),
+        Step::MoveBack(by) => map_scene(&mut smaller, |n, axis| n - by[axis]),
+        Step::Divide(by) => map_scene(&mut smaller, |n, _| n / by),
+        Step::SetCoordinate(at, new) => smaller.plan.corners[at] = new,
+        Step::SetStand(x, y) => {
+            smaller.stand = match scene.stand {
+                Stand::Point(..) => Stand::Point(x, y),
+                Stand::Offset(corner, ..) => Stand::Offset(corner, x, y),
+            }
+        }
+        Step::ShortenCorners => smaller.plan.corners.truncate(scene.plan.corners.len() - 1),
+        Step::ShortenCells => smaller.plan.cells.truncate(scene.plan.cells.len() - 1),
+        Step::ShortenDoors => smaller.plan.doors.truncate(scene.plan.doors.len() - 1),
+    }
+    smaller
+}
+
+/// Parts of a list to leave out: halves, quarters, and so on down to one.
+fn blocks(count: usize) -> impl Iterator<Item = (usize, usize)> {
+    let sizes = std::iter::successors(Some(count.div_ceil(2)), |size| {
+        (*size > 1).then(|| size.div_ceil(2))
+    });
+    sizes.flat_map(move |size| {
+        (0..count)
+            .step_by(size.max(1))
+            .map(move |from| (from, count.min(from + size)))
+    })
+}
+
+/// Lines to the cells that go become walls, and doors on those lines go too.
+fn drop_cells(scene: &mut Scene, from: usize, to: usize) {
+    let gone = |cell: u16| (from..to).contains(&usize::from(cell));
+    let by = (to - from) as u16;
+    let doors = scene.plan.doors.iter().enumerate().rev();
+    let lost: Vec<usize> = doors
+        .filter(|(_, &face)| {
+            let at = 6 * usize::from(face / 3) + 3 + usize::from(face % 3);
+            gone(face / 3) || scene.plan.cells.get(at).is_some_and(|&there| gone(there))
+        })
+        .map(|(door, _)| door)
+        .collect();
+    for door in lost {
+        drop_doors(scene, door, door + 1);
+    }
+    for face in &mut scene.plan.doors {
+        if usize::from(*face / 3) >= to {
+            *face -= 3 * by;
+        }
+    }
+    scene.plan.cells.drain(6 * from..6 * to);
+    for neighbour in scene
+        .plan
+        .cells
+        .chunks_mut(6)
+        .flat_map(|c| c.iter_mut().skip(3))
+    {
+        if gone(*neighbour) {
+            *neighbour = WALL;
+        } else if *neighbour != WALL && usize::from(*neighbour) >= to {
+            *neighbour -= by;
+        }
+    }
+}
+
+/// The doors go, and their bits of the setting.
+fn drop_doors(scene: &mut Scene, from: usize, to: usize) {
+    scene.plan.doors.drain(from..to);
+    let bits = |n: usize| u64::MAX.checked_shl(n as u32).unwrap_or(0);
+    let above = (scene.setting & bits(to)).checked_shr((to - from) as u32);
+    scene.setting = scene.setting & !bits(from) | above.unwrap_or(0);
+    if scene.door >= to {
+        scene.door -= to - from;
+    }
+}
+
+fn unused_corners(scene: &Scene) -> impl Iterator<Item = usize> {
+    let mut used = vec![false; scene.plan.corners.len() / 2];
+    for corner in scene.plan.cells.chunks(6).flat_map(|c| c.iter().take(3)) {
+        if let Some(used) = used.get_mut(usize::from(*corner)) {
+            *used = true;
+        }
+    }
+    (0..used.len()).rev().filter(move |&corner| !used[corner])
+}
+
+fn drop_corner(scene: &mut Scene, corner: usize) {
+    let moved = |old: u16| old - u16::from(usize::from(old) > corner);
+    scene.plan.corners.drain(2 * corner..2 * corner + 2);
+    for number in scene
+        .plan
+        .cells
+        .chunks_mut(6)
+        .flat_map(|c| c.iter_mut().take(3))
+    {
+        *number = moved(*number);
+    }
+    if let Stand::Offset(from, dx, dy) = scene.stand {
+        scene.stand = Stand::Offset(moved(from), dx, dy);
+    }
+}
+
+/// The whole scene moved so that its least coordinates are zero, or divided.
+fn nearer_to_zero(scene: &Scene) -> Vec<Step> {
+    let corners = &scene.plan.corners;
+    let least = [0, 1].map(|axis| {
+        let along = corners.iter().skip(axis).step_by(2);
+        along.copied().min().map_or(0, i64::from)
+    });
+    let mut steps = Vec::new();
+    if least != [0, 0] {
+        steps.push(Step::MoveBack(least));
+    }
+    for by in [1_000, 10, 2] {
+        if corners.iter().any(|&n| i64::from(n).abs() >= by) {
+            steps.push(Step::Divide(by));
+        }
+    }
+    steps
+}
+
+/// Maps every coordinate, and the stand where it is a point of whole numbers.
+fn map_scene(scene: &mut Scene, map: impl Fn(i64, usize) -> i64) {
+    for (i, number) in scene.plan.corners.iter_mut().enumerate() {
+        *number = map(i64::from(*number), i % 2) as i32;
+    }
+    if let Stand::Point(x, y) = scene.stand {
+        // Beyond this no double has a fraction, nor is any within the limits.
+        let whole = |n: f64| n.fract() == 0.0 && n.abs() < (1u64 << 53) as f64;
+        if whole(x) && whole(y) {
+            scene.stand = Stand::Point(map(x as i64, 0) as f64, map(y as i64, 1) as f64);
+        }
+    }
+}
+
+/// One coordinate zero, or half as far from zero.
+fn simpler_coordinates(scene: &Scene) -> Vec<Step> {
+    let corners = scene.plan.corners.iter().enumerate();
+    corners
+        .filter(|(_, &n)| n != 0)
+        .flat_map(|(at, &n)| [Step::SetCoordinate(at, 0), Step::SetCoordinate(at, n / 2)])
+        .collect()
+}
+
+/// One number of the stand zero, or half as far from zero.
+fn simpler_stands(scene: &Scene) -> Vec<Step> {
+    let (Stand::Point(x, y) | Stand::Offset(_, x, y)) = scene.stand;
+    let simpler = |n: f64| {
+        let zero = (n != 0.0).then_some(0.0);
+        let half = (n.is_finite() && n.abs() >= 2.0).then(|| (n / 2.0).trunc());
+        [zero, half].into_iter().flatten()
+    };
+    simpler(x)
+        .map(|x| Step::SetStand(x, y))
+        .chain(simpler(y).map(|y| Step::SetStand(x, y)))
+        .collect()
+}
+
+/// Inputs whose records are sound, made smaller as scenes.
+fn smaller_inputs(bytes: &[u8], asked: &AskedOfBytes) -> Box<dyn Iterator<Item = Vec<u8>>> {
+    let scenes = |setting, stand, file: &[u8]| {
+        let plan = paper::decode(file).ok()?;
+        Some(smaller_scenes(Scene {
+            plan,
+            setting,
+            stand,
+            door: 0,
+        }))
+    };
+    match asked {
+        AskedOfBytes::Read { .. } => {
+            let scenes = scenes(0, Stand::Point(0.0, 0.0), bytes);
+            let files = scenes.into_iter().flatten();
+            Box::new(files.map(|scene| paper::encode(scene.plan.lists())))
+        }
+        AskedOfBytes::Print => {
+            let scenes =
+                paper::query(bytes).and_then(|(setting, stand, file)| scenes(setting, stand, file));
+            Box::new(scenes.into_iter().flatten().map(|scene| {
+                let query = query_record(scene.setting, scene.stand);
+                [query, paper::encode(scene.plan.lists())].concat()
+            }))
+        }
+    }
+}
+
+/// Bytes left out, or made zero.
+fn smaller_bytes(bytes: &[u8]) -> impl Iterator<Item = Vec<u8>> + '_ {
+    let fewer = blocks(bytes.len()).map(|(from, to)| [&bytes[..from], &bytes[to..]].concat());
+    let not_zero = (0..bytes.len()).filter(|&at| bytes[at] != 0);
+    fewer.chain(not_zero.map(|at| {
+        let mut smaller = bytes.to_vec();
+        smaller[at] = 0;
+        smaller
+    }))
+}

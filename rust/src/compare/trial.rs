@@ -1,0 +1,358 @@
+//! One trial: something asked of both implementors, and what must hold of
+//! their answers.
+
+use super::{Call, Tally};
+use crate::calls::{Calls, Plan, Reply};
+use crate::generate::{Given, Room, Scene};
+use crate::paper::{self, Direction, Floor, Listing, Paper, Row, View};
+use std::fmt::Debug;
+
+/// What is asked about a scene.
+#[derive(Clone, Debug)]
+pub enum Asked {
+    Check,
+    Write {
+        bytes: Room,
+    },
+    Find,
+    List {
+        table: Room,
+    },
+    Change {
+        shut: bool,
+        given: Given,
+        table: Room,
+    },
+    /// What is written and read again is what was written.
+    RoundTrip,
+    /// Every direction is held by one row, and walks to its face.
+    Demand2 {
+        directions: Vec<Direction>,
+    },
+    /// A door change is a listing under the new setting.
+    Demand3,
+}
+
+/// What is asked about bytes.
+#[derive(Clone, Debug)]
+pub enum AskedOfBytes {
+    Read { lists: [Room; 3] },
+    Print,
+}
+
+#[derive(Clone, Debug)]
+pub enum Trial {
+    Lists(Scene, Asked),
+    Bytes(Vec<u8>, AskedOfBytes),
+}
+
+/// The two implementors compared.
+#[derive(Clone, Copy)]
+pub struct Both<'a> {
+    pub left: &'a dyn Calls,
+    pub right: &'a dyn Calls,
+}
+
+/// Nothing, or what went wrong.
+pub type Outcome = Result<(), String>;
+
+impl Both<'_> {
+    /// The answer of both implementors, if it is the same.
+    fn ask<T: PartialEq + Debug>(self, ask: impl Fn(&dyn Calls) -> T) -> Result<T, String> {
+        same(ask(self.left), ask(self.right))
+    }
+
+    /// The same for a call that an implementor may lack: nothing is compared
+    /// where one of them does.
+    fn ask_if_both<T: PartialEq + Debug>(
+        self,
+        ask: impl Fn(&dyn Calls) -> Option<T>,
+    ) -> Result<Option<T>, String> {
+        match (ask(self.left), ask(self.right)) {
+            (Some(left), Some(right)) => same(left, right).map(Some),
+            _ => Ok(None),
+        }
+    }
+}
+
+fn same<T: PartialEq + Debug>(left: T, right: T) -> Result<T, String> {
+    if left == right {
+        Ok(left)
+    } else {
+        Err(format!("left:  {left:?}\nright: {right:?}"))
+    }
+}
+
+impl Trial {
+    pub fn run(&self, both: Both<'_>, tally: &mut Tally) -> Outcome {
+        match self {
+            Trial::Lists(scene, asked) => run_scene(scene, asked, both, tally),
+            Trial::Bytes(bytes, asked) => run_bytes(bytes, asked, both, tally),
+        }
+    }
+}
+
+fn run_scene(scene: &Scene, asked: &Asked, both: Both<'_>, tally: &mut Tally) -> Outcome {
+    let lists = scene.plan.lists();
+    match asked {
+        Asked::Check => {
+            let reply = both.ask(|calls| calls.check(lists))?;
+            tally.count(Call::Check, reply.number);
+        }
+        Asked::Write { bytes } => {
+            let room = bytes.length(paper::encode(lists).len());
+            let (reply, _) = both.ask(|calls| write(calls, &scene.plan, room))?;
+            tally.count(Call::Write, reply.number);
+        }
+        Asked::Find => {
+            let reply = both.ask(|calls| calls.find(lists, scene.stand))?;
+            tally.count(Call::Find, reply.number);
+        }
+        Asked::List { table } => {
+            let (reply, _) = both.ask(|calls| list(calls, scene, scene.setting, *table))?;
+            tally.count(Call::List, reply.number);
+        }
+        Asked::Change { shut, given, table } => {
+            let given = given.numbers(&true_numbers(scene));
+            let changed = both.ask_if_both(|calls| change(calls, scene, &given, *shut, *table))?;
+            if let Some((reply, _)) = changed {
+                tally.count(Call::Change, reply.number);
+            }
+        }
+        Asked::RoundTrip => round_trip(&scene.plan, both)?,
+        Asked::Demand2 { directions } => demand_2(scene, directions, both, tally)?,
+        Asked::Demand3 => demand_3(scene, both, tally)?,
+    }
+    Ok(())
+}
+
+fn run_bytes(bytes: &[u8], asked: &AskedOfBytes, both: Both<'_>, tally: &mut Tally) -> Outcome {
+    match asked {
+        AskedOfBytes::Read { lists } => {
+            let room = read_room(bytes, lists);
+            let (reply, _) = both.ask(|calls| read(calls, bytes, room))?;
+            tally.count(Call::Read, reply.number);
+        }
+        AskedOfBytes::Print => {
+            if let Some(printed) = both.ask_if_both(|calls| calls.print(bytes).map(text))? {
+                tally.count(Call::Print, printed_number(&printed));
+            }
+        }
+    }
+    Ok(())
+}
+
+/// What lent memory holds before a call: no number is likely to be written
+/// over by the same number.
+fn lent<T>(length: usize, number: impl Fn(u32) -> T) -> Vec<T> {
+    (0..length as u32)
+        .map(|i| number(i.wrapping_mul(2_654_435_761) ^ 0x5a5a_a5a5))
+        .collect()
+}
+
+fn lent_words(length: usize) -> Vec<u16> {
+    lent(length, |number| (number >> 16) as u16)
+}
+
+// Each call below is made with lent memory of a length, and gives back its
+// reply with all that memory after it.
+
+fn write(calls: &dyn Calls, plan: &Plan, room: usize) -> (Reply, Vec<u8>) {
+    let mut file = lent(room, |number| (number >> 24) as u8);
+    (calls.write(plan.lists(), &mut file), file)
+}
+
+fn read(calls: &dyn Calls, file: &[u8], room: [usize; 3]) -> (Reply, Plan) {
+    let mut lists = Plan {
+        corners: lent(room[0], |number| number as i32),
+        cells: lent_words(room[1]),
+        doors: lent_words(room[2]),
+    };
+    let reply = calls.read(file, &mut lists.corners, &mut lists.cells, &mut lists.doors);
+    (reply, lists)
+}
+
+fn list(calls: &dyn Calls, scene: &Scene, setting: u64, room: Room) -> (Reply, Vec<u16>) {
+    let mut table = lent_words(room.length(table_asked(scene)));
+    let reply = calls.list(scene.plan.lists(), setting, scene.stand, &mut table);
+    (reply, table)
+}
+
+fn change(
+    calls: &dyn Calls,
+    scene: &Scene,
+    given: &[u16],
+    shut: bool,
+    room: Room,
+) -> Option<(Reply, Vec<u16>)> {
+    let mut table = lent_words(room.length(table_asked(scene)));
+    let reply = calls.change(
+        scene.plan.lists(),
+        scene.setting,
+        scene.stand,
+        given,
+        scene.door,
+        shut,
+        &mut table,
+    )?;
+    Some((reply, table))
+}
+
+/// The length of the table a listing asks for.
+fn table_asked(scene: &Scene) -> usize {
+    3 * (scene.plan.corners.len() / 2)
+}
+
+/// Lengths of the lent lists; for a broken file, of any small lists.
+fn read_room(file: &[u8], rooms: &[Room; 3]) -> [usize; 3] {
+    let asked = match paper::decode(file) {
+        Ok(plan) => [plan.corners.len(), plan.cells.len(), plan.doors.len()],
+        Err(_) => [8, 12, 2],
+    };
+    [0, 1, 2].map(|i| rooms[i].length(asked[i]))
+}
+
+fn text(printed: Vec<u8>) -> String {
+    String::from_utf8(printed).unwrap_or_else(|fault| format!("not text: {:?}", fault.as_bytes()))
+}
+
+/// The reply number behind what was printed.
+fn printed_number(printed: &str) -> u32 {
+    match printed.strip_prefix("refused ") {
+        Some(rest) => rest
+            .split(' ')
+            .next()
+            .and_then(|number| number.parse().ok())
+            .unwrap_or(u32::MAX),
+        None => 0,
+    }
+}
+
+/// The true list of a scene, as the paper program has it; three zeros where
+/// there is none.
+fn true_numbers(scene: &Scene) -> Vec<u16> {
+    match listing(&Paper, scene, scene.setting) {
+        Ok(listing) => listing.rows.as_flattened().to_vec(),
+        Err(_) => vec![0; 3],
+    }
+}
+
+/// The listing of a scene under a setting of its own, or the refusal's number.
+fn listing(calls: &dyn Calls, scene: &Scene, setting: u64) -> Result<Listing, u32> {
+    listing_of(list(calls, scene, setting, Room::Exact))
+}
+
+fn listing_of((reply, table): (Reply, Vec<u16>)) -> Result<Listing, u32> {
+    if reply.number != 0 {
+        return Err(reply.number);
+    }
+    let (rows, _) = table.as_chunks::<3>();
+    let count = (reply.values[0] as usize).min(rows.len());
+    Ok(Listing {
+        rows: rows[..count].to_vec(),
+        crossings: reply.values[1],
+    })
+}
+
+/// Reading what was written returns the lists, and writing what was read
+/// returns the bytes.
+fn round_trip(plan: &Plan, both: Both<'_>) -> Outcome {
+    let room = paper::encode(plan.lists()).len();
+    let (reply, file) = both.ask(|calls| write(calls, plan, room))?;
+    if reply.number != 0 {
+        return Ok(());
+    }
+    let lengths = [plan.corners.len(), plan.cells.len(), plan.doors.len()];
+    let (_, lists) = both.ask(|calls| read(calls, &file, lengths))?;
+    same(plan, &lists)?;
+    let (_, again) = both.ask(|calls| write(calls, &lists, room))?;
+    same(file, again)?;
+    Ok(())
+}
+
+fn demand_2(scene: &Scene, directions: &[Direction], both: Both<'_>, tally: &mut Tally) -> Outcome {
+    let Ok(listing) = both.ask(|calls| listing(calls, scene, scene.setting))? else {
+        return Ok(());
+    };
+    within_bounds(scene, &listing)?;
+    tally.rows += listing.rows.len() as u64;
+    tally.crossings += listing.crossings;
+    let floor = Floor::check(scene.plan.lists()).map_err(wrongly_listed)?;
+    let view = View::new(&floor, scene.setting, scene.stand).map_err(wrongly_listed)?;
+    for &d in directions {
+        if !view.meets_corner(d) {
+            held_once(&view, &listing.rows, d)?;
+            tally.directions += 1;
+        }
+    }
+    Ok(())
+}
+
+fn wrongly_listed(refusal: paper::Refusal) -> String {
+    format!("listed, where the paper program has {refusal:?}")
+}
+
+/// Rows never outnumber corners; crossings never exceed rows times (cells − 1).
+fn within_bounds(scene: &Scene, listing: &Listing) -> Outcome {
+    let corners = scene.plan.corners.len() / 2;
+    let cells = scene.plan.cells.len() / 6;
+    let (rows, crossings) = (listing.rows.len(), listing.crossings);
+    if rows > corners || crossings > (rows * (cells - 1)) as u64 {
+        return Err(format!(
+            "{rows} rows, {crossings} crossings with {corners} corners, {cells} cells"
+        ));
+    }
+    Ok(())
+}
+
+fn held_once(view: &View<'_>, rows: &[Row], d: Direction) -> Outcome {
+    let holding: Vec<&Row> = rows
+        .iter()
+        .filter(|[_, right, left]| view.between(*right, d, *left))
+        .collect();
+    let end = view.walk(d).map(|walk| walk.end);
+    match holding[..] {
+        [row] if Some(row[0]) == end => Ok(()),
+        _ => Err(format!(
+            "{d:?} is held by the rows {holding:?}, and walks to the face {end:?}"
+        )),
+    }
+}
+
+/// The door change, where both have it, gives what a fresh listing gives, and
+/// what the paper's routes and runs give.
+fn demand_3(scene: &Scene, both: Both<'_>, tally: &mut Tally) -> Outcome {
+    let Ok(before) = both.ask(|calls| listing(calls, scene, scene.setting))? else {
+        return Ok(());
+    };
+    if scene.door >= scene.plan.doors.len() {
+        return Ok(());
+    }
+    let setting = scene.setting ^ 1 << scene.door;
+    let shut = setting >> scene.door & 1 == 1;
+    let given = before.rows.as_flattened();
+    let fresh = both.ask(|calls| listing(calls, scene, setting))?;
+    let changed =
+        both.ask_if_both(|calls| change(calls, scene, given, shut, Room::Exact).map(listing_of))?;
+    let by_runs = change_by_runs(scene, &before, setting, shut)?;
+    same(&fresh, &Ok(by_runs))?;
+    if let Some(changed) = changed {
+        same(fresh, changed).map(drop)?;
+        tally.changes += 1;
+    }
+    Ok(())
+}
+
+/// The change by routes and runs, from the rows an implementor listed.
+fn change_by_runs(
+    scene: &Scene,
+    before: &Listing,
+    setting: u64,
+    shut: bool,
+) -> Result<Listing, String> {
+    let floor = Floor::check(scene.plan.lists()).map_err(wrongly_listed)?;
+    let old = View::new(&floor, scene.setting, scene.stand).map_err(wrongly_listed)?;
+    let new = View::new(&floor, setting, scene.stand).map_err(wrongly_listed)?;
+    let faces = floor.door_faces(scene.door);
+    Ok(paper::change_by_runs(&old, &new, &before.rows, faces, shut))
+}

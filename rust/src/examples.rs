@@ -1,0 +1,98 @@
+//! The twelve measured examples of document 01.
+
+use crate::calls::{Calls, Plan, Stand};
+use crate::paper::{Row, WALL};
+
+/// What an example replies: its rows and crossings, or a refusal's number.
+#[derive(Clone, Debug, PartialEq, Eq)]
+pub enum Expected {
+    Listed { rows: Vec<Row>, crossings: u64 },
+    Refused(u32),
+}
+
+#[derive(Clone, Debug)]
+pub struct Example {
+    pub letter: char,
+    pub plan: Plan,
+    pub stand: Stand,
+    pub setting: u64,
+    pub expected: Expected,
+}
+
+impl Example {
+    /// What an implementor lists for the example.
+    pub fn ask(&self, calls: &dyn Calls) -> Expected {
+        let mut table = vec![0; 3 * self.plan.corners.len() / 2];
+        let reply = calls.list(self.plan.lists(), self.setting, self.stand, &mut table);
+        if reply.number != 0 {
+            return Expected::Refused(reply.number);
+        }
+        let (rows, _) = table.as_chunks::<3>();
+        Expected::Listed {
+            rows: rows[..reply.values[0] as usize].to_vec(),
+            crossings: reply.values[1],
+        }
+    }
+}
+
+/// Plan Q: a square of two cells, with a door on its diagonal.
+pub fn plan_q() -> Plan {
+    Plan {
+        corners: vec![0, 0, 10, 0, 10, 10, 0, 10],
+        cells: vec![0, 1, 2, WALL, WALL, 1, 0, 2, 3, 0, WALL, WALL],
+        doors: vec![2],
+    }
+}
+
+/// Plan Q+P: plan Q with one more cell, whose third corner is P.
+pub fn plan_q_and(p: [i32; 2]) -> Plan {
+    let mut plan = plan_q();
+    plan.corners.extend(p);
+    plan.cells[10] = 2;
+    plan.cells.extend([3, 2, 4, 1, WALL, WALL]);
+    plan
+}
+
+/// Examples a to l, in that order.
+pub fn all() -> Vec<Example> {
+    let q = plan_q;
+    let at = Stand::Point;
+    let beside = at(6.0, 3.0);
+    let a = listed(&[[0, 0, 1], [1, 1, 2], [4, 2, 3], [5, 3, 0]], 1);
+    let b = listed(&[[0, 0, 1], [1, 1, 2], [2, 2, 0]], 0);
+    let d = [[0, 0, 1], [1, 1, 2], [7, 2, 4], [8, 4, 3], [5, 3, 0]];
+    let e = listed(&[[0, 0, 1], [1, 1, 2], [7, 2, 3], [5, 3, 0]], 2);
+    let f = listed(&[[0, 0, 1], [1, 1, 2], [8, 2, 3], [5, 3, 0]], 2);
+    let refused = Expected::Refused;
+    let table = [
+        ('a', q(), beside, 0, a.clone()),
+        ('b', q(), beside, 1, b),
+        ('c', q(), at(3.0, 6.0), 0, a),
+        ('d', plan_q_and([0, 20]), beside, 0, listed(&d, 2)),
+        ('e', plan_q_and([-6, 17]), beside, 0, e),
+        ('f', plan_q_and([14, 17]), beside, 0, f.clone()),
+        ('g', plan_q_and([30, 11]), beside, 0, f),
+        ('h', q(), at(5.0, 5.0), 0, refused(9)),
+        ('i', q(), at(11.0, 5.0), 0, refused(10)),
+        ('j', q(), at(6.5, 3.0), 0, refused(8)),
+        ('k', q(), at(6.0, -0.0), 0, refused(9)),
+        ('l', q(), beside, 2, refused(7)),
+    ];
+    table
+        .into_iter()
+        .map(|(letter, plan, stand, setting, expected)| Example {
+            letter,
+            plan,
+            stand,
+            setting,
+            expected,
+        })
+        .collect()
+}
+
+fn listed(rows: &[Row], crossings: u64) -> Expected {
+    Expected::Listed {
+        rows: rows.to_vec(),
+        crossings,
+    }
+}

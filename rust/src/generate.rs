@@ -1,0 +1,349 @@
+//! The seeded generator: from a seed and a case number to everything the
+//! public calls are asked with.
+
+mod damage;
+mod dice;
+mod floors;
+mod mesh;
+mod stands;
+
+pub use dice::Dice;
+pub use floors::{cathedral, corridor, fence, largest};
+pub use mesh::{Mesh, Spot};
+pub use stands::inside;
+
+use crate::calls::{Plan, Stand};
+use crate::paper::{self, Direction, DOORS, MOST_INPUT};
+
+/// A plan seen from a stand under a setting, with a door to be changed.
+#[derive(Clone, Debug)]
+pub struct Scene {
+    pub plan: Plan,
+    pub setting: u64,
+    pub stand: Stand,
+    pub door: usize,
+}
+
+/// How long lent memory is, against what the call asks for.
+#[derive(Clone, Copy, Debug, PartialEq, Eq)]
+pub enum Room {
+    Empty,
+    OneShort,
+    Exact,
+    Longer(usize),
+}
+
+impl Room {
+    pub fn length(self, asked: usize) -> usize {
+        match self {
+            Room::Empty => 0,
+            Room::OneShort => asked.saturating_sub(1),
+            Room::Exact => asked,
+            Room::Longer(by) => asked + by,
+        }
+    }
+}
+
+/// The list given to a door change, against the true one.
+#[derive(Clone, Copy, Debug, PartialEq, Eq)]
+pub enum Given {
+    True,
+    Empty,
+    /// The last numbers are missing.
+    Cut(usize),
+    /// The first numbers come once more.
+    Lengthened(usize),
+    /// The number at a place, counted round, is another.
+    Changed {
+        at: usize,
+        by: u16,
+    },
+    /// The first row has moved to the end.
+    Turned,
+}
+
+impl Given {
+    pub fn numbers(self, true_numbers: &[u16]) -> Vec<u16> {
+        let mut numbers = true_numbers.to_vec();
+        let count = numbers.len();
+        match self {
+            Given::True => {}
+            Given::Empty => numbers.clear(),
+            Given::Cut(by) => numbers.truncate(count.saturating_sub(by)),
+            Given::Lengthened(by) => numbers.extend_from_within(..by.min(count)),
+            Given::Changed { at, by } => {
+                if count > 0 {
+                    numbers[at % count] = numbers[at % count].wrapping_add(by);
+                }
+            }
+            Given::Turned => numbers.rotate_left(3.min(count)),
+        }
+        numbers
+    }
+}
+
+/// Everything one case asks the public calls.
+pub struct Case {
+    pub scene: Scene,
+    /// The wished state of the scene's door.
+    pub shut: bool,
+    pub given: Given,
+    pub table: Room,
+    /// A plan file for the reader, often a damaged one.
+    pub file: Vec<u8>,
+    pub lists: [Room; 3],
+    pub bytes: Room,
+    /// Standard input for the printing program.
+    pub input: Vec<u8>,
+    pub directions: Vec<Direction>,
+}
+
+/// One in so many cases is of the largest size: they take the longest.
+const LARGEST_EVERY: usize = 400;
+
+/// One in so many cases is filled up to a limit of corners or cells.
+const FULL_EVERY: usize = 300;
+
+/// The case with this number in the run with this seed.
+pub fn case(seed: u64, number: u64) -> Case {
+    let mut dice = Dice::for_case(seed, number);
+    let dice = &mut dice;
+    let mut mesh = floor(dice);
+    let mut stand = stands::random(&mesh, dice);
+    if dice.percent(15) {
+        let map = floors::slant(mesh.reach(), dice);
+        mesh.map_corners(&map);
+        stand = stands::mapped(stand, &map);
+    }
+    let mut plan = mesh.plan(&doors(&mesh, dice));
+    let directions = directions(&mesh, stand, dice);
+    if dice.percent(20) {
+        damage::damage_plan(&mut plan, dice);
+    }
+    let setting = setting(plan.doors.len(), dice);
+    let (door, shut) = wish(plan.doors.len(), setting, dice);
+    let scene = Scene {
+        plan,
+        setting,
+        stand,
+        door,
+    };
+    Case {
+        shut,
+        given: given(dice),
+        table: room(dice),
+        file: file(&scene, dice),
+        lists: [room(dice), room(dice), room(dice)],
+        bytes: room(dice),
+        input: input(&scene, dice),
+        directions,
+        scene,
+    }
+}
+
+fn floor(dice: &mut Dice) -> Mesh {
+    if dice.below(LARGEST_EVERY) == 0 {
+        let pillars = dice.pick(&[0, 60, 900]);
+        return floors::largest(pillars, dice);
+    }
+    let mut mesh = floors::random(dice);
+    if dice.below(FULL_EVERY) == 0 {
+        let corners = dice.percent(50);
+        floors::fill_up(&mut mesh, corners, !corners || dice.percent(30));
+    }
+    mesh
+}
+
+/// Doors on free lines, each named from either face.
+pub fn doors(mesh: &Mesh, dice: &mut Dice) -> Vec<usize> {
+    let mut lines = mesh.free_lines();
+    dice.shuffle(&mut lines);
+    let most = lines.len().min(*DOORS.end());
+    let count = match dice.below(5) {
+        0 => 0,
+        1 => most,
+        2 => dice.below(most + 1),
+        _ => most.min(1 + dice.below(4)),
+    };
+    lines.truncate(count);
+    for face in &mut lines {
+        if dice.percent(50) {
+            *face = mesh.across[*face].unwrap_or(*face);
+        }
+    }
+    lines
+}
+
+fn setting(doors: usize, dice: &mut Dice) -> u64 {
+    let known = if doors >= 64 { !0 } else { (1 << doors) - 1 };
+    if known != !0 && dice.percent(4) {
+        let anywhere = doors + dice.below(64 - doors);
+        let high = dice.pick(&[doors, 63, anywhere]);
+        return dice.word() & known | 1 << high;
+    }
+    known
+        & match dice.below(10) {
+            0..=2 => 0,
+            3 => !0,
+            4 => dice.word(),
+            _ => dice.word() & dice.word() & dice.word(),
+        }
+}
+
+/// A door and its wished state, mostly such that it can be changed.
+fn wish(doors: usize, setting: u64, dice: &mut Dice) -> (usize, bool) {
+    if doors == 0 || dice.percent(5) {
+        let door = dice.pick(&[doors, 63, 64, 65_535, usize::MAX]);
+        return (door, dice.percent(50));
+    }
+    let door = dice.below(doors);
+    // A damaged plan may have more doors than the setting has bits.
+    let is_shut = setting.checked_shr(door as u32).unwrap_or(0) & 1 == 1;
+    let stays = dice.percent(8);
+    (door, if stays { is_shut } else { !is_shut })
+}
+
+fn given(dice: &mut Dice) -> Given {
+    match dice.below(20) {
+        0 => Given::Empty,
+        1 => Given::Cut(dice.pick(&[1, 2, 3, 6])),
+        2 => Given::Lengthened(dice.pick(&[1, 3])),
+        3 => Given::Changed {
+            at: dice.below(1_000),
+            by: dice.pick(&[1, u16::MAX, 256]),
+        },
+        4 => Given::Turned,
+        _ => Given::True,
+    }
+}
+
+fn room(dice: &mut Dice) -> Room {
+    match dice.below(20) {
+        0 => Room::Empty,
+        1 | 2 => Room::OneShort,
+        3..=11 => Room::Exact,
+        _ => Room::Longer(dice.pick(&[1, 2, 7, 100, 3_000])),
+    }
+}
+
+fn file(scene: &Scene, dice: &mut Dice) -> Vec<u8> {
+    let mut file = paper::encode(scene.plan.lists());
+    if dice.percent(30) {
+        damage::damage_file(&mut file, dice);
+    }
+    file
+}
+
+fn input(scene: &Scene, dice: &mut Dice) -> Vec<u8> {
+    let mut query = query_record(scene.setting, scene.stand);
+    let mut plan = paper::encode(scene.plan.lists());
+    match dice.below(12) {
+        0 => damage::damage_file(&mut query, dice),
+        1 => damage::damage_file(&mut plan, dice),
+        _ => {}
+    }
+    let mut input = [query, plan].concat();
+    if dice.percent(1) {
+        input.resize(MOST_INPUT + dice.below(2), 0);
+    }
+    input
+}
+
+/// The query record of the printing program.
+pub fn query_record(setting: u64, stand: Stand) -> Vec<u8> {
+    let (kind, corner, x, y) = match stand {
+        Stand::Point(x, y) => (4u16, Vec::new(), x, y),
+        Stand::Offset(corner, dx, dy) => (5, corner.to_le_bytes().to_vec(), dx, dy),
+    };
+    let body = [
+        setting.to_le_bytes().to_vec(),
+        corner,
+        x.to_le_bytes().to_vec(),
+        y.to_le_bytes().to_vec(),
+    ]
+    .concat();
+    [
+        (body.len() as u32).to_le_bytes().to_vec(),
+        kind.to_le_bytes().to_vec(),
+        body,
+    ]
+    .concat()
+}
+
+/// Directions of any size; some pass a corner as closely as can be.
+fn directions(mesh: &Mesh, stand: Stand, dice: &mut Dice) -> Vec<Direction> {
+    let q = stands::near(mesh, stand);
+    let mut all: Vec<Direction> = (0..6).map(|_| direction(mesh, q, dice)).collect();
+    all.retain(|d| (d.x, d.y) != (0, 0));
+    all
+}
+
+fn direction(mesh: &Mesh, q: Spot, dice: &mut Dice) -> Direction {
+    if dice.percent(60) {
+        let size = dice.pick(&[1, 5, 1_000, 1 << 31, 1 << 60]);
+        return Direction {
+            x: dice.between(-size, size),
+            y: dice.between(-size, size),
+        };
+    }
+    // So far beyond the corner, a unit more or less passes just beside it.
+    let far = 1 << 30;
+    let c = dice.pick(&mesh.corners);
+    Direction {
+        x: (c[0] - q[0]) * far + dice.between(-1, 1),
+        y: (c[1] - q[1]) * far + dice.between(-1, 1),
+    }
+}
+
+#[cfg(test)]
+mod tests {
+    use super::*;
+    use crate::paper::{Floor, CELLS, COORDINATES, CORNERS};
+
+    fn meshes(count: u64) -> impl Iterator<Item = (Mesh, Dice)> {
+        (0..count).map(|number| {
+            let mut dice = Dice::for_case(8, number);
+            (floor(&mut dice), dice)
+        })
+    }
+
+    #[test]
+    fn undamaged_plans_pass_the_check() {
+        for (number, (mut mesh, mut dice)) in meshes(3_000).enumerate() {
+            let doors = doors(&mesh, &mut dice);
+            if number % 2 == 0 {
+                let map = floors::slant(mesh.reach(), &mut dice);
+                mesh.map_corners(&map);
+            }
+            let checked = Floor::check(mesh.plan(&doors).lists());
+            assert!(checked.is_ok(), "floor {number}: {:?}", checked.err());
+        }
+    }
+
+    #[test]
+    fn floors_of_every_kind_come_up() {
+        let (mut on_top, mut parted, mut at_edges, mut largest) = (0, 0, 0, 0);
+        for (mesh, mut dice) in meshes(3_000) {
+            let at = inside(&mesh, &mut dice);
+            on_top += usize::from(cells_at(&mesh, at) > 1);
+            let mut corners = mesh.corners.clone();
+            corners.sort_unstable();
+            corners.dedup();
+            parted += usize::from(corners.len() < mesh.corners.len());
+            at_edges += usize::from(mesh.reach() == *COORDINATES.end());
+            let sizes = (mesh.corners.len(), mesh.cells.len());
+            largest += usize::from(sizes == (*CORNERS.end(), *CELLS.end()));
+        }
+        assert!(on_top > 100 && parted > 100 && at_edges > 100 && largest > 2);
+    }
+
+    /// How many cells hold a spot strictly inside.
+    fn cells_at(mesh: &Mesh, at: Spot) -> usize {
+        let left_of =
+            |a: usize, b: usize| mesh::side_value(mesh.corners[a], mesh.corners[b], at) > 0;
+        mesh.cells
+            .iter()
+            .filter(|&&[a, b, c]| left_of(a, b) && left_of(b, c) && left_of(c, a))
+            .count()
+    }
+}

@@ -1,0 +1,16 @@
+//! The independent second program: document 01 written from the paper alone,
+//! a seeded generator of plans, and the comparison of two implementors of the
+//! public calls.
+//!
+//! The other implementor, the proved library behind its C interface, is the
+//! module `proved`. It is there where the build found the library's archive,
+//! `../target/staticlib/libexports.a`, which `rt staticlib exports` makes.
+
+pub mod bench;
+pub mod calls;
+pub mod compare;
+pub mod examples;
+pub mod generate;
+pub mod paper;
+#[cfg(proved)]
+pub mod proved;

@@ -1,0 +1,213 @@
+//! Document 01, implemented from the paper alone.
+//!
+//! The structure is chosen to differ from a pair of functions that call each
+//! other: the check turns the lists into a table of opposite faces, the
+//! expansion keeps an explicit stack of lines still to be followed, and side
+//! values are 128 bits wide.
+
+mod file;
+mod plan;
+mod printing;
+mod runs;
+mod sight;
+mod stand;
+
+pub use file::{decode, encode};
+pub use plan::{Floor, Point, Refusal, CELLS, COORDINATES, CORNERS, DOORS, WALL};
+pub use printing::{print, query, MOST_INPUT};
+pub use runs::change_by_runs;
+pub use sight::{Direction, Listing, Row, View, Walk};
+
+use crate::calls::{Calls, Lists, Reply, Stand};
+
+/// The paper program as an implementor of the public calls.
+pub struct Paper;
+
+impl Calls for Paper {
+    fn check(&self, lists: Lists<'_>) -> Reply {
+        check(lists)
+    }
+
+    fn read(
+        &self,
+        file: &[u8],
+        corners: &mut [i32],
+        cells: &mut [u16],
+        doors: &mut [u16],
+    ) -> Reply {
+        read(file, corners, cells, doors)
+    }
+
+    fn write(&self, lists: Lists<'_>, file: &mut [u8]) -> Reply {
+        write(lists, file)
+    }
+
+    fn find(&self, lists: Lists<'_>, stand: Stand) -> Reply {
+        find(lists, stand)
+    }
+
+    fn list(&self, lists: Lists<'_>, setting: u64, stand: Stand, table: &mut [u16]) -> Reply {
+        list(lists, setting, stand, table)
+    }
+
+    fn change(
+        &self,
+        lists: Lists<'_>,
+        setting: u64,
+        stand: Stand,
+        given: &[u16],
+        door: usize,
+        shut: bool,
+        table: &mut [u16],
+    ) -> Option<Reply> {
+        Some(change(lists, setting, stand, given, door, shut, table))
+    }
+
+    fn print(&self, input: &[u8]) -> Option<Vec<u8>> {
+        Some(print(input))
+    }
+}
+
+pub fn check(lists: Lists<'_>) -> Reply {
+    reply(Floor::check(lists).map(|_| counts(lists)))
+}
+
+pub fn read(file: &[u8], corners: &mut [i32], cells: &mut [u16], doors: &mut [u16]) -> Reply {
+    reply(read_checked(file, corners, cells, doors))
+}
+
+pub fn write(lists: Lists<'_>, file: &mut [u8]) -> Reply {
+    reply(write_checked(lists, file))
+}
+
+pub fn find(lists: Lists<'_>, stand: Stand) -> Reply {
+    reply(find_checked(lists, stand))
+}
+
+pub fn list(lists: Lists<'_>, setting: u64, stand: Stand, table: &mut [u16]) -> Reply {
+    reply(list_checked(lists, setting, stand, table))
+}
+
+pub fn change(
+    lists: Lists<'_>,
+    setting: u64,
+    stand: Stand,
+    given: &[u16],
+    door: usize,
+    shut: bool,
+    table: &mut [u16],
+) -> Reply {
+    reply(change_checked(
+        lists, setting, stand, given, door, shut, table,
+    ))
+}
+
+/// What is given back on 0: up to three values.
+type Values = [u64; 3];
+
+fn read_checked(
+    file: &[u8],
+    corners: &mut [i32],
+    cells: &mut [u16],
+    doors: &mut [u16],
+) -> Result<Values, Refusal> {
+    let plan = decode(file)?;
+    let lists = plan.lists();
+    Floor::check(lists)?;
+    if corners.len() < lists.corners.len()
+        || cells.len() < lists.cells.len()
+        || doors.len() < lists.doors.len()
+    {
+        return Err(Refusal::Room);
+    }
+    corners[..lists.corners.len()].copy_from_slice(lists.corners);
+    cells[..lists.cells.len()].copy_from_slice(lists.cells);
+    doors[..lists.doors.len()].copy_from_slice(lists.doors);
+    Ok(counts(lists))
+}
+
+fn write_checked(lists: Lists<'_>, file: &mut [u8]) -> Result<Values, Refusal> {
+    Floor::check(lists)?;
+    let encoded = encode(lists);
+    if file.len() < encoded.len() {
+        return Err(Refusal::Room);
+    }
+    file[..encoded.len()].copy_from_slice(&encoded);
+    Ok(counts(lists))
+}
+
+fn find_checked(lists: Lists<'_>, stand: Stand) -> Result<Values, Refusal> {
+    let floor = Floor::check(lists)?;
+    let q = stand::millimetres(&floor, stand)?;
+    let cell = stand::cell_of(&floor, q)?;
+    Ok([cell as u64, 0, 0])
+}
+
+fn list_checked(
+    lists: Lists<'_>,
+    setting: u64,
+    stand: Stand,
+    table: &mut [u16],
+) -> Result<Values, Refusal> {
+    let floor = Floor::check(lists)?;
+    let view = View::new(&floor, setting, stand)?;
+    room_for_rows(&floor, table)?;
+    Ok(hand_back(&view.list(), table))
+}
+
+fn change_checked(
+    lists: Lists<'_>,
+    setting: u64,
+    stand: Stand,
+    given: &[u16],
+    door: usize,
+    shut: bool,
+    table: &mut [u16],
+) -> Result<Values, Refusal> {
+    let floor = Floor::check(lists)?;
+    let before = View::new(&floor, setting, stand)?;
+    room_for_rows(&floor, table)?;
+    if door >= floor.doors().len() || (setting >> door & 1 == 1) == shut {
+        return Err(Refusal::Change);
+    }
+    if before.list().rows.as_flattened() != given {
+        return Err(Refusal::Rows);
+    }
+    // Demand 3: what a fresh listing under the new setting says.
+    let after = View::new(&floor, setting ^ (1 << door), stand)?;
+    Ok(hand_back(&after.list(), table))
+}
+
+fn room_for_rows(floor: &Floor, table: &[u16]) -> Result<(), Refusal> {
+    // A row can be due for every corner, so the room asked for is fixed
+    // before anything is listed.
+    if table.len() < 3 * floor.corners().len() {
+        return Err(Refusal::Room);
+    }
+    Ok(())
+}
+
+fn hand_back(listing: &Listing, table: &mut [u16]) -> Values {
+    let numbers = listing.rows.as_flattened();
+    table[..numbers.len()].copy_from_slice(numbers);
+    [listing.rows.len() as u64, listing.crossings, 0]
+}
+
+fn counts(lists: Lists<'_>) -> Values {
+    [
+        (lists.corners.len() / 2) as u64,
+        (lists.cells.len() / 6) as u64,
+        lists.doors.len() as u64,
+    ]
+}
+
+fn reply(result: Result<Values, Refusal>) -> Reply {
+    match result {
+        Ok(values) => Reply {
+            number: 0,
+            place: 0,
+            values,
+        },
+        Err(refusal) => refusal.reply(),
+    }
+}

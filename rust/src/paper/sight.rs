@@ -1,0 +1,156 @@
+//! "Expansion" and "Walk": what is seen from a stand under a setting.
+
+use super::plan::{next, product, side_value, Floor, Point, Refusal, WALL};
+use super::stand;
+use crate::calls::Stand;
+
+/// Face, right limit, left limit.
+pub type Row = [u16; 3];
+
+/// A direction: two whole numbers, not both zero.
+#[derive(Clone, Copy, Debug, PartialEq, Eq)]
+pub struct Direction {
+    pub x: i64,
+    pub y: i64,
+}
+
+/// The rows of a listing, and how often a free line was passed.
+#[derive(Clone, Debug, PartialEq, Eq)]
+pub struct Listing {
+    pub rows: Vec<Row>,
+    pub crossings: u64,
+}
+
+/// A walk: the faces it left by, each on the side seen, and the wall face it
+/// ended at.
+#[derive(Clone, Debug, PartialEq, Eq)]
+pub struct Walk {
+    pub route: Vec<u16>,
+    pub end: u16,
+}
+
+/// A checked plan seen from a stand under a setting.
+pub struct View<'a> {
+    floor: &'a Floor,
+    across: Vec<u16>,
+    q: Point,
+    cell: usize,
+}
+
+impl<'a> View<'a> {
+    pub fn new(floor: &'a Floor, setting: u64, stand: Stand) -> Result<View<'a>, Refusal> {
+        let across = floor.across_under(setting)?;
+        let q = stand::millimetres(floor, stand)?;
+        let cell = stand::cell_of(floor, q)?;
+        Ok(View {
+            floor,
+            across,
+            q,
+            cell,
+        })
+    }
+
+    /// The stand in whole millimetres.
+    pub fn stand(&self) -> Point {
+        self.q
+    }
+
+    /// The listing: the expansion of the sides of the stand's cell.
+    pub fn list(&self) -> Listing {
+        let lines = self
+            .sides()
+            .map(|face| [face, self.floor.start(face), self.floor.start(next(face))]);
+        self.expand(lines.to_vec())
+    }
+
+    fn sides(&self) -> [u16; 3] {
+        let first = 3 * self.cell as u16;
+        [first, first + 1, first + 2]
+    }
+
+    /// Follows lines to their rows. A line waits as the row it would be if it
+    /// were wall; the last one handed on is followed first, so lines go onto
+    /// the stack in reverse.
+    pub fn expand(&self, lines: Vec<Row>) -> Listing {
+        let mut rows = Vec::new();
+        let mut crossings = 0;
+        let mut waiting = lines;
+        waiting.reverse();
+        while let Some(line) = waiting.pop() {
+            match self.across[usize::from(line[0])] {
+                WALL => rows.push(line),
+                entered => {
+                    crossings += 1;
+                    self.hand_on(entered, line, &mut waiting);
+                }
+            }
+        }
+        Listing { rows, crossings }
+    }
+
+    /// Hands on the lines of the cell entered through a face, last one first.
+    fn hand_on(&self, entered: u16, [_, right, left]: Row, waiting: &mut Vec<Row>) {
+        let right_side = next(entered);
+        let left_side = next(right_side);
+        let apex = self.floor.start(left_side);
+        let v = self.floor.corner(apex);
+        if side_value(self.q, self.floor.corner(right), v) <= 0 {
+            waiting.push([left_side, right, left]);
+        } else if side_value(self.q, self.floor.corner(left), v) >= 0 {
+            waiting.push([right_side, right, left]);
+        } else {
+            waiting.push([left_side, apex, left]);
+            waiting.push([right_side, right, apex]);
+        }
+    }
+
+    /// Whether the direction lies strictly between the rays to two corners.
+    pub fn between(&self, right: u16, d: Direction, left: u16) -> bool {
+        self.turn(right, d) > 0 && self.turn(left, d) < 0
+    }
+
+    /// (c−q)×d for a corner c: positive when d is left of the ray to c.
+    fn turn(&self, corner: u16, d: Direction) -> i128 {
+        let c = self.floor.corner(corner);
+        product(c.x - self.q.x, d.y) - product(c.y - self.q.y, d.x)
+    }
+
+    /// The walk in a direction. None when some step has no line to leave by,
+    /// which only happens when the ray meets a corner.
+    pub fn walk(&self, d: Direction) -> Option<Walk> {
+        let mut route = Vec::new();
+        let mut leave = self.line_ahead(&self.sides(), d)?;
+        while self.across[usize::from(leave)] != WALL {
+            route.push(leave);
+            let entered = self.across[usize::from(leave)];
+            let right_side = next(entered);
+            leave = self.line_ahead(&[right_side, next(right_side)], d)?;
+        }
+        Some(Walk { route, end: leave })
+    }
+
+    fn line_ahead(&self, faces: &[u16], d: Direction) -> Option<u16> {
+        faces
+            .iter()
+            .copied()
+            .find(|&face| self.between(self.floor.start(face), d, self.floor.start(next(face))))
+    }
+
+    /// Whether the ray, the stand's own point not counted, meets a corner.
+    pub fn meets_corner(&self, d: Direction) -> bool {
+        (0..self.floor.corners().len() as u16).any(|corner| {
+            let c = self.floor.corner(corner);
+            let ahead = product(c.x - self.q.x, d.x) + product(c.y - self.q.y, d.y) > 0;
+            ahead && self.turn(corner, d) == 0
+        })
+    }
+
+    /// A direction strictly inside a row's cone: the sum of its two limits.
+    pub fn middle(&self, [_, right, left]: Row) -> Direction {
+        let (r, l) = (self.floor.corner(right), self.floor.corner(left));
+        Direction {
+            x: r.x - self.q.x + l.x - self.q.x,
+            y: r.y - self.q.y + l.y - self.q.y,
+        }
+    }
+}

@@ -1,0 +1,124 @@
+//! The proved library behind its C interface, `include/manopluea.h`, as an
+//! implementor of the public calls.
+
+// The archive is for x86-64; elsewhere its functions run in a process of their
+// own, under an emulator. Both modules have the same functions.
+#[cfg(target_arch = "x86_64")]
+#[path = "proved/linked.rs"]
+mod c;
+#[cfg(not(target_arch = "x86_64"))]
+#[path = "proved/piped.rs"]
+mod c;
+
+pub use c::list_on_stack;
+
+use crate::calls::{Calls, Lists, Reply, Stand};
+
+/// The proved library. The printing program is not in it yet: `print` comes
+/// here with it.
+pub struct Proved;
+
+/// The five numbers before a call: every one of them has to be written.
+const UNWRITTEN: [u64; 5] = [u64::MAX; 5];
+
+/// What a function put there, as a reply.
+fn reply([number, place, values @ ..]: [u64; 5]) -> Reply {
+    let narrow = |number| u32::try_from(number).unwrap_or(u32::MAX);
+    Reply {
+        number: narrow(number),
+        place: narrow(place),
+        values,
+    }
+}
+
+/// The reply that a function leaves.
+fn replied(ask: impl FnOnce(&mut [u64])) -> Reply {
+    let mut five = UNWRITTEN;
+    ask(&mut five);
+    reply(five)
+}
+
+impl Calls for Proved {
+    fn check(&self, lists: Lists<'_>) -> Reply {
+        replied(|five| c::check(lists, five))
+    }
+
+    fn read(
+        &self,
+        file: &[u8],
+        corners: &mut [i32],
+        cells: &mut [u16],
+        doors: &mut [u16],
+    ) -> Reply {
+        replied(|five| c::read(file, corners, cells, doors, five))
+    }
+
+    fn write(&self, lists: Lists<'_>, file: &mut [u8]) -> Reply {
+        replied(|five| c::write(lists, file, five))
+    }
+
+    fn find(&self, lists: Lists<'_>, stand: Stand) -> Reply {
+        replied(|five| c::find(lists, stand, five))
+    }
+
+    fn list(&self, lists: Lists<'_>, setting: u64, stand: Stand, table: &mut [u16]) -> Reply {
+        replied(|five| c::list(lists, setting, stand, table, five))
+    }
+
+    fn change(
+        &self,
+        lists: Lists<'_>,
+        setting: u64,
+        stand: Stand,
+        given: &[u16],
+        door: usize,
+        shut: bool,
+        table: &mut [u16],
+    ) -> Option<Reply> {
+        Some(replied(|five| {
+            c::change(lists, setting, stand, given, door, shut, table, five)
+        }))
+    }
+}
+
+#[cfg(test)]
+mod tests {
+    use super::*;
+    use crate::examples::plan_q;
+    use crate::paper;
+
+    /// A reply with no room for five numbers: nothing at all is done.
+    #[test]
+    fn a_short_reply_leaves_everything_alone() {
+        let plan = plan_q();
+        let lists = plan.lists();
+        let file = paper::encode(lists);
+        for length in 0..5 {
+            let mut short = vec![7; length];
+            let mut bytes = vec![9; file.len()];
+            let (mut corners, mut cells, mut doors) = ([9; 8], [9; 12], [9; 1]);
+            let mut table = [9; 12];
+            c::check(lists, &mut short);
+            c::read(&file, &mut corners, &mut cells, &mut doors, &mut short);
+            c::write(lists, &mut bytes, &mut short);
+            for stand in [Stand::Point(6.0, 3.0), Stand::Offset(0, 6.0, 3.0)] {
+                c::find(lists, stand, &mut short);
+                c::list(lists, 0, stand, &mut table, &mut short);
+                let rows = [0, 0, 1, 1, 1, 2, 4, 2, 3, 5, 3, 0];
+                c::change(lists, 0, stand, &rows, 0, true, &mut table, &mut short);
+            }
+            assert_eq!(short, vec![7; length]);
+            assert_eq!(bytes, vec![9; file.len()]);
+            assert_eq!((corners, cells, doors), ([9; 8], [9; 12], [9; 1]));
+            assert_eq!(table, [9; 12]);
+        }
+    }
+
+    /// What lies beyond the five numbers of a longer reply is left alone.
+    #[test]
+    fn a_longer_reply_keeps_the_rest() {
+        let mut long = [7; 8];
+        c::check(plan_q().lists(), &mut long);
+        assert_eq!(long, [0, 0, 4, 2, 1, 7, 7, 7]);
+    }
+}

@@ -1,0 +1,84 @@
+//! What document 01 gives as measured, printed and to be run.
+
+use manopluea_compare::calls::{Plan, Stand};
+use manopluea_compare::examples::{all, plan_q};
+use manopluea_compare::generate::query_record;
+use manopluea_compare::paper::{self, Direction, Floor, Paper, View};
+
+#[test]
+fn the_twelve_examples() {
+    let letters: String = all().iter().map(|example| example.letter).collect();
+    assert_eq!(letters, "abcdefghijkl");
+    for example in all() {
+        assert_eq!(
+            example.ask(&Paper),
+            example.expected,
+            "example {}",
+            example.letter
+        );
+    }
+}
+
+fn printed(stand: Stand, setting: u64, plan: &Plan) -> String {
+    let input = [query_record(setting, stand), paper::encode(plan.lists())].concat();
+    String::from_utf8(paper::print(&input)).unwrap()
+}
+
+#[test]
+fn plan_q_as_printed() {
+    let expected = "rows 4 crossings 1\n0 0 1\n1 1 2\n4 2 3\n5 3 0\n";
+    assert_eq!(printed(Stand::Point(6.0, 3.0), 0, &plan_q()), expected);
+    assert_eq!(
+        printed(Stand::Offset(2, -4.0, -7.0), 0, &plan_q()),
+        expected
+    );
+}
+
+#[test]
+fn plan_q_refused_in_print() {
+    let q = plan_q();
+    assert_eq!(printed(Stand::Point(6.5, 3.0), 0, &q), "refused 8 0\n");
+    assert_eq!(printed(Stand::Point(6.0, 3.0), 2, &q), "refused 7 0\n");
+    let mut alone = plan_q();
+    alone.cells[9] = 65_535;
+    assert_eq!(
+        printed(Stand::Point(f64::NAN, 3.0), 2, &alone),
+        "refused 5 2\n"
+    );
+}
+
+#[test]
+fn a_coordinate_at_the_limit_and_beyond() {
+    let mut plan = plan_q();
+    plan.corners[4] = 536_870_912;
+    assert_eq!(paper::check(plan.lists()).number, 0);
+    plan.corners[4] = 536_870_913;
+    let reply = paper::check(plan.lists());
+    assert_eq!((reply.number, reply.place), (3, 2));
+    plan.corners[4] = -536_870_912;
+    assert_ne!(paper::check(plan.lists()).number, 3);
+    plan.corners[1] = -536_870_913;
+    let reply = paper::check(plan.lists());
+    assert_eq!((reply.number, reply.place), (3, 0));
+}
+
+#[test]
+fn a_cell_on_its_back() {
+    let mut plan = plan_q();
+    plan.cells[..3].copy_from_slice(&[0, 2, 1]);
+    let reply = paper::check(plan.lists());
+    assert_eq!((reply.number, reply.place), (4, 0));
+}
+
+#[test]
+fn a_walk_over_plan_q() {
+    let q = plan_q();
+    let floor = Floor::check(q.lists()).unwrap();
+    let view = View::new(&floor, 0, Stand::Point(6.0, 3.0)).unwrap();
+    let walk = view.walk(Direction { x: -3, y: 5 }).unwrap();
+    assert_eq!((walk.route, walk.end), (vec![2], 4));
+    // Towards corner 2, and away from it.
+    assert!(view.meets_corner(Direction { x: 4, y: 7 }));
+    assert!(!view.meets_corner(Direction { x: -4, y: -7 }));
+    assert_eq!(view.walk(Direction { x: 4, y: 7 }), None);
+}

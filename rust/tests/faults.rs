@@ -1,0 +1,474 @@
+//! Versions of the calls with one fault each: the errors and the versions to
+//! be shut out that document 01 names, and some more. The comparison has to
+//! find every one of them.
+
+use manopluea_compare::calls::{Calls, Lists, Reply, Stand};
+use manopluea_compare::compare::{compare, Mismatch, Trial};
+use manopluea_compare::paper::{self, Floor, Paper, Row, View, WALL};
+
+#[derive(Clone, Copy, Debug, PartialEq, Eq)]
+enum Fault {
+    // In the expansion.
+    CornerOnLimitIsBetween,
+    FartherCornerBecomesLimit,
+    LineEndsBecomeLimits,
+    OtherSidesAreWalls,
+    DoubleSideValues,
+    NarrowSideValues,
+    DoorIsWallFromOneFace,
+    // In what is handed back.
+    AdjacentRowsAreJoined,
+    NothingIsWritten,
+    CrossingsAreInvented,
+    RestOfTableIsCleared,
+    RefusalClearsTable,
+    RefusalCarriesValues,
+    RoomIsAskedForRowsOnly,
+    RoomComesBeforeStand,
+    // In the door change.
+    OldListIsCopied,
+    OneRunIsShut,
+    GivenListIsTrusted,
+    ChangeComesBeforeRoom,
+    // In the stand and the finding.
+    StandIsTruncated,
+    OffsetHasNoBound,
+    HighestCellIsFound,
+    LineIsOutside,
+    // In the files.
+    LengthHasASign,
+    ReaderWritesBeforeRoom,
+    WriterClearsTheRest,
+    PlaceOfNeighbourIsItsCell,
+    LineIsItsCorners,
+    InputLimitIsExclusive,
+    LastLineHasNoEnd,
+}
+
+use Fault::*;
+
+const ALL: [Fault; 30] = [
+    CornerOnLimitIsBetween,
+    FartherCornerBecomesLimit,
+    LineEndsBecomeLimits,
+    OtherSidesAreWalls,
+    DoubleSideValues,
+    NarrowSideValues,
+    DoorIsWallFromOneFace,
+    AdjacentRowsAreJoined,
+    NothingIsWritten,
+    CrossingsAreInvented,
+    RestOfTableIsCleared,
+    RefusalClearsTable,
+    RefusalCarriesValues,
+    RoomIsAskedForRowsOnly,
+    RoomComesBeforeStand,
+    OldListIsCopied,
+    OneRunIsShut,
+    GivenListIsTrusted,
+    ChangeComesBeforeRoom,
+    StandIsTruncated,
+    OffsetHasNoBound,
+    HighestCellIsFound,
+    LineIsOutside,
+    LengthHasASign,
+    ReaderWritesBeforeRoom,
+    WriterClearsTheRest,
+    PlaceOfNeighbourIsItsCell,
+    LineIsItsCorners,
+    InputLimitIsExclusive,
+    LastLineHasNoEnd,
+];
+
+struct Faulty(Fault);
+
+impl Calls for Faulty {
+    fn check(&self, lists: Lists<'_>) -> Reply {
+        let mut reply = Paper.check(lists);
+        match self.0 {
+            PlaceOfNeighbourIsItsCell if reply.number == 5 => reply.place /= 3,
+            RefusalCarriesValues if reply.number != 0 => reply.values[0] = 1,
+            LineIsItsCorners if reply.number == 0 => return doors_by_corners(lists, reply),
+            _ => {}
+        }
+        reply
+    }
+
+    fn read(
+        &self,
+        file: &[u8],
+        corners: &mut [i32],
+        cells: &mut [u16],
+        doors: &mut [u16],
+    ) -> Reply {
+        let negative = file.get(3).is_some_and(|&byte| byte >= 128);
+        if self.0 == LengthHasASign && negative {
+            return refused(2);
+        }
+        let reply = Paper.read(file, corners, cells, doors);
+        if self.0 == ReaderWritesBeforeRoom && reply.number == 11 {
+            corners.fill(0);
+        }
+        reply
+    }
+
+    fn write(&self, lists: Lists<'_>, file: &mut [u8]) -> Reply {
+        let reply = Paper.write(lists, file);
+        if self.0 == WriterClearsTheRest && reply.number == 0 {
+            if let Some(last) = file.last_mut() {
+                *last = 0;
+            }
+        }
+        reply
+    }
+
+    fn find(&self, lists: Lists<'_>, stand: Stand) -> Reply {
+        let reply = Paper.find(lists, self.stand(lists, stand));
+        match self.0 {
+            LineIsOutside if reply.number == 9 => refused(10),
+            HighestCellIsFound if reply.number == 0 => highest_cell(lists, stand),
+            _ => reply,
+        }
+    }
+
+    fn list(&self, lists: Lists<'_>, setting: u64, stand: Stand, table: &mut [u16]) -> Reply {
+        let before = table.to_vec();
+        let stand = self.stand(lists, stand);
+        let mut reply = Paper.list(lists, setting, stand, table);
+        match self.0 {
+            RefusalClearsTable if reply.number != 0 => table.fill(0),
+            RoomIsAskedForRowsOnly if reply.number == 11 => {
+                let mut long = vec![0; 3 * lists.corners.len() / 2];
+                let full = Paper.list(lists, setting, stand, &mut long);
+                let asked = 3 * full.values[0] as usize;
+                if asked <= table.len() {
+                    table[..asked].copy_from_slice(&long[..asked]);
+                    return full;
+                }
+            }
+            RoomComesBeforeStand
+                if (8..=10).contains(&reply.number)
+                    && table.len() < 3 * (lists.corners.len() / 2) =>
+            {
+                return refused(11)
+            }
+            _ if reply.number != 0 => {}
+            NothingIsWritten => table.copy_from_slice(&before),
+            CrossingsAreInvented => reply.values[1] += 1,
+            RestOfTableIsCleared => table[3 * reply.values[0] as usize..].fill(0),
+            AdjacentRowsAreJoined => {
+                let rows = joined(table, reply.values[0] as usize);
+                return hand_back(&rows, reply.values[1], &before, table);
+            }
+            slip => {
+                if let Some((rows, crossings)) = expand(lists, setting, stand, slip) {
+                    return hand_back(&rows, crossings, &before, table);
+                }
+            }
+        }
+        reply
+    }
+
+    fn change(
+        &self,
+        lists: Lists<'_>,
+        setting: u64,
+        stand: Stand,
+        given: &[u16],
+        door: usize,
+        shut: bool,
+        table: &mut [u16],
+    ) -> Option<Reply> {
+        let stand = self.stand(lists, stand);
+        let mut reply = paper::change(lists, setting, stand, given, door, shut, table);
+        match self.0 {
+            OldListIsCopied if reply.number == 0 => {
+                table[..given.len()].copy_from_slice(given);
+                reply.values[0] = (given.len() / 3) as u64;
+            }
+            OneRunIsShut if reply.number == 0 && shut => {
+                let before = table.to_vec();
+                let rows = first_run_shut(table, reply.values[0] as usize, lists.doors[door]);
+                reply = hand_back(&rows, reply.values[1], &before, table);
+            }
+            GivenListIsTrusted if reply.number == 13 => {
+                reply = Paper.list(lists, setting ^ 1 << door, stand, table);
+            }
+            ChangeComesBeforeRoom if reply.number == 11 && door >= lists.doors.len() => {
+                reply = refused(12);
+            }
+            _ => {}
+        }
+        Some(reply)
+    }
+
+    fn print(&self, input: &[u8]) -> Option<Vec<u8>> {
+        let mut printed = paper::print(input);
+        Some(match self.0 {
+            InputLimitIsExclusive if input.len() == 65_536 => b"refused 2 0\n".to_vec(),
+            LastLineHasNoEnd => {
+                printed.pop();
+                printed
+            }
+            _ => printed,
+        })
+    }
+}
+
+impl Faulty {
+    fn stand(&self, lists: Lists<'_>, stand: Stand) -> Stand {
+        match (self.0, stand) {
+            (StandIsTruncated, Stand::Point(x, y)) => Stand::Point(x.trunc(), y.trunc()),
+            (OffsetHasNoBound, Stand::Offset(corner, dx, dy)) => {
+                let at = 2 * usize::from(corner);
+                match lists.corners.get(at..at + 2) {
+                    Some(from) => Stand::Point(f64::from(from[0]) + dx, f64::from(from[1]) + dy),
+                    None => stand,
+                }
+            }
+            _ => stand,
+        }
+    }
+}
+
+fn refused(number: u32) -> Reply {
+    Reply {
+        number,
+        place: 0,
+        values: [0; 3],
+    }
+}
+
+fn hand_back(rows: &[Row], crossings: u64, before: &[u16], table: &mut [u16]) -> Reply {
+    table.copy_from_slice(before);
+    let written = (3 * rows.len()).min(table.len());
+    table[..written].copy_from_slice(&rows.as_flattened()[..written]);
+    Reply {
+        number: 0,
+        place: 0,
+        values: [rows.len() as u64, crossings, 0],
+    }
+}
+
+/// Refuses a door that has the same two corners as an earlier one, as two
+/// different lines of a ramp can have.
+fn doors_by_corners(lists: Lists<'_>, reply: Reply) -> Reply {
+    let ends = |face: u16| {
+        let corner = |face: u16| lists.cells[usize::from(face / 3 * 6 + face % 3)];
+        let (a, b) = (corner(face), corner(next(face)));
+        (a.min(b), a.max(b))
+    };
+    let taken = |door: usize| {
+        let earlier = &lists.doors[..door];
+        earlier
+            .iter()
+            .any(|&face| ends(face) == ends(lists.doors[door]))
+    };
+    match (0..lists.doors.len()).find(|&door| taken(door)) {
+        Some(door) => Reply {
+            place: door as u32,
+            ..refused(6)
+        },
+        None => reply,
+    }
+}
+
+fn highest_cell(lists: Lists<'_>, stand: Stand) -> Reply {
+    // With the cells in reverse order and walls everywhere, the least cell is
+    // the highest.
+    let cells: Vec<u16> = lists
+        .cells
+        .chunks(6)
+        .rev()
+        .flat_map(|cell| [cell[0], cell[1], cell[2], WALL, WALL, WALL])
+        .collect();
+    let reversed = Lists {
+        corners: lists.corners,
+        cells: &cells,
+        doors: &[],
+    };
+    let mut reply = Paper.find(reversed, stand);
+    reply.values[0] = (lists.cells.len() / 6) as u64 - 1 - reply.values[0];
+    reply
+}
+
+fn joined(table: &[u16], count: usize) -> Vec<Row> {
+    let mut rows: Vec<Row> = Vec::new();
+    for row in table.chunks(3).take(count) {
+        match rows.last_mut() {
+            Some(last) if last[0] == row[0] => last[2] = row[2],
+            _ => rows.push([row[0], row[1], row[2]]),
+        }
+    }
+    rows
+}
+
+/// Keeps the first row on a door, and drops every later one.
+fn first_run_shut(table: &[u16], count: usize, face: u16) -> Vec<Row> {
+    let mut seen = false;
+    let rows = table
+        .chunks(3)
+        .take(count)
+        .map(|row| [row[0], row[1], row[2]]);
+    rows.filter(|row| row[0] != face || !std::mem::replace(&mut seen, true))
+        .collect()
+}
+
+/// An expansion with a slip in it, as a function that calls itself; none for
+/// faults that are elsewhere.
+fn expand(lists: Lists<'_>, setting: u64, stand: Stand, slip: Fault) -> Option<(Vec<Row>, u64)> {
+    let in_expansion = [
+        CornerOnLimitIsBetween,
+        FartherCornerBecomesLimit,
+        LineEndsBecomeLimits,
+        OtherSidesAreWalls,
+        DoubleSideValues,
+        NarrowSideValues,
+        DoorIsWallFromOneFace,
+    ];
+    if !in_expansion.contains(&slip) {
+        return None;
+    }
+    let floor = Floor::check(lists).ok()?;
+    let view = View::new(&floor, setting, stand).ok()?;
+    let q = view.stand();
+    let mut sight = Sight {
+        floor: &floor,
+        q: [q.x, q.y],
+        across: across(&floor, lists, setting, slip)?,
+        slip,
+        rows: Vec::new(),
+        crossings: 0,
+    };
+    let first = 3 * Paper.find(lists, stand).values[0] as u16;
+    for face in first..first + 3 {
+        let row = [face, floor.start(face), floor.start(next(face))];
+        if slip == OtherSidesAreWalls && face != first {
+            sight.rows.push(row);
+        } else {
+            sight.follow(row);
+        }
+    }
+    Some((sight.rows, sight.crossings))
+}
+
+fn across(floor: &Floor, lists: Lists<'_>, setting: u64, slip: Fault) -> Option<Vec<u16>> {
+    if slip != DoorIsWallFromOneFace {
+        return floor.across_under(setting).ok();
+    }
+    let mut across = floor.across_under(0).ok()?;
+    for (door, &face) in lists.doors.iter().enumerate() {
+        if setting >> door & 1 == 1 {
+            across[usize::from(face)] = WALL;
+        }
+    }
+    Some(across)
+}
+
+fn next(face: u16) -> u16 {
+    face / 3 * 3 + (face + 1) % 3
+}
+
+struct Sight<'a> {
+    floor: &'a Floor,
+    q: [i64; 2],
+    across: Vec<u16>,
+    slip: Fault,
+    rows: Vec<Row>,
+    crossings: u64,
+}
+
+impl Sight<'_> {
+    fn follow(&mut self, row: Row) {
+        let entered = self.across[usize::from(row[0])];
+        // A slip can lead to endless rows; no listing has so many.
+        if entered == WALL || self.rows.len() > 4_096 {
+            self.rows.push(row);
+            return;
+        }
+        self.crossings += 1;
+        let (right_side, left_side) = (next(entered), next(next(entered)));
+        let apex = self.floor.start(left_side);
+        let (right, left) = match self.slip {
+            LineEndsBecomeLimits => (self.floor.start(right_side), self.floor.start(entered)),
+            _ => (row[1], row[2]),
+        };
+        let (from_right, from_left) = (self.turn(right, apex), self.turn(apex, left));
+        let ties_between = self.slip == CornerOnLimitIsBetween;
+        let farther = self.slip == FartherCornerBecomesLimit;
+        if from_right < 0 || (from_right == 0 && !ties_between) {
+            let limit = if farther && from_right == 0 {
+                apex
+            } else {
+                right
+            };
+            self.follow([left_side, limit, left]);
+        } else if from_left < 0 || (from_left == 0 && !ties_between) {
+            let limit = if farther && from_left == 0 {
+                apex
+            } else {
+                left
+            };
+            self.follow([right_side, right, limit]);
+        } else {
+            self.follow([right_side, right, apex]);
+            self.follow([left_side, apex, left]);
+        }
+    }
+
+    /// The sign of the side value of the stand and two corners.
+    fn turn(&self, a: u16, b: u16) -> i64 {
+        let from_stand = |corner: u16| {
+            let at = self.floor.corner(corner);
+            [at.x - self.q[0], at.y - self.q[1]]
+        };
+        let (a, b) = (from_stand(a), from_stand(b));
+        match self.slip {
+            DoubleSideValues => {
+                let [a, b] = [a, b].map(|at| at.map(|n| n as f64));
+                (a[0] * b[1] - a[1] * b[0]).partial_cmp(&0.0).unwrap() as i64
+            }
+            NarrowSideValues => {
+                let [a, b] = [a, b].map(|at| at.map(|n| n as i32));
+                let value = a[0]
+                    .wrapping_mul(b[1])
+                    .wrapping_sub(a[1].wrapping_mul(b[0]));
+                i64::from(value.signum())
+            }
+            _ => (a[0] * b[1] - a[1] * b[0]).signum(),
+        }
+    }
+}
+
+fn mismatch(fault: Fault) -> Box<Mismatch> {
+    match compare(&Paper, &Faulty(fault), 3, 20_000) {
+        Ok(_) => panic!("{fault:?} is not found"),
+        Err(mismatch) => mismatch,
+    }
+}
+
+#[test]
+fn every_fault_is_found() {
+    for fault in ALL {
+        println!("{fault:?}: {}", mismatch(fault));
+    }
+}
+
+/// A slip in the expansion shows on a few cells, however large the plan was
+/// that it was first seen on.
+#[test]
+fn a_mismatch_is_made_small() {
+    for fault in [
+        CornerOnLimitIsBetween,
+        LineEndsBecomeLimits,
+        OldListIsCopied,
+    ] {
+        match mismatch(fault).trial {
+            Trial::Lists(scene, _) => {
+                assert!(scene.plan.cells.len() <= 6 * 8, "{fault:?}: {scene:?}");
+                assert!(scene.plan.corners.len() <= 2 * 12, "{fault:?}: {scene:?}");
+            }
+            trial => panic!("{fault:?} is found by {trial}"),
+        }
+    }
+}

@@ -1,0 +1,573 @@
+//! The named cases: each reply is the one document 01 gives, of the paper
+//! program and of the proved library, and both leave the same lent memory.
+#![cfg(proved)]
+
+use manopluea_compare::calls::{Calls, Plan, Reply, Stand};
+use manopluea_compare::examples::{all, plan_q};
+use manopluea_compare::paper::{encode, Paper, WALL};
+use manopluea_compare::proved::{list_on_stack, Proved};
+
+/// The end of the coordinate range.
+const LIMIT: i32 = 536_870_912;
+
+const FILL: u8 = 0xa5;
+
+fn refused(number: u32, place: u32) -> Reply {
+    Reply {
+        number,
+        place,
+        values: [0; 3],
+    }
+}
+
+fn done(values: [u64; 3]) -> Reply {
+    Reply {
+        number: 0,
+        place: 0,
+        values,
+    }
+}
+
+/// What both implementors answer.
+fn both<T: PartialEq + std::fmt::Debug>(ask: impl Fn(&dyn Calls) -> T) -> T {
+    let paper = ask(&Paper);
+    assert_eq!(paper, ask(&Proved), "paper program, proved library");
+    paper
+}
+
+fn find(plan: &Plan, stand: Stand) -> Reply {
+    both(|calls| calls.find(plan.lists(), stand))
+}
+
+fn list(plan: &Plan, setting: u64, stand: Stand, room: usize) -> (Reply, Vec<u16>) {
+    both(|calls| {
+        let mut table = vec![u16::from(FILL); room];
+        let reply = calls.list(plan.lists(), setting, stand, &mut table);
+        (reply, table)
+    })
+}
+
+/// Reads into lists of these lengths; a refusal leaves them as they were.
+fn read(file: &[u8], [n, m, k]: [usize; 3]) -> (Reply, Plan) {
+    let before = Plan {
+        corners: vec![i32::from(FILL); n],
+        cells: vec![u16::from(FILL); m],
+        doors: vec![u16::from(FILL); k],
+    };
+    let (reply, lists) = both(|calls| {
+        let mut lists = before.clone();
+        let Plan {
+            corners,
+            cells,
+            doors,
+        } = &mut lists;
+        (calls.read(file, corners, cells, doors), lists)
+    });
+    if reply.number != 0 {
+        assert_eq!(lists, before, "a refusal wrote");
+    }
+    (reply, lists)
+}
+
+fn write(plan: &Plan, room: usize) -> (Reply, Vec<u8>) {
+    let before = vec![FILL; room];
+    let (reply, file) = both(|calls| {
+        let mut file = before.clone();
+        (calls.write(plan.lists(), &mut file), file)
+    });
+    if reply.number != 0 {
+        assert_eq!(file, before, "a refusal wrote");
+    }
+    (reply, file)
+}
+
+/// The check's reply, which finding, the writer and the reader share where it
+/// is a refusal of the plan.
+fn check(plan: &Plan) -> Reply {
+    let reply = both(|calls| calls.check(plan.lists()));
+    let file = encode(plan.lists());
+    assert_eq!(write(plan, file.len()).0, reply, "writer");
+    if reply.number == 0 {
+        assert_eq!(write(plan, file.len()).1, file);
+    } else {
+        assert_eq!(find(plan, Stand::Point(f64::NAN, 0.0)), reply, "finding");
+    }
+    if plan.corners.len().is_multiple_of(2) && plan.cells.len().is_multiple_of(6) {
+        let lengths = [plan.corners.len(), plan.cells.len(), plan.doors.len()];
+        let (read, lists) = read(&file, lengths);
+        assert_eq!(read, reply, "reader");
+        assert!(read.number != 0 || lists == *plan);
+    }
+    reply
+}
+
+/// So many cells between walls, all on one place, and so many corners.
+fn stack(corners: usize, cells: usize) -> Plan {
+    let mut plan = Plan {
+        corners: vec![0, 0, 9, 0, 0, 9],
+        ..Plan::default()
+    };
+    plan.corners.resize(2 * corners, 0);
+    plan.cells = [0, 1, 2, WALL, WALL, WALL].repeat(cells);
+    plan
+}
+
+/// A straight strip of so many cells, with a door on each of the first lines.
+/// Corner i lies on the lower wall where i is even; line i is face 3i + 1.
+fn strip(cells: u16, doors: u16) -> Plan {
+    let corners = (0..i32::from(cells) + 2).flat_map(|i| [10 * i, 100 * (i % 2)]);
+    let cell = |i: u16| {
+        let before = if i == 0 { WALL } else { i - 1 };
+        let after = if i + 1 == cells { WALL } else { i + 1 };
+        if i.is_multiple_of(2) {
+            [i, i + 2, i + 1, WALL, after, before]
+        } else {
+            [i, i + 1, i + 2, before, after, WALL]
+        }
+    };
+    Plan {
+        corners: corners.collect(),
+        cells: (0..cells).flat_map(cell).collect(),
+        doors: (0..doors).map(|i| 3 * i + 1).collect(),
+    }
+}
+
+#[test]
+fn coordinates_at_the_limit_and_beyond() {
+    for (at, corner) in [(2, 1), (4, 2), (5, 2), (7, 3)] {
+        let mut plan = plan_q();
+        plan.corners[at] = LIMIT;
+        assert_eq!(check(&plan), done([4, 2, 1]), "number {at}");
+        plan.corners[at] = LIMIT + 1;
+        assert_eq!(check(&plan), refused(3, corner), "number {at}");
+    }
+    for at in [0, 1] {
+        let mut plan = plan_q();
+        plan.corners[at] = -LIMIT;
+        assert_eq!(check(&plan), done([4, 2, 1]), "number {at}");
+        plan.corners[at] = -LIMIT - 1;
+        assert_eq!(check(&plan), refused(3, 0), "number {at}");
+    }
+    for beyond in [i32::MIN, i32::MAX] {
+        let mut plan = plan_q();
+        plan.corners[6] = beyond;
+        assert_eq!(check(&plan), refused(3, 3));
+        plan.corners[3] = beyond;
+        assert_eq!(check(&plan), refused(3, 1));
+    }
+}
+
+#[test]
+fn cells_on_their_back_flat_or_of_missing_corners() {
+    for (cell, corners, place) in [
+        (0, [0, 2, 1], 0),
+        (0, [0, 1, 0], 0),
+        (0, [0, 1, 4], 0),
+        (1, [0, 3, 2], 1),
+        (1, [0, 2, WALL], 1),
+    ] {
+        let mut plan = plan_q();
+        plan.cells[6 * cell..6 * cell + 3].copy_from_slice(&corners);
+        assert_eq!(check(&plan), refused(4, place), "{corners:?}");
+    }
+}
+
+#[test]
+fn neighbours_that_do_not_answer() {
+    for (at, neighbour, face) in [
+        // Itself, a missing cell, and the number before wall.
+        (5, 0, 2),
+        (5, 2, 2),
+        (5, WALL - 1, 2),
+        // A cell that has no such side reversed.
+        (3, 1, 0),
+        (10, 0, 4),
+        // A wall whose other side still names this cell.
+        (5, WALL, 3),
+        (9, WALL, 2),
+    ] {
+        let mut plan = plan_q();
+        plan.cells[at] = neighbour;
+        assert_eq!(check(&plan), refused(5, face), "{neighbour} at {at}");
+    }
+}
+
+#[test]
+fn doors_that_are_wrong() {
+    let reply = |doors: &[u16]| {
+        let mut plan = plan_q();
+        plan.doors = doors.to_vec();
+        check(&plan)
+    };
+    assert_eq!(reply(&[]), done([4, 2, 0]));
+    assert_eq!(reply(&[2]), done([4, 2, 1]));
+    assert_eq!(reply(&[3]), done([4, 2, 1]));
+    // Named twice, from the other face, on a wall, beyond the faces.
+    assert_eq!(reply(&[2, 2]), refused(6, 1));
+    assert_eq!(reply(&[2, 3]), refused(6, 1));
+    assert_eq!(reply(&[3, 2]), refused(6, 1));
+    assert_eq!(reply(&[2, 0]), refused(6, 1));
+    assert_eq!(reply(&[0, 2, 3]), refused(6, 0));
+    assert_eq!(reply(&[6]), refused(6, 0));
+    assert_eq!(reply(&[WALL]), refused(6, 0));
+}
+
+#[test]
+fn counts_at_each_limit_and_beyond() {
+    let reply = |corners, cells| check(&stack(corners, cells));
+    assert_eq!(reply(3, 1), done([3, 1, 0]));
+    assert_eq!(reply(2_048, 1), done([2_048, 1, 0]));
+    assert_eq!(reply(3, 3_000), done([3, 3_000, 0]));
+    assert_eq!(reply(2_048, 3_000), done([2_048, 3_000, 0]));
+    for (corners, cells) in [
+        (0, 1),
+        (2, 1),
+        (2_049, 1),
+        (3, 0),
+        (3, 3_001),
+        (20_000, 9_000),
+    ] {
+        let reply = reply(corners, cells);
+        assert_eq!(reply, refused(2, 0), "{corners} corners, {cells} cells");
+    }
+    let doors = |count| check(&strip(100, count));
+    assert_eq!(doors(0), done([102, 100, 0]));
+    assert_eq!(doors(64), done([102, 100, 64]));
+    assert_eq!(doors(65), refused(2, 0));
+}
+
+#[test]
+fn lists_that_are_no_multiples() {
+    for cut in 1..6 {
+        let mut plan = plan_q();
+        plan.cells.truncate(12 - cut);
+        assert_eq!(check(&plan), refused(1, 0));
+        // The frame comes before the size.
+        plan.doors = vec![2; 65];
+        assert_eq!(check(&plan), refused(1, 0));
+    }
+    let mut plan = plan_q();
+    plan.corners.pop();
+    assert_eq!(check(&plan), refused(1, 0));
+    assert_eq!(check(&Plan::default()), refused(2, 0));
+}
+
+#[test]
+fn plan_q_cut_at_every_length() {
+    let file = encode(plan_q().lists());
+    assert_eq!(file.len(), 76);
+    for end in 0..file.len() {
+        let (reply, _) = read(&file[..end], [8, 12, 1]);
+        assert_eq!(reply, refused(1, 0), "cut at {end}");
+    }
+    assert_eq!(read(&file, [8, 12, 1]), (done([4, 2, 1]), plan_q()));
+}
+
+#[test]
+fn plan_q_with_every_byte_changed() {
+    let file = encode(plan_q().lists());
+    let (mut changed, mut taken) = (0, 0);
+    for at in 0..file.len() {
+        let flips = (0..8).map(|bit| file[at] ^ 1 << bit);
+        for byte in flips.chain([0, 255]) {
+            let mut other = file.clone();
+            other[at] = byte;
+            // Room for more than is there, for as much, and for less.
+            for room in [[20, 40, 9], [8, 12, 1], [7, 12, 1], [8, 11, 1], [8, 12, 0]] {
+                let (reply, lists) = read(&other, room);
+                if reply.number == 0 {
+                    let plan = Plan {
+                        corners: lists.corners[..8].to_vec(),
+                        cells: lists.cells[..12].to_vec(),
+                        doors: lists.doors[..1].to_vec(),
+                    };
+                    assert_eq!(write(&plan, other.len()).1, other, "byte {at} is {byte}");
+                    taken += 1;
+                }
+                changed += 1;
+            }
+        }
+    }
+    assert_eq!(changed, 76 * 10 * 5);
+    assert!(taken > 300, "{taken}");
+}
+
+#[test]
+fn files_with_wrong_frames() {
+    let file = encode(plan_q().lists());
+    let room = [8, 12, 1];
+    // The three records begin at 0, 38 and 68.
+    let records = [&file[..38], &file[38..68], &file[68..]];
+    for at in [0, 38, 68] {
+        for length in [u32::MAX, u32::MAX - 5, 0x8000_0000, 0x7fff_ffff] {
+            let mut other = file.clone();
+            other[at..at + 4].copy_from_slice(&length.to_le_bytes());
+            assert_eq!(read(&other, room).0, refused(1, 0), "{length} at {at}");
+        }
+    }
+    for extra in [1, 2, 6, 8] {
+        let longer = [file.clone(), vec![0; extra]].concat();
+        assert_eq!(read(&longer, room).0, refused(1, 0), "{extra} too many");
+    }
+    for order in [
+        vec![0, 2, 1],
+        vec![1, 0, 2],
+        vec![1, 2, 0],
+        vec![2, 0, 1],
+        vec![2, 1, 0],
+        vec![0, 1],
+        vec![0, 1, 2, 2],
+        vec![0, 0, 1, 2],
+        vec![],
+    ] {
+        let other: Vec<u8> = order.iter().flat_map(|&i| records[i]).copied().collect();
+        assert_eq!(read(&other, room).0, refused(1, 0), "{order:?}");
+    }
+    // Bodies that are no multiples of 8, 12 and 2.
+    for (at, body, by) in [(0, 32, 4), (38, 24, 6), (68, 2, 1)] {
+        let mut other = file.clone();
+        other.splice(at + 6..at + 6 + by, []);
+        other[at] = (body - by) as u8;
+        assert_eq!(read(&other, room).0, refused(1, 0), "body at {at}");
+    }
+    // Bodies of no bytes: no doors are right, no corners are too few.
+    let no_doors = [records[0], records[1], &[0, 0, 0, 0, 3, 0]].concat();
+    assert_eq!(read(&no_doors, room).0, done([4, 2, 0]));
+    let no_corners = [&[0, 0, 0, 0, 1, 0], records[1], records[2]].concat();
+    assert_eq!(read(&no_corners, room).0, refused(2, 0));
+}
+
+#[test]
+fn room_for_the_reader_the_writer_and_the_listing() {
+    let file = encode(plan_q().lists());
+    for room in [[7, 12, 1], [8, 11, 1], [8, 12, 0], [0, 0, 0]] {
+        assert_eq!(read(&file, room).0, refused(11, 0), "{room:?}");
+    }
+    assert_eq!(read(&file, [9, 14, 3]).0, done([4, 2, 1]));
+    for room in [0, 1, 75] {
+        assert_eq!(write(&plan_q(), room).0, refused(11, 0), "{room}");
+    }
+    let (reply, longer) = write(&plan_q(), 80);
+    assert_eq!(reply, done([4, 2, 1]));
+    assert_eq!(longer, [file, vec![FILL; 4]].concat());
+    let beside = Stand::Point(6.0, 3.0);
+    for room in [0, 9, 11] {
+        let fill = vec![u16::from(FILL); room];
+        assert_eq!(list(&plan_q(), 1, beside, room), (refused(11, 0), fill));
+    }
+    let (reply, table) = list(&plan_q(), 1, beside, 13);
+    assert_eq!(reply, done([3, 0, 0]));
+    let fill = u16::from(FILL);
+    assert_eq!(table, [0, 0, 1, 1, 1, 2, 2, 2, 0, fill, fill, fill, fill]);
+}
+
+#[test]
+fn settings_with_high_bits() {
+    let beside = Stand::Point(10.0, 1.0);
+    let bit = 1 << 63;
+    // The door on line 63 is shut, and nothing is seen behind it.
+    let (reply, _) = list(&strip(100, 64), bit, beside, 306);
+    assert_eq!(reply, done([66, 63, 0]));
+    assert_eq!(list(&strip(100, 64), 0, beside, 306).0, done([102, 99, 0]));
+    assert_eq!(list(&strip(100, 64), !0, beside, 306).0, done([3, 0, 0]));
+    for (doors, setting) in [(63, bit), (63, !0), (0, 1), (0, bit), (1, 2), (62, 1 << 62)] {
+        let (reply, _) = list(&strip(100, doors), setting, beside, 306);
+        assert_eq!(reply, refused(7, 0), "{doors} doors, setting {setting:#x}");
+    }
+    // The setting comes before the stand, and after the plan.
+    let nowhere = Stand::Point(f64::NAN, 0.5);
+    assert_eq!(list(&strip(100, 63), bit, nowhere, 0).0, refused(7, 0));
+    assert_eq!(list(&strip(100, 65), bit, nowhere, 0).0, refused(2, 0));
+}
+
+/// Numbers, and whether each is accepted as millimetres.
+fn numbers() -> Vec<(f64, bool)> {
+    let limit = f64::from(LIMIT);
+    let mut numbers = vec![
+        (0.0, true),
+        (-0.0, true),
+        (f64::NAN, false),
+        (-f64::NAN, false),
+    ];
+    for sign in [1.0, -1.0] {
+        for (number, accepted) in [
+            (0.5, false),
+            (1.0, true),
+            (limit, true),
+            (limit + 1.0, false),
+            (limit - 1.0, true),
+            (limit.next_up(), false),
+            (limit.next_down(), false),
+            ((limit + 1.0).next_up(), false),
+            ((limit + 1.0).next_down(), false),
+            (limit + 0.5, false),
+            (1.0f64.next_up(), false),
+            (1.0f64.next_down(), false),
+            (4_503_599_627_370_495.5, false),
+            (9_007_199_254_740_992.0, false),
+            (9_223_372_036_854_775_808.0, false),
+            (18_446_744_073_709_551_616.0, false),
+            (1e300, false),
+            (f64::MAX, false),
+            (f64::MIN_POSITIVE, false),
+            (f64::from_bits(1), false),
+            (f64::INFINITY, false),
+        ] {
+            numbers.push((sign * number, accepted));
+        }
+    }
+    // NaNs of every kind: quiet, signalling, with a sign, with other bits.
+    for bits in [
+        0x7ff0_0000_0000_0001,
+        0x7fff_ffff_ffff_ffff,
+        0xfff4_0000_0000_0000,
+    ] {
+        numbers.push((f64::from_bits(bits), false));
+    }
+    numbers
+}
+
+#[test]
+fn numbers_of_a_stand() {
+    let plan = plan_q();
+    for (number, accepted) in numbers() {
+        for stand in [
+            Stand::Point(number, 3.0),
+            Stand::Point(6.0, number),
+            Stand::Point(number, number),
+            Stand::Offset(0, number, 3.0),
+            Stand::Offset(0, 6.0, number),
+        ] {
+            let reply = find(&plan, stand);
+            assert_eq!(reply.number != 8, accepted, "{stand:?}");
+            let (listed, _) = list(&plan, 0, stand, 12);
+            assert_eq!(
+                (listed.number, listed.place),
+                (reply.number, 0),
+                "{stand:?}"
+            );
+        }
+    }
+    // Minus zero reads as 0; both are on the wall below.
+    assert_eq!(find(&plan, Stand::Point(6.0, -0.0)), refused(9, 0));
+    assert_eq!(find(&plan, Stand::Point(6.0, 0.0)), refused(9, 0));
+}
+
+/// A square of two cells from one end of the coordinates to the other.
+fn widest() -> Plan {
+    let mut plan = plan_q();
+    plan.corners = vec![-LIMIT, -LIMIT, LIMIT, -LIMIT, LIMIT, LIMIT, -LIMIT, LIMIT];
+    plan
+}
+
+#[test]
+fn offsets() {
+    let limit = f64::from(LIMIT);
+    let plan = widest();
+    let reply = |corner, dx, dy| find(&plan, Stand::Offset(corner, dx, dy));
+    assert_eq!(reply(2, -1.0, -2.0), done([0, 0, 0]));
+    assert_eq!(reply(2, -2.0, -1.0), done([1, 0, 0]));
+    // The sum passes a limit by one; the offset alone does.
+    assert_eq!(reply(2, 1.0, -2.0), refused(8, 0));
+    assert_eq!(reply(2, -2.0, 1.0), refused(8, 0));
+    assert_eq!(reply(0, -1.0, 2.0), refused(8, 0));
+    assert_eq!(reply(0, 2.0, -1.0), refused(8, 0));
+    assert_eq!(reply(0, limit + 1.0, 5.0), refused(8, 0));
+    assert_eq!(reply(2, -limit - 1.0, -5.0), refused(8, 0));
+    // At the limits themselves.
+    assert_eq!(reply(0, limit, limit), refused(9, 0));
+    assert_eq!(reply(2, -limit, -limit + 1.0), done([1, 0, 0]));
+    assert_eq!(reply(0, 0.0, -0.0), refused(9, 0));
+    // The corner is the count, or 65,535.
+    assert_eq!(reply(3, 1.0, -2.0), done([1, 0, 0]));
+    assert_eq!(reply(4, 1.0, -2.0), refused(8, 0));
+    assert_eq!(reply(65_535, 1.0, -2.0), refused(8, 0));
+    let (listed, table) = list(&plan_q(), 0, Stand::Offset(2, -4.0, -7.0), 12);
+    assert_eq!(listed, done([4, 1, 0]));
+    assert_eq!(table, [0, 0, 1, 1, 1, 2, 4, 2, 3, 5, 3, 0]);
+}
+
+#[test]
+fn stands_on_corners_and_lines_and_beside_them() {
+    let at = |x: i32, y: i32| find(&plan_q(), Stand::Point(f64::from(x), f64::from(y)));
+    // Corners, walls and the free line.
+    for [x, y] in [
+        [0, 0],
+        [10, 0],
+        [10, 10],
+        [0, 10],
+        [5, 0],
+        [10, 5],
+        [0, 5],
+        [5, 5],
+        [1, 1],
+    ] {
+        assert_eq!(at(x, y), refused(9, 0), "({x}, {y})");
+    }
+    // A millimetre off them.
+    for [x, y] in [
+        [-1, 0],
+        [0, -1],
+        [11, 0],
+        [10, 11],
+        [-1, 10],
+        [5, -1],
+        [5, 11],
+        [11, 5],
+        [-1, 5],
+    ] {
+        assert_eq!(at(x, y), refused(10, 0), "({x}, {y})");
+    }
+    for [x, y] in [[2, 1], [9, 8], [9, 1], [5, 1], [9, 5], [6, 5], [5, 4]] {
+        assert_eq!(at(x, y), done([0, 0, 0]), "({x}, {y})");
+    }
+    for [x, y] in [[1, 2], [8, 9], [1, 9], [1, 5], [5, 9], [5, 6], [4, 5]] {
+        assert_eq!(at(x, y), done([1, 0, 0]), "({x}, {y})");
+    }
+}
+
+#[test]
+fn the_least_of_cells_on_top_of_each_other() {
+    assert_eq!(find(&stack(3, 5), Stand::Point(2.0, 2.0)), done([0, 0, 0]));
+    // A cell elsewhere, one that has the stand on its border, then two that hold it.
+    let plan = Plan {
+        corners: vec![90, 90, 99, 90, 90, 99, 2, 0, 9, 2, 2, 9, 0, 0, 9, 0, 0, 9],
+        cells: [[0, 1, 2], [3, 4, 5], [6, 7, 8], [6, 7, 8]]
+            .iter()
+            .flat_map(|&[a, b, c]| [a, b, c, WALL, WALL, WALL])
+            .collect(),
+        doors: vec![],
+    };
+    assert_eq!(find(&plan, Stand::Point(2.0, 2.0)), done([2, 0, 0]));
+    assert_eq!(find(&plan, Stand::Point(0.0, 0.0)), refused(9, 0));
+    assert_eq!(find(&plan, Stand::Point(50.0, 50.0)), refused(10, 0));
+}
+
+#[test]
+fn the_twelve_examples() {
+    for example in all() {
+        let listed = both(|calls| example.ask(calls));
+        assert_eq!(listed, example.expected, "example {}", example.letter);
+    }
+}
+
+/// The strip is crossed from end to end, each call within the one before it.
+#[test]
+fn the_deepest_strip_on_small_stacks() {
+    let beside = Stand::Point(10.0, 1.0);
+    for cells in [2_000, 2_046] {
+        let plan = strip(cells, 64);
+        let corners = usize::from(cells) + 2;
+        let (reply, table) = list(&plan, 0, beside, 3 * corners);
+        assert_eq!(reply, done([corners as u64, u64::from(cells) - 1, 0]));
+        for stack in [2 << 20, 8 << 20] {
+            let mut small = vec![0; 3 * corners];
+            let again = list_on_stack(stack, plan.lists(), 0, beside, &mut small);
+            assert_eq!(
+                (again, &small),
+                (reply, &table),
+                "{cells} cells, {stack} bytes"
+            );
+        }
+    }
+}
