@@ -571,3 +571,132 @@ fn the_deepest_strip_on_small_stacks() {
         }
     }
 }
+
+/// The numbers of the listing, without the rest of the table.
+fn rows(plan: &Plan, setting: u64, stand: Stand) -> Vec<u16> {
+    let (reply, mut table) = list(plan, setting, stand, 3 * plan.corners.len() / 2);
+    assert_eq!(reply.number, 0);
+    table.truncate(3 * usize::try_from(reply.values[0]).expect("rows are few"));
+    table
+}
+
+/// The change's reply and table; a refusal leaves the table as it was.
+fn change(
+    plan: &Plan,
+    setting: u64,
+    stand: Stand,
+    given: &[u16],
+    door: usize,
+    shut: bool,
+) -> (Reply, Vec<u16>) {
+    let before = vec![u16::from(FILL); 3 * plan.corners.len() / 2];
+    let (reply, table) = both(|calls| {
+        let mut table = before.clone();
+        let reply = calls
+            .change(plan.lists(), setting, stand, given, door, shut, &mut table)
+            .expect("both have the change");
+        (reply, table)
+    });
+    if reply.number != 0 {
+        assert_eq!(table, before, "a refusal wrote");
+    }
+    (reply, table)
+}
+
+/// Changes a door from the true list and compares with a fresh listing.
+fn toggle(plan: &Plan, setting: u64, stand: Stand, door: usize) -> Vec<u16> {
+    let bit = 1 << door;
+    let given = rows(plan, setting, stand);
+    let changed = change(plan, setting, stand, &given, door, setting & bit == 0);
+    let fresh = list(plan, setting ^ bit, stand, changed.1.len());
+    assert_eq!(changed, fresh, "door {door} of setting {setting:b}");
+    rows(plan, setting ^ bit, stand)
+}
+
+/// A hall whose far door, face 10, lies behind a corner of the plan: its cell is
+/// entered on the corner's right and on its left. Faces 1 and 2 are doors too.
+fn hall() -> Plan {
+    Plan {
+        corners: vec![-10, 0, 10, 0, 0, 10, 10, 20, -10, 20, 1, 30],
+        cells: [
+            [0, 1, 2, WALL, 1, 2],
+            [1, 3, 2, WALL, 3, 0],
+            [0, 2, 4, 0, 3, WALL],
+            [2, 3, 4, 1, 4, 2],
+            [4, 3, 5, 3, WALL, WALL],
+        ]
+        .concat(),
+        doors: vec![10, 1, 2],
+    }
+}
+
+#[test]
+fn a_door_that_fills_two_adjacent_rows() {
+    let (plan, stand) = (hall(), Stand::Point(0.0, 5.0));
+    let open = rows(&plan, 0, stand);
+    let shut = toggle(&plan, 0, stand, 0);
+    let on_the_door: Vec<usize> = (0..shut.len() / 3).filter(|&i| shut[3 * i] == 10).collect();
+    assert_eq!(on_the_door.len(), 2, "one row for each route: {shut:?}");
+    assert_eq!(on_the_door[0] + 1, on_the_door[1], "side by side: {shut:?}");
+    assert_eq!(toggle(&plan, 1, stand, 0), open);
+}
+
+#[test]
+fn a_door_that_is_not_seen_and_the_doors_of_the_stands_own_cell() {
+    let (plan, stand) = (hall(), Stand::Point(0.0, 5.0));
+    // Behind the two shut doors of the stand's cell nothing changes.
+    assert_eq!(toggle(&plan, 0b110, stand, 0), rows(&plan, 0b110, stand));
+    for setting in 0..8 {
+        for door in 0..3 {
+            toggle(&plan, setting, stand, door);
+        }
+    }
+    assert_eq!(rows(&plan, 0b110, stand).len(), 9);
+}
+
+#[test]
+fn sixty_four_doors_one_after_another() {
+    let (plan, stand) = (strip(100, 64), Stand::Point(10.0, 1.0));
+    let mut setting = 0;
+    // From the far end to the near one, then opened in the other order.
+    for door in (0..64).rev().chain(0..64) {
+        toggle(&plan, setting, stand, door);
+        setting ^= 1 << door;
+    }
+    assert_eq!(setting, 0);
+}
+
+#[test]
+fn changes_that_are_refused() {
+    let (plan, stand) = (hall(), Stand::Point(0.0, 5.0));
+    let truth = rows(&plan, 0, stand);
+    let untrue = |given: &[u16]| {
+        assert_eq!(change(&plan, 0, stand, given, 0, true).0, refused(13, 0));
+    };
+    for place in 0..truth.len() {
+        for number in [truth[place].wrapping_sub(1), truth[place] + 1] {
+            let mut given = truth.clone();
+            given[place] = number;
+            untrue(&given);
+        }
+    }
+    untrue(&[]);
+    untrue(&truth[..truth.len() - 3]);
+    untrue(&truth[..truth.len() - 1]);
+    untrue(&[&truth[..], &truth[..3]].concat());
+    untrue(&[&truth[..], &[0, 0]].concat());
+    untrue(&rows(&plan, 0, Stand::Point(-9.0, 10.0)));
+    untrue(&rows(&plan, 1, stand));
+    // Reply 12 comes before 13.
+    for (setting, door, shut) in [(0, 3, true), (0, 64, false), (0, 0, false), (1, 0, true)] {
+        assert_eq!(
+            change(&plan, setting, stand, &[], door, shut).0,
+            refused(12, 0)
+        );
+    }
+    assert_eq!(
+        change(&plan, 0, stand, &truth, usize::MAX, true).0,
+        refused(12, 0)
+    );
+    assert_eq!(change(&plan, 8, stand, &truth, 0, true).0, refused(7, 0));
+}
