@@ -2,17 +2,18 @@
 use mathlib.Core.List.{List, [], _∷_, _++_}
 use mathlib.Core.Path.{_≡_, refl, ap, ap₂, sym, _∙_}
 use native.Mathlib.Omega.{arith}
-use Prim.Native.Nat.{ℕ, _+_, _*_, _<_}
+use Prim.Native.Nat.{ℕ, _+_, _*_, _-_, _<_}
 use lib.Seq.{sets}
 use lib.ListN.{length}
 use lib.IntN.{ℤ}
 use Rattle.plane.specs.Side.{Point}
-use Rattle.plan.specs.Lists.{corner-count, start}
+use Rattle.plan.specs.Lists.{corner-count, cell-count, face-count, start}
 use Rattle.plane.specs.Cone.{Meets, Direction}
 use Rattle.plan.specs.Sound.{Sound}
+use Rattle.plan.proofs.Plans.{corner-exists}
 use Rattle.stand.specs.declared.spot.Stand.{Stand}
-use Rattle.stand.proofs.Located.{InCell}
-use Rattle.sight.specs.Sight.{Sight, Row, rows, numbers, row-count}
+use Rattle.stand.proofs.Located.{InCell, the-cell-goes-around-the-stand}
+use Rattle.sight.specs.Sight.{Floor, Sight, Row, rows, numbers, row-count}
 use Rattle.sight.specs.Sight.Sight.{row, pass, both, cut}
 use Rattle.sight.specs.Once.{At}
 use Rattle.sight.specs.Walk.{WalkEnds}
@@ -22,6 +23,12 @@ use Rattle.sight.specs.declared.view.View.the-variants as O
 use Rattle.sight.specs.declared.list.Listed.{Listed}
 use Rattle.sight.specs.declared.list.Listed.the-variants as L
 use Rattle.sight.proofs.Trees.{row-count-counts-the-rows, whole-has-a-row}
+use Rattle.sight.proofs.Geometry.{Geometry}
+use Rattle.sight.proofs.Tree.{Grown, grown}
+use Rattle.sight.proofs.Tree.Grown.{ends, too-many, splits, keeps}
+use Rattle.sight.proofs.Places.{at-no-place, at-the-only-place, either-list}
+use Rattle.sight.proofs.Listing.{in-sight₀, in-sight₁, in-sight₂}
+use Rattle.sight.proofs.PlanFloor.{plan-geometry, plan-start}
 use Rattle.sight.proofs.Sightings.{first-side-is-whole, demand-2, walk-is-unique}
 
 written-joined : (a b : List Row) → written (a ++ b) ≡ written a ++ written b
@@ -45,6 +52,17 @@ module _ (cs : List ℤ) (ts ds : List ℕ) (w : ℕ) (q : Point) (c : ℕ) wher
   unfolding listing-row-count listing-rows row-count rows
   the-count-is-the-rows = row-count-counts-the-rows (both (both (through cs ts ds w q (3 * c)) (through cs ts ds w q (3 * c + 1))) (through cs ts ds w q (3 * c + 2)))
 
+-- the limits of a line's rows are corners, where the line's own are
+module _ {F : Floor} {N M : ℕ} {see : ℕ → Point} {from to cell : ℕ → ℕ} (G : Geometry F N M see from to cell) (n : ℕ) (apex-exists : (g : ℕ) → g < N → F .apex g < n) where
+  limits-of-a-tree : {f r l i : ℕ} {t : Sight} {w : Row} → Grown G f r l t → r < n → l < n → At w (rows t) i → (w .right < n) × (w .left < n)
+  unfolding rows
+  limits-of-a-tree (ends s e) a b p = rw (at-the-only-place p) (a, b)
+  limits-of-a-tree (too-many s) a b p = absurd (at-no-place p)
+  limits-of-a-tree (splits {f = f} {t = t} s free k g h) a b p =
+      let v = apex-exists _ (G .back-is-a-face f (s .is-a-face) free) in
+      either-list (rows t) p (λ j q. limits-of-a-tree g a v q) (λ j q. limits-of-a-tree h v b q)
+  limits-of-a-tree (keeps s free i g) a b p = limits-of-a-tree g a b p
+
 -- from a stand that is not refused, `list` replies the rows' count and the crossings, writes the rows and keeps what stands beyond them
 pub list-writes-the-rows : (cs : List ℤ) (ts ds : List ℕ) (w : ℕ) (s : Stand) (table : List ℕ) {x y : ℤ} {c : ℕ} → viewed cs ts ds w s (length table) ≡ O.From x y c → listed cs ts ds w s table ≡ (L.Rows (length (listing-rows cs ts ds w (record { x = x; y = y }) c)) (listing-crossings cs ts ds w (record { x = x; y = y }) c), sets table 0 (written (listing-rows cs ts ds w (record { x = x; y = y }) c)))
 unfolding listed
@@ -66,6 +84,22 @@ module _ {cs : List ℤ} {ts ds : List ℕ} (sound : Sound cs ts ds) (w : ℕ) (
   a-wall-met-first-has-a-row d n clear met =
       let held = demand-2 sound w q c stands d n clear in
       (held .0, held .1 .place, held .1 .stands, walk-is-unique sound w q c stands d (held .2) met)
+
+  -- each row's limits are corners of the plan
+  pub row-limits-are-corners : {r : Row} {i : ℕ} → At r (listing-rows cs ts ds w q c) i → (r .right < corner-count cs) × (r .left < corner-count cs)
+  unfolding listing-rows
+  row-limits-are-corners p =
+      let G = plan-geometry sound w q in
+      let S = plan-start sound w q c (stands .cell-exists) (the-cell-goes-around-the-stand cs ts q c (stands .strictly-inside)) in
+      let at₀ = corner-exists sound (3 * c) (S .side₀) in
+      let at₁ = corner-exists sound (3 * c + 1) (S .side₁) in
+      let at₂ = corner-exists sound (3 * c + 2) (S .side₂) in
+      let apexes : (g : ℕ) → g < face-count ts → plan-floor cs ts ds w q .apex g < corner-count cs = (λ g h. rw (← G .left-starts g h) (corner-exists sound _ (G .left-is-a-face g h))) in
+      either-list (rows (through cs ts ds w q (3 * c)) ++ rows (through cs ts ds w q (3 * c + 1))) p
+      (λ j u. either-list (rows (through cs ts ds w q (3 * c))) u
+      (λ k v. limits-of-a-tree G (corner-count cs) apexes (grown G (cell-count ts - 1) (3 * c) (start ts (3 * c)) (finish ts (3 * c)) (in-sight₀ G S 0)) at₀ (rw (S .turn₀) at₁) v)
+      (λ k v. limits-of-a-tree G (corner-count cs) apexes (grown G (cell-count ts - 1) (3 * c + 1) (start ts (3 * c + 1)) (finish ts (3 * c + 1)) (in-sight₁ G S 0)) at₁ (rw (S .turn₁) at₂) v))
+      (λ k v. limits-of-a-tree G (corner-count cs) apexes (grown G (cell-count ts - 1) (3 * c + 2) (start ts (3 * c + 2)) (finish ts (3 * c + 2)) (in-sight₂ G S 0)) at₂ (rw (S .turn₂) at₀) v)
 
 -- the promise of the listing leaves one reply and one table
 pub list-has-one-reply : (cs : List ℤ) (ts ds : List ℕ) (w : ℕ) (stand : Stand) (table : List ℕ) {r s : Listed × List ℕ} → r ≡ listed cs ts ds w stand table → s ≡ listed cs ts ds w stand table → r ≡ s

@@ -9,3 +9,7 @@ use Rattle.stand.specs.declared.find.Found.{Found}
 
 pub find-has-one-reply : (cs : List ℤ) (ts ds : List ℕ) (stand : Stand) {r s : Found} → r ≡ found cs ts ds stand → s ≡ found cs ts ds stand → r ≡ s
 find-has-one-reply cs ts ds stand h k = h ∙ sym k
+
+-- so does every promise that equates a result with a definition of the input, whatever the result is
+pub an-equation-has-one-reply : {A : Type 0} (x : A) {r s : A} → r ≡ x → s ≡ x → r ≡ s
+an-equation-has-one-reply x h k = h ∙ sym k
