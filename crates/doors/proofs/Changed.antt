@@ -2,16 +2,13 @@
 use mathlib.Core.Bool.{Bool, true, false, not}
 use mathlib.Core.List.{List}
 use mathlib.Core.Path.{_≡_, refl, ap, sym, _∙_}
-use native.Mathlib.Omega.{arith}
 use Prim.Native.Nat.{ℕ, _^_, _<_, _≤_}
-use borrow.Author.Tests.{lt-ltb, ltb-true}
-use lib.Dec.{ltb}
+use borrow.Author.Tests.{lt-ltb, ltb-true, not-false}
 use lib.ListN.{length}
 use lib.IntN.{ℤ}
 use Rattle.plane.specs.Side.{Point}
 use Rattle.plan.specs.Setting.{wrong-setting}
 use Rattle.plan.specs.Check.{checked}
-use Rattle.plan.specs.declared.Refusal.{Refusal}
 use Rattle.plan.specs.declared.Refusal.the-variants as R
 use Rattle.plan.specs.declared.Checked.{Checked}
 use Rattle.plan.specs.declared.Checked.the-variants as C
@@ -23,6 +20,7 @@ use Rattle.sight.specs.declared.view.View.{View}
 use Rattle.sight.specs.declared.view.View.the-variants as O
 use Rattle.sight.specs.declared.list.Listed.{Listed}
 use Rattle.sight.specs.declared.list.Listed.the-variants as L
+use Rattle.sight.proofs.Views.{a-refusal-is-no-view}
 use Rattle.doors.specs.Change.{in-state, wished, changed-from, changed}
 use Rattle.doors.proofs.Changes.{is-the-same, is-another, no-such-door, already-so, not-true, change-made}
 
@@ -31,12 +29,8 @@ pub the-wished-setting-is-not-wrong : (w i k : ℕ) (b : Bool) → i < k → wro
 unfolding wrong-setting
 the-wished-setting-is-not-wrong w i k b exists e = ap not (lt-ltb _ _ (by-state b))
   where
-    by-test : (t : Bool) → ltb w (2 ^ k) ≡ t → not t ≡ false → w < 2 ^ k
-    by-test true h r = ltb-true _ _ h
-    by-test false h r = absurd (let z : _≡_ {A = ℕ} 0 1 = cc in omega arith)
-
     within : w < 2 ^ k
-    within = by-test (ltb w (2 ^ k)) refl e
+    within = ltb-true _ _ (not-false _ e)
 
     by-state : (b : Bool) → wished b w i < 2 ^ k
     by-state true = shutting-keeps-within w i k exists within
@@ -68,16 +62,13 @@ module _ (cs : List ℤ) (ts ds : List ℕ) (w : ℕ) (s : Stand) (given : List 
       unfolding viewed
       same-view = by-plan (checked cs ts ds) view
         where
-          never : {r : Refusal} → O.Refused r ≡ O.From x y c → ⊥
-          never p = let z : _≡_ {A = ℕ} 0 1 = cc in omega arith
-
           by-setting : (v : View) (t : Bool) → wrong-setting w (length ds) ≡ t → unless t R.Setting v ≡ O.From x y c → unless (wrong-setting (wished b w i) (length ds)) R.Setting v ≡ O.From x y c
-          by-setting v true h p = absurd (never p)
+          by-setting v true h p = absurd (a-refusal-is-no-view p)
           by-setting v false h p = ap (λ (t : Bool). unless t R.Setting v) (the-wished-setting-is-not-wrong w i (length ds) b exists h) ∙ p
 
           by-plan : (k : Checked) → view-of-plan cs ts ds w s (length table) k ≡ O.From x y c → view-of-plan cs ts ds (wished b w i) s (length table) k ≡ O.From x y c
           by-plan (C.Accepted p) e = by-setting (view-of-spot cs ts (length table) (stood cs s)) (wrong-setting w (length ds)) refl e
-          by-plan (C.Refused r) e = absurd (never e)
+          by-plan (C.Refused r) e = absurd (a-refusal-is-no-view e)
 
       -- from a true list the change gives what a fresh listing gives: rows, order, crossings and the table
       pub the-change-is-a-fresh-listing : given ≡ listing-numbers cs ts ds w q c → changed cs ts ds w s given i b table ≡ listed cs ts ds (wished b w i) s table

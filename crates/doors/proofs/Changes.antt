@@ -1,16 +1,17 @@
 -- The door change: when the given list is the true one, and the replies in their order.
 use mathlib.Core.Bool.{Bool, true, false, not, _&&_, _||_}
-use mathlib.Core.List.{List, [], _∷_, _++_}
-use mathlib.Core.Path.{_≡_, refl, ap, sym, _∙_}
+use mathlib.Core.List.{List, [], _∷_}
+use mathlib.Core.Path.{_≡_, refl, ap, ap₂, sym, _∙_}
 use native.Mathlib.Omega.{arith}
 use Prim.Native.Nat.{ℕ, _*_, _+_, _<_, _≤_}
 use borrow.Author.Tests.{eqb-true, eq-eqb, lt-ltb, le-ltb}
 use lib.Dec.{eqb}
-use lib.ListN.{length, length-append, take, drop}
+use lib.ListN.{length, take, drop}
 use lib.Seq.{sets, sets-eq, take-at}
 use lib.IntN.{ℤ}
 use mir.Syntax.{w64}
 use mir.Val.{toZ, ofZ}
+use Rattle.exact.proofs.Truth.{both-true}
 use Rattle.plane.specs.Side.{Point}
 use Rattle.plan.specs.Lists.{corner-count}
 use Rattle.plan.specs.Sound.{Sound}
@@ -22,15 +23,17 @@ use Rattle.stand.specs.declared.spot.Stand.{Stand}
 use Rattle.stand.specs.declared.find.Found.the-variants as F
 use Rattle.stand.proofs.Finds.{as-read}
 use Rattle.stand.proofs.Located.{found-cell-holds-the-stand}
-use Rattle.sight.specs.Sight.{numbers}
-use Rattle.sight.specs.Listing.{through, viewed, listing-numbers, listing-row-count, listing-crossings, listed-from}
+use Rattle.sight.specs.Sight.{row-count}
+use Rattle.sight.specs.Listing.{viewed, listing-numbers, listing-row-count, listing-crossings, listed-from}
 use Rattle.sight.specs.declared.view.View.the-variants as O
 use Rattle.sight.specs.declared.list.Listed.{Listed}
 use Rattle.sight.specs.declared.list.Listed.the-variants as L
 use Rattle.sight.proofs.Trees.{three-numbers-a-row}
 use Rattle.sight.proofs.Sightings.{rows-never-outnumber-corners}
 use Rattle.sight.proofs.Views.{view-says}
+use Rattle.doors.specs.PlanFloor.{sight-from}
 use Rattle.doors.specs.Change.{same-list, in-state, wished, no-change, refuse, changed-from, changed}
+use Rattle.doors.proofs.Fresh.{numbers-are}
 
 pub same-is-true : (a : List ℕ) → same-list a a ≡ true
 unfolding same-list
@@ -40,11 +43,7 @@ same-is-true (x ∷ xs) = ap (λ b. b && same-list xs xs) (eq-eqb x x refl) ∙ 
 pub true-is-same : (a b : List ℕ) → same-list a b ≡ true → a ≡ b
 unfolding same-list
 true-is-same [] [] e = refl
-true-is-same (x ∷ xs) (y ∷ ys) e = by-first (true-is-same xs ys) (eqb x y) refl e
-  where
-    by-first : (same-list xs ys ≡ true → xs ≡ ys) → (t : Bool) → eqb x y ≡ t → t && same-list xs ys ≡ true → x ∷ xs ≡ y ∷ ys
-    by-first rest true h r = λ i. eqb-true x y h i ∷ rest r i
-    by-first rest false h r = absurd (let z : _≡_ {A = ℕ} 0 1 = cc in omega arith)
+true-is-same (x ∷ xs) (y ∷ ys) e = let (h, r) = both-true (eqb x y) (same-list xs ys) e in ap₂ _∷_ (eqb-true x y h) (true-is-same xs ys r)
 true-is-same [] (y ∷ ys) e = absurd (let z : _≡_ {A = ℕ} 0 1 = cc in omega arith)
 true-is-same (x ∷ xs) [] e = absurd (let z : _≡_ {A = ℕ} 0 1 = cc in omega arith)
 
@@ -58,12 +57,6 @@ is-another {a} {b} apart = by-test (same-list a b) refl
     by-test true h = absurd (apart (true-is-same a b h))
     by-test false h = sym h
 
-in-all : (a b d : List ℕ) (i j k : ℕ) → length a ≡ 3 * i → length b ≡ 3 * j → length d ≡ 3 * k → length (a ++ b ++ d) ≡ 3 * (i + j + k)
-in-all a b d i j k p r s =
-    let e = length-append (a ++ b) d in
-    let f = length-append a b in
-    omega arith
-
 -- the numbers stand at the start of the table that was written
 pub first-numbers : (table new numbers : List ℕ) (n : ℕ) → new ≡ sets table 0 numbers → length numbers ≡ n → n ≤ length table → take n new ≡ numbers
 first-numbers table new numbers n is counted room =
@@ -71,8 +64,8 @@ first-numbers table new numbers n is counted room =
 
 module _ {cs : List ℤ} {ts ds : List ℕ} (sound : Sound cs ts ds) (w : ℕ) (q : Point) (c : ℕ) (stands : located cs ts q ≡ F.Cell c) where
   counted : length (listing-numbers cs ts ds w q c) ≡ 3 * listing-row-count cs ts ds w q c
-  unfolding listing-numbers listing-row-count
-  counted = in-all (numbers (through cs ts ds w q (3 * c))) (numbers (through cs ts ds w q (3 * c + 1))) (numbers (through cs ts ds w q (3 * c + 2))) _ _ _ (three-numbers-a-row (through cs ts ds w q (3 * c))) (three-numbers-a-row (through cs ts ds w q (3 * c + 1))) (three-numbers-a-row (through cs ts ds w q (3 * c + 2)))
+  unfolding listing-row-count row-count
+  counted = ap length (numbers-are cs ts ds w q c) ∙ three-numbers-a-row (sight-from cs ts ds w q c)
 
   pub numbers-fit : {n : ℕ} → n ≡ listing-row-count cs ts ds w q c → 3 * n ≤ 3 * corner-count cs
   numbers-fit e =

@@ -3,20 +3,20 @@ use mathlib.Core.Bool.{Bool, true}
 use mathlib.Core.List.{map}
 use mathlib.Core.Path.{_≡_, sym, _∙_, ap}
 use Prim.Native.Nat.{ℕ, _+_, _<_}
-use Rattle.sight.specs.Sight.{Floor, Sight, follow, rows, numbers, crossings, Whole}
-use Rattle.sight.specs.Sight.Sight.{row, both}
+use Rattle.sight.specs.Sight.{Floor, Sight, follow, numbers, crossings, Whole}
+use Rattle.sight.specs.Sight.Sight.{both}
 use Rattle.sight.specs.Once.{At}
-use Rattle.doors.specs.Route.{Routed, routed, row-numbers}
+use Rattle.doors.specs.Route.{routed, row-numbers}
 use Rattle.doors.specs.Door.{same-to-door, on-door, untouched, those}
 use Rattle.doors.specs.Shutting.{Piece, runs, door-row, shut-rows, prune, crossings-left, crossings-lost}
-use Rattle.doors.specs.Opening.{open-at, open-rows}
+use Rattle.doors.specs.Opening.{open-rows}
 use Rattle.doors.specs.Floors.{ending, Shuts, Faces, from-cell}
-use Rattle.doors.proofs.Routes.{routed-rows-are-the-rows, routed-numbers-are-the-numbers}
+use Rattle.doors.proofs.Routes.{routed-numbers-are-the-numbers}
 use Rattle.doors.proofs.Pruned.{pruned-is-whole, crossings-once-shut, crossings-while-open}
 use Rattle.doors.proofs.Untouched.{untouched-rows-stay}
 use Rattle.doors.proofs.SideBySide.{an-end-is-no-door}
 use Rattle.doors.proofs.Shut.{shut-listing-is-pruned}
-use Rattle.doors.proofs.Opened.{open-listing-is-opened, open-rows-are-opened, open-rows-of-both}
+use Rattle.doors.proofs.Opened.{open-rows-are-opened, open-rows-of-both}
 use Rattle.doors.proofs.Through.{follow-goes-through}
 use Rattle.doors.proofs.Runs.{Listed, shut-rows-are-the-pruned-rows}
 use Rattle.doors.proofs.Runs.Listed.{sides}
@@ -75,9 +75,6 @@ module _ {N f₀ g₀ : ℕ} {F : Floor} {once-shut : ℕ → Bool} {from to : �
   pub shutting-replaces-each-run : routed once ≡ shut-rows f₀ g₀ (routed while-open)
   shutting-replaces-each-run = ap routed shutting-prunes ∙ shut-rows-are-the-pruned-rows f₀ g₀ (listed (A .lines-differ) L)
 
-  pub shut-rows-are-the-rows : rows once ≡ map (λ (x : Routed). x .row) (shut-rows f₀ g₀ (routed while-open))
-  shut-rows-are-the-rows = sym (routed-rows-are-the-rows once) ∙ ap (map (λ (x : Routed). x .row)) shutting-replaces-each-run
-
   pub shut-numbers-are-the-numbers : numbers once ≡ row-numbers (shut-rows f₀ g₀ (routed while-open))
   shut-numbers-are-the-numbers = sym (routed-numbers-are-the-numbers once) ∙ ap row-numbers shutting-replaces-each-run
 
@@ -121,11 +118,6 @@ module _ {N f₀ g₀ : ℕ} {F : Floor} {once-shut : ℕ → Bool} {from to : �
   crossings-while-open-are-those-and-the-lost = crossings-while-open f₀ g₀ while-open ∙ ap (λ (t : Sight). crossings t + crossings-lost f₀ g₀ while-open) (sym shutting-prunes)
 
   -- ---- opening
-
-  pub opening-opens : while-open ≡ open-at F f₀ g₀ n once
-  unfolding open-at
-  opening-opens =
-      rw (← open-listing-is-opened F S A n s₀ (from s₀) (to s₀) (L .face₀), ← open-listing-is-opened F S A n s₁ (from s₁) (to s₁) (L .face₁), ← open-listing-is-opened F S A n s₂ (from s₂) (to s₂) (L .face₂))
 
   -- the listing under the open setting is the listing under the shut one with each row on the door replaced by its run
   pub opening-replaces-each-door-row : routed while-open ≡ open-rows F f₀ g₀ n (routed once)

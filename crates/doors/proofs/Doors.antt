@@ -1,26 +1,19 @@
 -- Where a door stands on a route.
-use mathlib.Core.Bool.{Bool, true, false, _||_, true≢false}
+use mathlib.Core.Bool.{true, false}
 use mathlib.Core.List.{List, [], _∷_}
 use mathlib.Core.Logic.{_⊎_, inl, inr}
 use mathlib.Core.Path.{_≡_, refl}
 use Prim.Native.Nat.{ℕ}
 use borrow.Author.Tests.{eqb-true, eqb-false, eq-eqb, ne-eqb}
 use lib.Dec.{eqb}
+use Rattle.exact.proofs.Truth.{one-true, neither-true}
 use Rattle.doors.specs.Route.{Routed, via}
 use Rattle.doors.specs.Door.{is-door, crosses, side-seen, before, same-to-door, on-door, untouched}
-
-either-holds : {a b : Bool} → (a || b) ≡ true → (a ≡ true) ⊎ (b ≡ true)
-either-holds {a = true} e = inl refl
-either-holds {a = false} e = inr e
-
-neither-holds : {a b : Bool} → (a || b) ≡ false → (a ≡ false) × (b ≡ false)
-neither-holds {a = true} {b = b} e = absurd (true≢false e)
-neither-holds {a = false} e = (refl, e)
 
 module _ (f₀ g₀ : ℕ) where
   pub door-is-one-of-its-faces : (f : ℕ) → is-door f₀ g₀ f ≡ true → (f ≡ f₀) ⊎ (f ≡ g₀)
   unfolding is-door
-  door-is-one-of-its-faces f e = by-face (either-holds e)
+  door-is-one-of-its-faces f e = by-face (one-true _ _ e)
     where
       by-face : (eqb f f₀ ≡ true) ⊎ (eqb f g₀ ≡ true) → (f ≡ f₀) ⊎ (f ≡ g₀)
       by-face (inl h) = inl (eqb-true _ _ h)
@@ -28,7 +21,7 @@ module _ (f₀ g₀ : ℕ) where
 
   pub another-is-neither-face : (f : ℕ) → is-door f₀ g₀ f ≡ false → (f ≡ f₀ → ⊥) × (f ≡ g₀ → ⊥)
   unfolding is-door
-  another-is-neither-face f e = let n = neither-holds e in (eqb-false _ _ (n .0), eqb-false _ _ (n .1))
+  another-is-neither-face f e = let n = neither-true _ _ e in (eqb-false _ _ (n .0), eqb-false _ _ (n .1))
 
   -- ---- a route that begins at the door
 

@@ -80,10 +80,6 @@ pub data All {A : Type 0} (P : A → Type 0) : List A → Type 0 where
   besides : {x : A} {xs : List A} → P x → All P xs → All P (x ∷ xs)
 
 module _ {A : Type 0} where
-  pub all-at : {P : A → Type 0} {xs : List A} {x : A} {i : ℕ} → All P xs → At x xs i → P x
-  all-at (besides h a) first = h
-  all-at (besides h a) (later p) = all-at a p
-
   pub all-have : {P Q : A → Type 0} {xs : List A} → ((x : A) → P x → Q x) → All P xs → All Q xs
   all-have h nothing = nothing
   all-have h (besides p a) = besides (h _ p) (all-have h a)

@@ -5,29 +5,15 @@ use mathlib.Core.Path.{_≡_, refl, sym, _∙_, ap}
 use Prim.Native.Nat.{ℕ, suc, _-_, _<_}
 use native.Mathlib.Omega.{arith}
 use lib.ListN.{length}
-use Rattle.sight.specs.Sight.{Floor, Sight, follow, Whole}
-use Rattle.sight.specs.Sight.Sight.{row, pass, both}
+use Rattle.sight.specs.Sight.{Floor, Sight, follow}
+use Rattle.sight.specs.Sight.Sight.{row}
 use Rattle.doors.specs.Route.{Routed, via, routed}
 use Rattle.doors.specs.Door.{is-door, on-door}
-use Rattle.doors.specs.Shutting.{prune}
-use Rattle.doors.specs.Opening.{behind, open-at, run-of, open-rows}
+use Rattle.doors.specs.Opening.{behind, run-of, open-rows}
 use Rattle.doors.specs.Floors.{ending, Shuts, Faces}
 use Rattle.doors.proofs.SideBySide.{side-by-side}
-use Rattle.doors.proofs.Shut.{shut-listing-is-pruned}
 
 module _ (F : Floor) (f₀ g₀ : ℕ) where
-  -- ---- on the tree
-
-  open-a-door : (n f r l : ℕ) → is-door f₀ g₀ f ≡ true → open-at F f₀ g₀ n (row f r l) ≡ follow F n f r l
-  unfolding open-at
-  open-a-door n f r l d = rw (d, open-at)
-
-  leave-a-wall : (n f r l : ℕ) → is-door f₀ g₀ f ≡ false → open-at F f₀ g₀ n (row f r l) ≡ row f r l
-  unfolding open-at
-  leave-a-wall n f r l d = rw (d, open-at)
-
-  -- ---- on rows with their routes
-
   module _ (n : ℕ) (x : Routed) (xs : List Routed) where
     opened-on-the-door : on-door f₀ g₀ x ≡ true → open-rows F f₀ g₀ n (x ∷ xs) ≡ run-of F f₀ g₀ n x ++ open-rows F f₀ g₀ n xs
     unfolding open-rows
@@ -76,28 +62,9 @@ module _ (F : Floor) (f₀ g₀ : ℕ) where
   row-elsewhere n f r l d = left-elsewhere n _ [] d
 
 module _ {N f₀ g₀ : ℕ} (F : Floor) {once-shut : ℕ → Bool} (S : Shuts N f₀ g₀ (F .ends) once-shut) (A : Faces N F) where
-  abbrev Opened : ℕ → Sight → Sight → Type 0
-  Opened n t t′ = t ≡ open-at F f₀ g₀ n t′
-
-  over-a-passage : (n f r l : ℕ) (t t′ : Sight) → is-door f₀ g₀ f ≡ false → Opened n t t′ → Opened (suc n) (pass f r l t) (pass f r l t′)
-  unfolding open-at
-  over-a-passage n f r l t t′ d p =
-      let one-less : suc n - 1 ≡ n = omega arith in
-      rw (one-less, p)
-
-  over-a-split : (n : ℕ) (t t′ u u′ : Sight) → Opened n t t′ → Opened n u u′ → Opened n (both t u) (both t′ u′)
-  unfolding open-at
-  over-a-split n t t′ u u′ p q = rw (p, q)
-
-  pub open-listing-is-opened : (n f r l : ℕ) → f < N → follow F n f r l ≡ open-at F f₀ g₀ n (follow (ending F once-shut) n f r l)
-  unfolding open-at
-  open-listing-is-opened n f r l h =
-      side-by-side F S A Opened (λ n f r l d. sym (leave-a-wall F f₀ g₀ n f r l d)) refl (λ n f r l d. sym (open-a-door F f₀ g₀ n f r l d)) over-a-passage over-a-split n f r l h
-
   abbrev OpenedRows : ℕ → Sight → Sight → Type 0
   OpenedRows n t t′ = routed t ≡ open-rows F f₀ g₀ n (routed t′)
 
-  -- so on rows with their routes
   pub open-rows-are-opened : (n f r l : ℕ) → f < N → routed (follow F n f r l) ≡ open-rows F f₀ g₀ n (routed (follow (ending F once-shut) n f r l))
   unfolding routed open-rows
   open-rows-are-opened n f r l h =
@@ -105,12 +72,3 @@ module _ {N f₀ g₀ : ℕ} (F : Floor) {once-shut : ℕ → Bool} (S : Shuts N
       (λ n f r l t t′ d p. ap (map (via f)) p ∙ sym (open-rows-further-on F f₀ g₀ n f (routed t′)))
       (λ n t t′ u u′ p q. rw (p, q) (sym (open-rows-of-both F f₀ g₀ n (routed t′) (routed u′))))
       n f r l h
-
-  -- shutting and then opening returns the first tree, and so does opening and then shutting
-  pub opening-undoes-shutting : (n f r l : ℕ) → f < N → Whole (follow F n f r l) → open-at F f₀ g₀ n (prune f₀ g₀ (follow F n f r l)) ≡ follow F n f r l
-  opening-undoes-shutting n f r l h w =
-      ap (open-at F f₀ g₀ n) (sym (shut-listing-is-pruned F S A n f r l h w)) ∙ sym (open-listing-is-opened n f r l h)
-
-  pub shutting-undoes-opening : (n f r l : ℕ) → f < N → Whole (follow F n f r l) → prune f₀ g₀ (open-at F f₀ g₀ n (follow (ending F once-shut) n f r l)) ≡ follow (ending F once-shut) n f r l
-  shutting-undoes-opening n f r l h w =
-      ap (prune f₀ g₀) (sym (open-listing-is-opened n f r l h)) ∙ sym (shut-listing-is-pruned F S A n f r l h w)

@@ -13,7 +13,7 @@ use Rattle.plan.specs.Sound.{Sound}
 use Rattle.plan.proofs.Plans.{back-starts-at-the-finish, back-finishes-at-the-start, door-exists, door-is-free}
 use Rattle.plan.proofs.Settings.{opening-opens-the-door, opening-undoes-shutting, shutting-undoes-opening}
 use Rattle.stand.proofs.Located.{InCell}
-use Rattle.sight.specs.Sight.{Sight, rows, numbers, crossings}
+use Rattle.sight.specs.Sight.{Sight, numbers, crossings}
 use Rattle.sight.specs.Once.{At}
 use Rattle.doors.specs.Route.{Routed, routed, way, row-numbers}
 use Rattle.doors.specs.Door.{is-door, same-to-door, on-door, untouched, those}
@@ -25,8 +25,8 @@ use Rattle.doors.proofs.Demand3.{DoorChange, listed}
 use Rattle.doors.proofs.Routes.{routed-numbers-are-the-numbers, face-is-on-the-way}
 use Rattle.doors.proofs.Ways.{way-tells-the-place, every-row-has-its-own-way}
 use Rattle.doors.proofs.SideSeen as Side
-use Rattle.sight.proofs.PlanFloor.{plan-geometry}
-use Rattle.doors.proofs.PlanDoors.{plan-faces, start-in-the-cell, plan-sides, plan-change}
+use Rattle.sight.proofs.PlanFloor.{plan-geometry, start-in-the-cell}
+use Rattle.doors.proofs.PlanDoors.{plan-faces, plan-sides, plan-change}
 
 module _ {cs : List ℤ} {ts ds : List ℕ} (sound : Sound cs ts ds) (q : Point) (c : ℕ) (stands : InCell cs ts q c) (i : ℕ) (h : i < length ds) where
   -- the door's two faces
@@ -56,9 +56,6 @@ module _ {cs : List ℤ} {ts ds : List ℕ} (sound : Sound cs ts ds) (q : Point)
     -- the listing under the shut setting is the listing under the open one with each run replaced by one row
     pub shutting-replaces-each-run : listing (with-shut w i) ≡ shut-rows f₀ g₀ (listing w)
     shutting-replaces-each-run = Any.shutting-replaces-each-run (change w is-open)
-
-    pub shut-rows-are-the-rows : rows (under (with-shut w i)) ≡ map (λ (x : Routed). x .row) (shut-rows f₀ g₀ (listing w))
-    shut-rows-are-the-rows = Any.shut-rows-are-the-rows (change w is-open)
 
     pub shut-numbers-are-the-numbers : numbers (under (with-shut w i)) ≡ row-numbers (shut-rows f₀ g₀ (listing w))
     shut-numbers-are-the-numbers = Any.shut-numbers-are-the-numbers (change w is-open)

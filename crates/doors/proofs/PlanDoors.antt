@@ -10,24 +10,18 @@ use lib.IntN.{ℤ}
 use Rattle.plane.specs.Side.{Point}
 use Rattle.plan.specs.Limits.{wall}
 use Rattle.plan.specs.Lists.{cell-count, face-count, next, start, neighbour, back}
-use Rattle.plan.specs.Setting.{shut, with-shut, with-open, ends}
+use Rattle.plan.specs.Setting.{shut, with-shut, ends}
 use Rattle.plan.specs.Sound.{Sound}
 use Rattle.plan.proofs.Doors.{names-neither}
-use Rattle.plan.proofs.Plans.{back-exists, back-is-free, back-of-back, door-exists, door-is-free, no-earlier-door-names-its-line}
-use Rattle.plan.proofs.Settings.{shutting-changes-no-other-face, shutting-ends-sight-at-the-face, shutting-ends-sight-at-the-back, opening-frees-the-face}
-use Rattle.stand.proofs.Located.{InCell, the-cell-goes-around-the-stand}
+use Rattle.plan.proofs.Plans.{back-is-free, back-of-back, door-exists, door-is-free, no-earlier-door-names-its-line}
+use Rattle.plan.proofs.Settings.{open-stays, shutting-changes-no-other-face, shutting-ends-sight-at-the-face, shutting-ends-sight-at-the-back, opening-frees-the-face}
+use Rattle.stand.proofs.Located.{InCell}
 use Rattle.sight.proofs.Geometry.{Geometry}
-use Rattle.sight.proofs.Fuel.{listing-is-whole}
-use Rattle.sight.proofs.Listing.{Start, in-sight₀, in-sight₁, in-sight₂}
 use Rattle.doors.specs.Floors.{Shuts, Faces}
 use Rattle.doors.specs.PlanFloor.{plan-floor, seen, finish}
-use Rattle.sight.proofs.PlanFloor.{plan-geometry, plan-start}
+use Rattle.sight.proofs.PlanFloor.{plan-geometry, start-in-the-cell}
+use Rattle.sight.proofs.Sightings.{first-side-is-whole, second-side-is-whole, third-side-is-whole}
 use Rattle.doors.proofs.Demand3.{Sides, DoorChange}
-
--- an open door stays open
-open-stays : (w i : ℕ) → shut w i ≡ false → with-open w i ≡ w
-unfolding with-open
-open-stays w i e = rw (e, with-open)
 
 -- the two other sides of a cell differ
 other-sides-differ : (g : ℕ) → next g ≡ next (next g) → ⊥
@@ -42,9 +36,6 @@ module _ {cs : List ℤ} {ts ds : List ℕ} (sound : Sound cs ts ds) where
 
     abbrev pub other : ℕ
     other = back ts (getD ds i 0)
-
-    pub other-exists : other < face-count ts
-    other-exists = back-exists sound face (door-exists sound i h) (door-is-free sound i h)
 
     pub other-is-free : neighbour ts other ≡ wall → ⊥
     other-is-free = back-is-free sound face (door-exists sound i h) (door-is-free sound i h)
@@ -97,24 +88,21 @@ module _ {cs : List ℤ} {ts ds : List ℕ} (sound : Sound cs ts ds) where
           lines-differ = other-sides-differ;
         }
 
-    module _ (c : ℕ) (stands : InCell cs ts q c) where
-      pub start-in-the-cell : Start (face-count ts) (seen cs q) (start ts) (finish ts) (3 * c) (3 * c + 1) (3 * c + 2)
-      start-in-the-cell = plan-start sound w q c (stands .cell-exists) (the-cell-goes-around-the-stand cs ts q c (stands .strictly-inside))
-
-      -- cells − 1 crossings are enough: nothing is cut
-      pub plan-sides : Sides (face-count ts) (plan-floor cs ts ds w q) (start ts) (finish ts) (cell-count ts - 1) (3 * c) (3 * c + 1) (3 * c + 2)
-      plan-sides =
-          record {
-            face₀ = start-in-the-cell .side₀;
-            face₁ = start-in-the-cell .side₁;
-            face₂ = start-in-the-cell .side₂;
-            differ₀₁ = omega arith;
-            differ₀₂ = omega arith;
-            differ₁₂ = omega arith;
-            whole₀ = listing-is-whole G (3 * c) (start-in-the-cell .side₀) (in-sight₀ G start-in-the-cell 0 .seen);
-            whole₁ = listing-is-whole G (3 * c + 1) (start-in-the-cell .side₁) (in-sight₁ G start-in-the-cell 0 .seen);
-            whole₂ = listing-is-whole G (3 * c + 2) (start-in-the-cell .side₂) (in-sight₂ G start-in-the-cell 0 .seen);
-          }
+    -- cells − 1 crossings are enough: nothing is cut
+    pub plan-sides : (c : ℕ) → InCell cs ts q c → Sides (face-count ts) (plan-floor cs ts ds w q) (start ts) (finish ts) (cell-count ts - 1) (3 * c) (3 * c + 1) (3 * c + 2)
+    plan-sides c stands =
+        let S = start-in-the-cell sound w q c stands in
+        record {
+          face₀ = S .side₀;
+          face₁ = S .side₁;
+          face₂ = S .side₂;
+          differ₀₁ = omega arith;
+          differ₀₂ = omega arith;
+          differ₁₂ = omega arith;
+          whole₀ = first-side-is-whole sound w q c stands;
+          whole₁ = second-side-is-whole sound w q c stands;
+          whole₂ = third-side-is-whole sound w q c stands;
+        }
 
   -- door i, open under the setting w, and shut
   pub plan-change : (w : ℕ) (q : Point) (c : ℕ) → InCell cs ts q c → (i : ℕ) → i < length ds → shut w i ≡ false → DoorChange (face-count ts) (getD ds i 0) (back ts (getD ds i 0)) (plan-floor cs ts ds w q) (ends ts ds (with-shut w i)) (start ts) (finish ts) (cell-count ts - 1) (3 * c) (3 * c + 1) (3 * c + 2)

@@ -1,16 +1,13 @@
 -- The route up to and including the door: what it is for two routes to be the same so far (document 01, "Changing a door").
-use mathlib.Core.Bool.{Bool, true, false, _&&_, _||_, true≢false}
+use mathlib.Core.Bool.{Bool, true, false, _||_, true≢false}
 use mathlib.Core.List.{List, [], _∷_, nil≢cons, head-eq-of-cons-eq, tail-eq-of-cons-eq}
 use mathlib.Core.Path.{_≡_, refl, sym, _∙_, ap, subst}
 use Prim.Native.Nat.{ℕ}
 use borrow.Author.Tests.{eqb-true, eq-eqb}
 use lib.Dec.{eqb}
+use Rattle.exact.proofs.Truth.{both-true}
 use Rattle.doors.specs.Door.{is-door, crosses, side-seen, before, same-to-door}
 use Rattle.doors.proofs.Doors.{crosses-at-once, seen-at-once, nothing-before, crosses-later, seen-later, one-more-before}
-
-both-hold : {a b : Bool} → (a && b) ≡ true → (a ≡ true) × (b ≡ true)
-both-hold {a = true} e = (refl, e)
-both-hold {a = false} {b = b} e = absurd (true≢false (sym e))
 
 module _ (f₀ g₀ : ℕ) where
   -- the side seen is one of the door's faces
@@ -37,10 +34,10 @@ module _ (f₀ g₀ : ℕ) where
   same-to-door-says (f ∷ p) (g ∷ q) h = subst (λ (c : ℕ). SameToDoor (f ∷ p) (c ∷ q)) same (by-door (same-to-door-says p q) (is-door f₀ g₀ f) refl)
     where
       same : f ≡ g
-      same = eqb-true _ _ (both-hold {a = eqb f g} {b = is-door f₀ g₀ f || same-to-door f₀ g₀ p q} h .0)
+      same = eqb-true _ _ (both-true (eqb f g) (is-door f₀ g₀ f || same-to-door f₀ g₀ p q) h .0)
 
       further : (is-door f₀ g₀ f || same-to-door f₀ g₀ p q) ≡ true
-      further = both-hold {a = eqb f g} h .1
+      further = both-true (eqb f g) _ h .1
 
       by-door : (same-to-door f₀ g₀ p q ≡ true → SameToDoor p q) → (b : Bool) → is-door f₀ g₀ f ≡ b → SameToDoor (f ∷ p) (f ∷ q)
       by-door ih true e =

@@ -3,6 +3,7 @@ use mathlib.Core.List.{List, [], _∷_, _++_, map}
 use Prim.Native.Nat.{ℕ}
 use Rattle.sight.specs.Sight.{Sight, Row}
 use Rattle.sight.specs.Sight.Sight.{row, pass, both, cut}
+use Rattle.sight.specs.Written.{written}
 
 -- a row, and its route: the sequence of free lines crossed to reach it, each by its face on the side seen
 pub record Routed : Type 0 where
@@ -26,5 +27,4 @@ routed cut = []
 
 -- the rows' numbers, three a row, in order
 unfoldable pub row-numbers : List Routed → List ℕ
-row-numbers [] = []
-row-numbers (x ∷ xs) = x .row .face ∷ x .row .right ∷ x .row .left ∷ row-numbers xs
+row-numbers xs = written (map (λ (x : Routed). x .row) xs)

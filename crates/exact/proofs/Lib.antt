@@ -4,3 +4,4 @@ pub mod Solver
 pub mod Certificate
 pub mod Bounds
 pub mod Cancel
+pub mod Truth

@@ -49,14 +49,11 @@ negation-unique a b h =
     ∙ ap (λ x. negℤ a +ℤ x) h
     ∙ +ℤ-idr (negℤ a)
 
--- a sign moves out of either factor
+-- a sign moves out of the first factor
 pub negation-out-left : (k j : ℤ) → negℤ k *ℤ j ≡ negℤ (k *ℤ j)
 negation-out-left k j =
     negation-unique (k *ℤ j) (negℤ k *ℤ j)
     (sym (distributive-right k (negℤ k) j) ∙ ap (λ x. x *ℤ j) (+ℤ-invr k) ∙ zero-*ℤ j)
-
-pub negation-out-right : (k j : ℤ) → k *ℤ negℤ j ≡ negℤ (k *ℤ j)
-negation-out-right k j = *ℤ-comm k (negℤ j) ∙ negation-out-left j k ∙ ap negℤ (*ℤ-comm j k)
 
 pub product-associative : (m k j : ℤ) → (m *ℤ k) *ℤ j ≡ m *ℤ (k *ℤ j)
 product-associative m k j = by-steps (λ m. (m *ℤ k) *ℤ j ≡ m *ℤ (k *ℤ j)) at-zero up down m

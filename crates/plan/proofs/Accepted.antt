@@ -1,13 +1,14 @@
 -- What the check accepts is sound, and its reply has the counts.
-use mathlib.Core.Bool.{Bool, true, false, not, _&&_}
+use mathlib.Core.Bool.{Bool, true, false, not}
 use mathlib.Core.List.{List}
 use mathlib.Core.Path.{_≡_, refl, sym}
 use Prim.Native.Nat.{ℕ, _%_}
 use native.Mathlib.Omega.{arith}
-use borrow.Author.Tests.{eqb-true, ltb-false}
+use borrow.Author.Tests.{eqb-true, ltb-false, not-false}
 use lib.Dec.{eqb, ltb}
 use lib.ListN.{length}
 use lib.IntN.{ℤ}
+use Rattle.exact.proofs.Truth.{both-true}
 use Rattle.plan.specs.Limits.{sized}
 use Rattle.plan.specs.Lists.{corner-count, cell-count, face-count}
 use Rattle.plan.specs.Check.{framed, wrong-cell, wrong-door, refuse-if, checked, first-wrong-corner, first-wrong-cell, first-wrong-face, first-wrong-door}
@@ -17,7 +18,7 @@ use Rattle.plan.specs.declared.Refusal.{Refusal}
 use Rattle.plan.specs.declared.Refusal.the-variants.{Frame, Size, Corner, Cell, Neighbour, Door}
 use Rattle.plan.specs.declared.Checked.{Checked}
 use Rattle.plan.specs.declared.Checked.the-variants.{Accepted, Refused}
-use Rattle.plan.proofs.Least.{none-holds, not-both}
+use Rattle.plan.proofs.Least.{none-holds}
 use Rattle.plan.proofs.Checks.{corners-near, neighbours-right}
 
 -- an acceptance passes each test on the way to it
@@ -29,15 +30,6 @@ module _ {p : Plan} where
       never e = let z : _≡_ {A = ℕ} 0 1 = cc in omega arith
   passed false r rest e = (refl, e)
 
-both : (a b : Bool) → not (a && b) ≡ false → (a ≡ true) × (b ≡ true)
-both true true e = (refl, refl)
-both true false e = absurd (not-both refl e)
-both false b e = absurd (not-both refl e)
-
-holds : (a : Bool) → not a ≡ false → a ≡ true
-holds true e = refl
-holds false e = absurd (not-both refl e)
-
 module _ (cs : List ℤ) (ts ds : List ℕ) where
   pub accepted-is-sound : (p : Plan) → checked cs ts ds ≡ Accepted p → Sound cs ts ds × (p ≡ record { corners = corner-count cs; cells = cell-count ts; doors = length ds })
   unfolding checked
@@ -48,11 +40,11 @@ module _ (cs : List ℤ) (ts ds : List ℕ) where
       let t₄ = passed (ltb (first-wrong-cell cs ts) (cell-count ts)) (Cell (first-wrong-cell cs ts)) _ (t₃ .1) in
       let t₅ = passed (ltb (first-wrong-face ts) (face-count ts)) (Neighbour (first-wrong-face ts)) _ (t₄ .1) in
       let t₆ = passed (ltb (first-wrong-door ts ds) (length ds)) (Door (first-wrong-door ts ds)) _ (t₅ .1) in
-      let whole = both (eqb (length cs % 2) 0) (eqb (length ts % 6) 0) (t₁ .0) in (
+      let whole = both-true (eqb (length cs % 2) 0) (eqb (length ts % 6) 0) (not-false _ (t₁ .0)) in (
         record {
           whole-corners = eqb-true _ _ (whole .0);
           whole-cells = eqb-true _ _ (whole .1);
-          in-size = holds _ (t₂ .0);
+          in-size = not-false _ (t₂ .0);
           corners = corners-near cs (ltb-false _ _ (t₃ .0));
           cells = none-holds (wrong-cell cs ts) (cell-count ts) (ltb-false _ _ (t₄ .0));
           neighbours = neighbours-right ts (ltb-false _ _ (t₅ .0));

@@ -1,7 +1,7 @@
 -- The plan check, way out by way out: what was found, and the reply.
-use mathlib.Core.Bool.{Bool, true, false, _||_}
+use mathlib.Core.Bool.{true, false}
 use mathlib.Core.List.{List}
-use mathlib.Core.Path.{_≡_, refl}
+use mathlib.Core.Path.{_≡_}
 use Prim.Native.Nat.{ℕ, _%_, _<_, _≤_}
 use native.Mathlib.Omega.{arith}
 use borrow.Author.Tests.{eq-eqb, ne-eqb, lt-ltb, le-ltb}
@@ -11,6 +11,7 @@ use lib.IntN.{ℤ, pos, negsuc, negℤ, natAbs}
 use lib.Signed.{_≤ℤ_, ltZ}
 use Rattle.exact.specs.Within.{Within}
 use Rattle.exact.proofs.Order.{ltZ-false}
+use Rattle.exact.proofs.Truth.{neither-true}
 use Rattle.plan.specs.Limits.{sized, coordinate-limit}
 use Rattle.plan.specs.Lists.{corner-count, cell-count, face-count, corner-at}
 use Rattle.plan.specs.Check.{outside, wrong-corner, checked, first-wrong-corner, first-wrong-cell, first-wrong-face, first-wrong-door}
@@ -21,13 +22,6 @@ use Rattle.plan.proofs.Least.{none-holds}
 
 -- ---- what passed
 
-pub neither : (a b : Bool) → (a || b) ≡ false → (a ≡ false) × (b ≡ false)
-neither true b e = (e, absurd (no-way e))
-  where
-    no-way : true ≡ false → ⊥
-    no-way e = let z : _≡_ {A = ℕ} 0 1 = cc in omega arith
-neither false b e = (refl, e)
-
 between : (z : ℤ) → negℤ (pos coordinate-limit) ≤ℤ z → z ≤ℤ pos coordinate-limit → natAbs z ≤ coordinate-limit
 between (pos n) h k = leb→le n coordinate-limit (k .le)
 between (negsuc n) h k = let l : n ≤ 536870911 = leb→le n 536870911 (h .le) in omega arith
@@ -35,7 +29,7 @@ between (negsuc n) h k = let l : n ≤ 536870911 = leb→le n 536870911 (h .le) 
 pub not-outside : (z : ℤ) → outside z ≡ false → Within coordinate-limit z
 unfolding outside
 not-outside z e =
-    let both = neither (ltZ z (negℤ (pos coordinate-limit))) (ltZ (pos coordinate-limit) z) e in
+    let both = neither-true (ltZ z (negℤ (pos coordinate-limit))) (ltZ (pos coordinate-limit) z) e in
     record { size = between z (ltZ-false z _ (both .0)) (ltZ-false _ z (both .1)) }
 
 pub corners-near : (cs : List ℤ) → corner-count cs ≤ first-wrong-corner cs → CornersNear cs
@@ -43,7 +37,7 @@ unfolding wrong-corner
 corners-near cs h =
     record {
       near = λ i l.
-          let both = neither (outside (corner-at cs i .x)) (outside (corner-at cs i .y)) (none-holds (wrong-corner cs) (corner-count cs) h i l) in
+          let both = neither-true (outside (corner-at cs i .x)) (outside (corner-at cs i .y)) (none-holds (wrong-corner cs) (corner-count cs) h i l) in
           record { x-near = not-outside _ (both .0); y-near = not-outside _ (both .1) };
     }
 

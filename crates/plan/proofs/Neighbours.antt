@@ -3,22 +3,17 @@ use mathlib.Core.Bool.{Bool, true, false, not, _&&_, _||_}
 use mathlib.Core.List.{List}
 use mathlib.Core.Path.{_≡_, refl, ap₂, subst}
 use Prim.Native.Nat.{ℕ, _+_, _*_, _<_, _≤_}
-use borrow.Author.Tests.{eq-eqb, ne-eqb, lt-ltb, le-ltb, ltb-true}
+use borrow.Author.Tests.{eq-eqb, ne-eqb, lt-ltb, le-ltb, ltb-true, not-false}
 use lib.Dec.{eqb, ltb}
+use Rattle.exact.proofs.Truth.{both-true}
 use Rattle.plan.specs.Limits.{wall}
 use Rattle.plan.specs.Least.{least}
 use Rattle.plan.specs.Lists.{neighbour, answers, back, cell-count}
 use Rattle.plan.specs.Check.{wrong-neighbour}
-use Rattle.plan.proofs.Least.{not-both}
 
 pub or-true : (b : Bool) → b || true ≡ true
 or-true true = refl
 or-true false = refl
-
-both-hold : (a b : Bool) → not (a && b) ≡ false → (a ≡ true) × (b ≡ true)
-both-hold true true e = (refl, refl)
-both-hold true false e = absurd (not-both refl e)
-both-hold false b e = absurd (not-both refl e)
 
 module _ (ts : List ℕ) (f : ℕ) where
   pub wall-is-right : neighbour ts f ≡ wall → wrong-neighbour ts f ≡ false
@@ -41,7 +36,7 @@ module _ (ts : List ℕ) (f : ℕ) where
   pub right-and-free : wrong-neighbour ts f ≡ false → (neighbour ts f ≡ wall → ⊥) → (neighbour ts f < cell-count ts) × (least (answers ts f) 3 0 < 3)
   unfolding wrong-neighbour
   right-and-free e free =
-      let both = both-hold _ _ (subst (λ (b : Bool). not (b || (ltb (neighbour ts f) (cell-count ts) && ltb (least (answers ts f) 3 0) 3)) ≡ false) (ne-eqb _ _ free) e) in
+      let both = both-true _ _ (not-false _ (subst (λ (b : Bool). not (b || (ltb (neighbour ts f) (cell-count ts) && ltb (least (answers ts f) 3 0) 3)) ≡ false) (ne-eqb _ _ free) e)) in
       (ltb-true _ _ (both .0), ltb-true _ _ (both .1))
 
 -- the face on the other side, by what was read of it

@@ -1,18 +1,19 @@
 -- Laws of an accepted plan: what everything above uses instead of the check's text.
-use mathlib.Core.Bool.{Bool, true, false, not, _&&_}
+use mathlib.Core.Bool.{true, false, not}
 use mathlib.Core.List.{List}
-use mathlib.Core.Path.{_≡_, refl, ap, sym, _∙_, subst}
+use mathlib.Core.Path.{_≡_, ap, sym, _∙_, subst}
 use Prim.Native.Nat.{ℕ, _+_, _*_, _/_, _<_, _≤_}
 use native.Mathlib.Omega.{arith}
-use borrow.Author.Tests.{eqb-true, ltb-true, leb-true, eq-eqb, not-true}
-use lib.Dec.{eqb, ltb, leb}
+use borrow.Author.Tests.{eqb-true, ltb-true, leb-true, eq-eqb, not-true, not-false}
+use lib.Dec.{eqb}
 use lib.ListN.{length, getD}
 use lib.IntN.{ℤ}
-use lib.Signed.{_<ℤ_, ltZ, <ℤ-irrefl}
+use lib.Signed.{_<ℤ_, <ℤ-irrefl}
 use Rattle.exact.proofs.Order.{𝟘, ltZ-true}
+use Rattle.exact.proofs.Truth.{both-true}
 use Rattle.plane.specs.Side.{Point, side}
 use Rattle.plane.proofs.Found.{side-turns-with-its-corners, flat-first-two}
-use Rattle.plan.specs.Limits.{sized, wall}
+use Rattle.plan.specs.Limits.{least-corners, most-corners, least-cells, most-cells, most-doors, sized, wall}
 use Rattle.plan.specs.Least.{least}
 use Rattle.plan.specs.Lists.{corner-count, cell-count, face-count, corner-at, next, start, neighbour, answers, back}
 use Rattle.plan.specs.Check.{wrong-cell, names, wrong-door}
@@ -24,30 +25,22 @@ use Rattle.plan.proofs.Faces.Mate.{itself, after, last}
 use Rattle.plan.proofs.Neighbours.{right-and-free}
 use Rattle.plan.proofs.Doors.{names-the-face, names-the-back}
 
-split : {a b : Bool} → (a && b) ≡ true → (a ≡ true) × (b ≡ true)
-split {a = true} {b = b} e = (refl, e)
-split {a = false} {b = b} e = absurd (not-both e refl)
-
-holds : {a : Bool} → not a ≡ false → a ≡ true
-holds {a = true} e = refl
-holds {a = false} e = absurd (not-both refl e)
-
 -- ---- counts
 
 pub record Counts (n m k : ℕ) : Type 0 where
-  pub corners-at-least : 3 ≤ n
-  pub corners-at-most : n ≤ 2048
-  pub cells-at-least : 1 ≤ m
-  pub cells-at-most : m ≤ 3000
-  pub doors-at-most : k ≤ 64
+  pub corners-at-least : least-corners ≤ n
+  pub corners-at-most : n ≤ most-corners
+  pub cells-at-least : least-cells ≤ m
+  pub cells-at-most : m ≤ most-cells
+  pub doors-at-most : k ≤ most-doors
 
 pub counts : (n m k : ℕ) → sized n m k ≡ true → Counts n m k
 unfolding sized
 counts n m k e =
-    let t₁ = split {a = leb 3 n && leb n 2048 && leb 1 m && leb m 3000} {b = leb k 64} e in
-    let t₂ = split {a = leb 3 n && leb n 2048 && leb 1 m} {b = leb m 3000} (t₁ .0) in
-    let t₃ = split {a = leb 3 n && leb n 2048} {b = leb 1 m} (t₂ .0) in
-    let t₄ = split {a = leb 3 n} {b = leb n 2048} (t₃ .0) in
+    let t₁ = both-true _ _ e in
+    let t₂ = both-true _ _ (t₁ .0) in
+    let t₃ = both-true _ _ (t₂ .0) in
+    let t₄ = both-true _ _ (t₃ .0) in
     record {
       corners-at-least = leb-true _ _ (t₄ .0);
       corners-at-most = leb-true _ _ (t₄ .1);
@@ -71,9 +64,9 @@ record CellRight (cs : List ℤ) (ts : List ℕ) (c : ℕ) : Type 0 where
 cell-right : (cs : List ℤ) (ts : List ℕ) (c : ℕ) → wrong-cell cs ts c ≡ false → CellRight cs ts c
 unfolding wrong-cell
 cell-right cs ts c e =
-    let t₁ = split {b = ltZ 𝟘 (side (at cs ts (3 * c)) (at cs ts (3 * c + 1)) (at cs ts (3 * c + 2)))} (holds e) in
-    let t₂ = split {b = ltb (start ts (3 * c + 2)) (corner-count cs)} (t₁ .0) in
-    let t₃ = split {a = ltb (start ts (3 * c)) (corner-count cs)} {b = ltb (start ts (3 * c + 1)) (corner-count cs)} (t₂ .0) in
+    let t₁ = both-true _ _ (not-false _ e) in
+    let t₂ = both-true _ _ (t₁ .0) in
+    let t₃ = both-true _ _ (t₂ .0) in
     record {
       first-exists = ltb-true _ _ (t₃ .0);
       second-exists = ltb-true _ _ (t₃ .1);
@@ -141,8 +134,8 @@ module _ {cs : List ℤ} {ts ds : List ℕ} (sound : Sound cs ts ds) where
     unfolding answers back
     answered =
         let t = holds-at-least (answers ts f) 3 0 (omega (arith, found .1)) in
-        let t₁ = split {b = eqb (neighbour ts (back ts f)) (f / 3)} t in
-        let t₂ = split {a = eqb (start ts (back ts f)) (start ts (next f))} {b = eqb (start ts (next (back ts f))) (start ts f)} (t₁ .0) in
+        let t₁ = both-true _ _ t in
+        let t₂ = both-true _ _ (t₁ .0) in
         record { its-start = eqb-true _ _ (t₂ .0); its-finish = eqb-true _ _ (t₂ .1); its-neighbour = eqb-true _ _ (t₁ .1) }
 
     -- it is a face of the neighbour
@@ -196,8 +189,8 @@ module _ {cs : List ℤ} {ts ds : List ℕ} (sound : Sound cs ts ds) where
     door-right : DoorRight
     unfolding wrong-door
     door-right =
-        let t₁ = split {b = eqb (least (names ds (getD ds i 0) (back ts (getD ds i 0))) i 0) i} (holds (sound .doors i h)) in
-        let t₂ = split {a = ltb (getD ds i 0) (face-count ts)} {b = not (eqb (neighbour ts (getD ds i 0)) wall)} (t₁ .0) in
+        let t₁ = both-true _ _ (not-false _ (sound .doors i h)) in
+        let t₂ = both-true _ _ (t₁ .0) in
         record { exists = ltb-true _ _ (t₂ .0); no-wall = t₂ .1; first = eqb-true _ _ (t₁ .1) }
 
     -- a door is a face that exists

@@ -2,8 +2,6 @@
 use Prim.Native.Nat.{ℕ}
 use Rattle.plan.specs.declared.Refusal.{Refusal}
 use Rattle.plan.specs.declared.Refusal.the-variants.{Frame, Size, Corner, Cell, Neighbour, Door, Setting, Stand, Line, Outside, Room, Change, Rows}
-use Rattle.plan.specs.declared.Checked.{Checked}
-use Rattle.plan.specs.declared.Checked.the-variants.{Accepted, Refused}
 
 abbrev pub number : Refusal → ℕ
 number Frame = 1
@@ -34,11 +32,3 @@ place Outside = 0
 place Room = 0
 place Change = 0
 place Rows = 0
-
-abbrev pub checked-number : Checked → ℕ
-checked-number (Accepted p) = 0
-checked-number (Refused r) = number r
-
-abbrev pub checked-place : Checked → ℕ
-checked-place (Accepted p) = 0
-checked-place (Refused r) = place r

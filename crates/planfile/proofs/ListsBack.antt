@@ -8,12 +8,14 @@ use lib.ListN.{length, getD, length-map, List·getD-map}
 use lib.IntN.{ℤ, pos, negsuc}
 use lib.Signed.{mag}
 use Rattle.plan.specs.Check.{checked}
+use Rattle.plan.specs.Sound.{Sound}
 use Rattle.plan.specs.declared.Plan.{Plan}
 use Rattle.plan.specs.declared.Checked.the-variants.{Accepted}
+use Rattle.plan.proofs.Accepted.{accepted-is-sound}
 use Rattle.planfile.specs.Bytes.{all-bytes, numbers-at, complement, signed}
 use Rattle.planfile.specs.File.{record-of, corner-record, cell-record, door-record, file-of, body-length, second, third, framed, corners-in, cells-in, doors-in}
 use Rattle.planfile.proofs.Spelled.{length-all-bytes}
-use Rattle.planfile.proofs.Accepts.{Accepts, accepts}
+use Rattle.planfile.proofs.Accepts.{small}
 use Rattle.planfile.proofs.Widths.{coordinate-in-width, cell-in-width, door-in-width}
 use Rattle.planfile.proofs.There.{above, above-two, above-four, all-signed-complements}
 use Rattle.planfile.proofs.Records.{length-read, numbers-read, three, at-second, at-third, as-third, three-records-are-framed}
@@ -39,17 +41,17 @@ module _ (cs : List ℤ) (ts ds : List ℕ) {p : Plan} (ok : checked cs ts ds �
   long-a : length a ≡ 4 * length cs
   long-a = length-all-bytes 4 (map complement cs) ∙ ap (λ (n : ℕ). 4 * n) (length-map cs complement)
 
-  known : Accepts cs ts ds p
-  known = accepts cs ts ds ok
+  known : Sound cs ts ds
+  known = accepted-is-sound cs ts ds p ok .0
 
   short-a : length a < 2 ^ 32
-  short-a = let k = known in let l = long-a in omega arith
+  short-a = let l = long-a in omega (arith, small cs ts ds refl ok)
 
   short-b : length b < 2 ^ 32
-  short-b = let k = known in omega (arith, length-all-bytes 2 ts)
+  short-b = omega (arith, length-all-bytes 2 ts, small cs ts ds refl ok)
 
   short-c : length c < 2 ^ 32
-  short-c = let k = known in omega (arith, length-all-bytes 2 ds)
+  short-c = omega (arith, length-all-bytes 2 ds, small cs ts ds refl ok)
 
   pub the-file-is-framed : framed (file-of cs ts ds) ≡ true
   the-file-is-framed =
@@ -64,12 +66,12 @@ module _ (cs : List ℤ) (ts ds : List ℕ) {p : Plan} (ok : checked cs ts ds �
       let n : body-length (three a b c) 0 ≡ 4 * length cs = length-read [] 1 a (record-of 2 b ++ record-of 3 c) 0 refl refl short-a ∙ long-a in
       let m : body-length (three a b c) 0 / 4 ≡ length (map complement cs) = let l = length-map cs complement in omega arith in
       let small : (i : ℕ) → above 4 (getD (map complement cs) i 0) ≡ 0 =
-      λ i. ap (above 4) (List·getD-map complement cs i (pos 0)) ∙ above-four _ (complement-small (getD cs i (pos 0)) (coordinate-in-width cs ts ds known i))
+      λ i. ap (above 4) (List·getD-map complement cs i (pos 0)) ∙ above-four _ (complement-small (getD cs i (pos 0)) (coordinate-in-width known i))
       in
       ap corners-in is-three
       ∙ ap (λ (j : ℕ). map signed (numbers-at 4 (three a b c) 6 j)) m
       ∙ ap (map signed) (numbers-read [] 1 a (record-of 2 b ++ record-of 3 c) 0 refl refl 4 (map complement cs) refl small)
-      ∙ all-signed-complements cs (coordinate-in-width cs ts ds known)
+      ∙ all-signed-complements cs (coordinate-in-width known)
 
   pub cells-read-back : cells-in (file-of cs ts ds) ≡ ts
   unfolding cells-in
@@ -78,7 +80,7 @@ module _ (cs : List ℤ) (ts ds : List ℕ) {p : Plan} (ok : checked cs ts ds �
       let m : body-length (three a b c) (second (three a b c)) / 2 ≡ length ts = omega arith in
       ap cells-in is-three
       ∙ ap (numbers-at 2 (three a b c) (second (three a b c) + 6)) m
-      ∙ numbers-read (record-of 1 a) 2 b (record-of 3 c) (second (three a b c)) refl (at-second a b c short-a short-b short-c) 2 ts refl (λ i. above-two _ (cell-in-width cs ts ds known i))
+      ∙ numbers-read (record-of 1 a) 2 b (record-of 3 c) (second (three a b c)) refl (at-second a b c short-a short-b short-c) 2 ts refl (λ i. above-two _ (cell-in-width known i))
 
   pub doors-read-back : doors-in (file-of cs ts ds) ≡ ds
   unfolding doors-in
@@ -87,4 +89,4 @@ module _ (cs : List ℤ) (ts ds : List ℕ) {p : Plan} (ok : checked cs ts ds �
       let m : body-length (three a b c) (third (three a b c)) / 2 ≡ length ds = omega arith in
       ap doors-in is-three
       ∙ ap (numbers-at 2 (three a b c) (third (three a b c) + 6)) m
-      ∙ numbers-read (record-of 1 a ++ record-of 2 b) 3 c [] (third (three a b c)) (as-third a b c) (at-third a b c short-a short-b short-c) 2 ds refl (λ i. above-two _ (door-in-width cs ts ds known i))
+      ∙ numbers-read (record-of 1 a ++ record-of 2 b) 3 c [] (third (three a b c)) (as-third a b c) (at-third a b c short-a short-b short-c) 2 ds refl (λ i. above-two _ (door-in-width known i))

@@ -1,16 +1,16 @@
 -- Where the records of a framed file lie, and how long its lists are.
-use mathlib.Core.Bool.{true, _&&_}
+use mathlib.Core.Bool.{true}
 use mathlib.Core.List.{List, map}
 use mathlib.Core.Path.{_≡_, refl, sym, ap, _∙_}
-use Prim.Native.Nat.{ℕ, _+_, _-_, _/_, _%_, _≤_}
+use Prim.Native.Nat.{ℕ, _+_, _-_, _*_, _/_, _%_, _≤_}
 use native.Mathlib.Omega.{arith}
 use borrow.Author.Tests.{eqb-true}
-use lib.Dec.{eqb}
 use lib.ListN.{length}
-use Rattle.plan.specs.Limits.{sized}
+use Rattle.exact.proofs.Truth.{both-true}
+use Rattle.plan.specs.Limits.{most-corners, most-cells, most-doors, sized}
+use Rattle.plan.proofs.Plans.{counts}
 use Rattle.planfile.specs.Bytes.{number-at, numbers-at, signed}
 use Rattle.planfile.specs.File.{body-length, end-of, second, third, is-record, framed, corners-in, cells-in, doors-in}
-use Rattle.planfile.proofs.Accepts.{both, sized-bounds}
 
 -- ---- a framed file
 
@@ -28,15 +28,15 @@ pub record Framed (s : List ℕ) : Type 0 where
 body : (s : List ℕ) (at end kind size : ℕ) → end ≡ end-of s at → is-record s at kind size ≡ true → Body s at end kind size
 unfolding end-of is-record
 body s at end kind size e h =
-    let two = both (eqb (number-at 2 s (at + 4)) kind) (eqb (body-length s at % size) 0) h in
+    let two = both-true _ _ h in
     record { ends = e; of-kind = eqb-true _ _ (two .0); multiple = eqb-true _ _ (two .1) }
 
 pub is-framed : (s : List ℕ) → framed s ≡ true → Framed s
 unfolding framed
 is-framed s h =
-    let c = both (eqb (end-of s (third s)) (length s) && is-record s 0 1 8 && is-record s (second s) 2 12) (is-record s (third s) 3 2) h in
-    let b = both (eqb (end-of s (third s)) (length s) && is-record s 0 1 8) (is-record s (second s) 2 12) (c .0) in
-    let a = both (eqb (end-of s (third s)) (length s)) (is-record s 0 1 8) (b .0) in
+    let c = both-true _ _ h in
+    let b = both-true _ _ (c .0) in
+    let a = both-true _ _ (b .0) in
     record {
       corners = body s 0 (second s) 1 8 refl (a .1);
       cells = body s (second s) (third s) 2 12 refl (b .1);
@@ -100,7 +100,7 @@ pub record Spaces (s : List ℕ) (b c x y z : ℕ) : Type 0 where
   pub cells : (c - b - 6) / 2 ≤ y
   pub doors : (length s - c - 6) / 2 ≤ z
 
-pub spaces : {s : List ℕ} {b c x y z : ℕ} → Places s b c → sized ((b - 6) / 4 / 2) ((c - b - 6) / 2 / 6) ((length s - c - 6) / 2) ≡ true → 4096 ≤ x → 18000 ≤ y → 64 ≤ z → Spaces s b c x y z
+pub spaces : {s : List ℕ} {b c x y z : ℕ} → Places s b c → sized ((b - 6) / 4 / 2) ((c - b - 6) / 2 / 6) ((length s - c - 6) / 2) ≡ true → 2 * most-corners ≤ x → 6 * most-cells ≤ y → most-doors ≤ z → Spaces s b c x y z
 spaces p h i j k =
-    let limits = sized-bounds _ _ _ h in
+    let limits = counts _ _ _ h in
     record { corners = omega arith; cells = omega arith; doors = omega arith }

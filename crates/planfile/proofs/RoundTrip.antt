@@ -14,10 +14,11 @@ use Rattle.plan.specs.declared.Plan.{Plan}
 use Rattle.plan.specs.declared.Refusal.the-variants.{Frame}
 use Rattle.plan.specs.declared.Checked.{Checked}
 use Rattle.plan.specs.declared.Checked.the-variants.{Accepted}
+use Rattle.plan.proofs.Accepted.{passed}
 use Rattle.planfile.specs.Bytes.{complement}
 use Rattle.planfile.specs.File.{corner-record, cell-record, door-record, file-of, framed, corners-in, cells-in, doors-in, AllBytes}
 use Rattle.planfile.specs.Calls.{given-room, written, has-room, lists-reply, read-reply, handed-over, read}
-use Rattle.planfile.proofs.Accepts.{passed, roomed}
+use Rattle.planfile.proofs.Accepts.{roomed}
 use Rattle.planfile.proofs.Writes.{all-written}
 use Rattle.planfile.proofs.Decodes.{by-its-lists}
 use Rattle.planfile.proofs.Back.{append-is-bytes, record-is-bytes, all-is-bytes}

@@ -14,10 +14,10 @@ use Rattle.sight.specs.Sight.{Floor, Sight, Row, follow, rows, Whole}
 use Rattle.sight.specs.Sight.Whole.{whole-row, whole-pass, whole-both}
 use Rattle.sight.specs.Walk.{Leaves, Walks, RowHolds}
 use Rattle.sight.specs.Walk.Walks.{ended, crossed}
-use Rattle.sight.specs.Once.{At, NeverTwice, Only}
+use Rattle.sight.specs.Once.{At, NeverTwice}
 use Rattle.sight.specs.Once.At.{first}
 use Rattle.sight.proofs.Geometry.{Geometry, Seen}
-use Rattle.sight.proofs.Places.{at-no-place, at-the-only-place, either-list, Some, some-in-first, some-in-second, never-twice-in-one, never-twice-joined, some-never-twice-is-only}
+use Rattle.sight.proofs.Places.{at-no-place, at-the-only-place, either-list, Some, some-in-first, some-in-second, never-twice-in-one, never-twice-joined}
 use Rattle.sight.proofs.Tree.{InSight, HandedOn, Grown, in-sight, grown}
 use Rattle.sight.proofs.Tree.Grown.{ends, too-many, splits, keeps}
 
@@ -123,9 +123,3 @@ module _ {F : Floor} {N M : ℕ} {see : ℕ → Point} {from to cell : ℕ → �
     -- within the limits and on no corner's ray, some row holds d
     pub some-row-holds-it : (n : ℕ) → ((g : ℕ) → g < N → F .apex g < n) → ((c : ℕ) → c < n → ¬ Meets d (see c)) → Whole (follow F k f r l) → Holds (see r) (see l) d → Some Holding (rows (follow F k f r l))
     some-row-holds-it n apexes clear w h = some-row-holds n apexes clear (grown G k f r l s) w h
-
-    -- so exactly one does, and the walk ends at its face
-    pub cone-walks-to-its-row : (n : ℕ) → ((g : ℕ) → g < N → F .apex g < n) → ((c : ℕ) → c < n → ¬ Meets d (see c)) → Whole (follow F k f r l) → Holds (see r) (see l) d → (w : Row) × Only Holding (rows (follow F k f r l)) w × Walking f (w .face)
-    cone-walks-to-its-row n apexes clear w h =
-        let s = some-row-holds-it n apexes clear w h in
-        (s .0, some-never-twice-is-only s rows-share-no-direction, row-is-walked-to (s .2) (s .3))

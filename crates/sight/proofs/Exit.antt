@@ -54,10 +54,6 @@ module _ {F : Floor} {N M : ℕ} {see : ℕ → Point} {from to cell : ℕ → �
     handed-is-a-face (inl p) = subst (λ (x : ℕ). x < N) (sym p) (G .right-is-a-face _ (G .back-is-a-face f h free))
     handed-is-a-face (inr p) = subst (λ (x : ℕ). x < N) (sym p) (G .left-is-a-face _ (G .back-is-a-face f h free))
 
-    pub handed-in-the-cell : Handed F f e → cell e ≡ cell (F .back f)
-    handed-in-the-cell (inl p) = ap cell p ∙ G .right-in-the-cell _ (G .back-is-a-face f h free)
-    handed-in-the-cell (inr p) = ap cell p ∙ G .left-in-the-cell _ (G .back-is-a-face f h free)
-
     -- what is handed on is crossed strictly later
     pub handed-is-later : (d : Point) → Handed F f e → Exit see from to d f → Before see from to d f e
     handed-is-later d (inl p) x =

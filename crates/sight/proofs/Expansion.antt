@@ -1,12 +1,12 @@
 -- The expansion step by step: what a line or a cell hands on, how much of the table that takes, and what is written there.
-use mathlib.Core.Bool.{true, false}
+use mathlib.Core.Bool.{false}
 use mathlib.Core.List.{List, [], _∷_, _++_}
 use mathlib.Core.Path.{_≡_, refl, ap, ap₂, sym, subst, _∙_}
 use Prim.Native.Nat.{ℕ, zero, suc, _+_, _*_, _-_, _^_, _%_, _<_, _≤_}
 use native.Mathlib.Nat.{add-zero}
 use native.Mathlib.Numerals.{add-one, sub-one}
 use native.Mathlib.Omega.{arith}
-use lib.ListN.{length, getD, set, length-append}
+use lib.ListN.{length, getD, set}
 use lib.Seq.{sets}
 use lib.IntN.{ℤ}
 use Rattle.plane.specs.Side.{Point}
@@ -16,13 +16,9 @@ use Rattle.sight.specs.Sight.Place.{between, right-of-r, left-of-l}
 use Rattle.sight.specs.Sight.Sight.{row, pass, both, cut}
 use Rattle.sight.specs.Sight.Whole.{whole-row, whole-pass, whole-both}
 use Rattle.sight.specs.Floor.{Lines, floor-of, placed}
+use Rattle.sight.proofs.Trees.{follow-too-far, follow-across, hand-on-both, hand-on-the-left, hand-on-the-right, three-numbers-a-row}
 
 -- ---- what a line is followed to
-
-pub ended : (F : Floor) (n f r l : ℕ) → F .ends f ≡ true → follow F n f r l ≡ row f r l
-unfolding follow
-ended F zero f r l e = rw (e, follow)
-ended F (suc n) f r l e = rw (e, follow)
 
 not-cut : {t : Sight} → Whole t → t ≡ cut → ⊥
 not-cut whole-row e = let z : _≡_ {A = ℕ} 0 1 = cc in omega arith
@@ -34,32 +30,9 @@ pub record Passed (F : Floor) (n f r l : ℕ) : Type 0 where
   pub one-left : 1 ≤ n
   pub is : follow F n f r l ≡ pass f r l (hand-on F (n - 1) (F .back f) r l)
 
-cut-short : (F : Floor) (f r l : ℕ) → F .ends f ≡ false → follow F zero f r l ≡ cut
-unfolding follow
-cut-short F f r l e = rw (e, follow)
-
-goes-on : (F : Floor) (n f r l : ℕ) → F .ends f ≡ false → follow F (suc n) f r l ≡ pass f r l (hand-on F n (F .back f) r l)
-unfolding follow hand-on
-goes-on F n f r l e = rw (e, follow)
-
 pub passed : (F : Floor) (n f r l : ℕ) → F .ends f ≡ false → Whole (follow F n f r l) → Passed F n f r l
-passed F zero f r l e w = absurd (not-cut w (cut-short F f r l e))
-passed F (suc n) f r l e w = record { one-left = omega arith; is = rw sub-one (goes-on F n f r l e) }
-
--- ---- what a cell hands on
-
-module _ (F : Floor) (n g r l : ℕ) where
-  pub hands-on-the-left : F .place (F .apex g) r l ≡ right-of-r → hand-on F n g r l ≡ follow F n (F .left-line g) r l
-  unfolding hand-on
-  hands-on-the-left e = rw (e, hand-on)
-
-  pub hands-on-the-right : F .place (F .apex g) r l ≡ left-of-l → hand-on F n g r l ≡ follow F n (F .right-line g) r l
-  unfolding hand-on
-  hands-on-the-right e = rw (e, hand-on)
-
-  pub hands-on-both : F .place (F .apex g) r l ≡ between → hand-on F n g r l ≡ both (follow F n (F .right-line g) r (F .apex g)) (follow F n (F .left-line g) (F .apex g) l)
-  unfolding hand-on
-  hands-on-both e = rw (e, hand-on)
+passed F zero f r l e w = absurd (not-cut w (follow-too-far F f r l e))
+passed F (suc n) f r l e w = record { one-left = omega arith; is = rw sub-one (follow-across F n f r l e) }
 
 -- ---- the room that a tree's rows take in a table of n numbers, from `at` on
 
@@ -99,16 +72,6 @@ module _ (at n : ℕ) {s : Sight} where
 
 -- ---- what is written
 
-pub three-a-row : (t : Sight) → length (numbers t) ≡ 3 * row-count t
-unfolding numbers row-count
-three-a-row (row f r l) = refl
-three-a-row (pass f r l t) = three-a-row t
-three-a-row (both t u) =
-    let h : length (numbers t) ≡ 3 * row-count t = three-a-row t in
-    let k : length (numbers u) ≡ 3 * row-count u = three-a-row u in
-    simp length-append (omega arith)
-three-a-row cut = refl
-
 pub sets-behind : (a b old : List ℕ) (i : ℕ) → sets (sets old i a) (i + length a) b ≡ sets old i (a ++ b)
 sets-behind [] b old i = rw add-zero
 sets-behind (x ∷ a) b old i =
@@ -131,7 +94,7 @@ module _ (old new : List ℕ) (at k m : ℕ) {s : Sight} where
       (mid : List ℕ) {t u : Sight} {i j : ℕ} → s ≡ both t u → Written old mid at i j t → Written mid new (at + 3 * i) k m u → Written old new at (i + k) (j + m) s
   unfolding numbers row-count crossings
   both-written mid {t} {u} {i} {j} e w x =
-      let d : at + 3 * i ≡ at + length (numbers t) = ap (λ (i : ℕ). at + i) (ap (λ (i : ℕ). 3 * i) (w .0) ∙ sym (three-a-row t)) in
+      let d : at + 3 * i ≡ at + length (numbers t) = ap (λ (i : ℕ). at + i) (ap (λ (i : ℕ). 3 * i) (w .0) ∙ sym (three-numbers-a-row t)) in
       subst
       (Written old new at (i + k) (j + m))
       (sym e)
@@ -157,11 +120,11 @@ module _ (cs : List ℤ) (ls : List ℕ) (q : Point) (n g r l : ℕ) {right far 
   left-line-is = is-far ∙ ap next is-right
 
   pub right-of-r-hands-on : placed cs q (getD ls (2 * far) 0) r l ≡ right-of-r → hand-on F n g r l ≡ follow F n far r l
-  right-of-r-hands-on = rw (left-line-is) (hands-on-the-left F n g r l)
+  right-of-r-hands-on = rw (left-line-is) (hand-on-the-left F n g r l)
 
   pub left-of-l-hands-on : placed cs q (getD ls (2 * far) 0) r l ≡ left-of-l → hand-on F n g r l ≡ follow F n right r l
-  left-of-l-hands-on = rw (left-line-is, is-right) (hands-on-the-right F n g r l)
+  left-of-l-hands-on = rw (left-line-is, is-right) (hand-on-the-right F n g r l)
 
   pub between-hands-on :
       placed cs q (getD ls (2 * far) 0) r l ≡ between → hand-on F n g r l ≡ both (follow F n right r (getD ls (2 * far) 0)) (follow F n far (getD ls (2 * far) 0) l)
-  between-hands-on = rw (left-line-is, is-right) (hands-on-both F n g r l)
+  between-hands-on = rw (left-line-is, is-right) (hand-on-both F n g r l)

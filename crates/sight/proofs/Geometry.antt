@@ -3,11 +3,11 @@
 use mathlib.Core.Bool.{false}
 use mathlib.Core.Path.{_≡_, subst}
 use Prim.Native.Nat.{ℕ, _<_}
-use lib.Signed.{_<ℤ_, _≤ℤ_}
+use lib.Signed.{_≤ℤ_}
 use Rattle.exact.proofs.Order.{𝟘}
 use Rattle.plane.specs.Side.{Point}
 use Rattle.plane.specs.Cone.{cross, Between, Cone, Beyond}
-use Rattle.plane.proofs.Found.{between-keeps-the-right-cone, between-keeps-the-left-cone, right-keeps-the-cone, left-keeps-the-cone, a-seen-line-is-a-cone}
+use Rattle.plane.proofs.Found.{between-keeps-the-right-cone, between-keeps-the-left-cone, right-keeps-the-cone, left-keeps-the-cone}
 use Rattle.sight.specs.Sight.{Floor}
 use Rattle.sight.specs.Sight.Place.{between, right-of-r, left-of-l}
 
@@ -39,10 +39,6 @@ module _ {F : Floor} {N M : ℕ} {see : ℕ → Point} {from to cell : ℕ → �
   -- the line of face f is seen, and the limits r and l lie on it in their order
   abbrev pub Seen : ℕ → ℕ → ℕ → Type 0
   Seen f r l = Cone (see (from f)) (see (to f)) (see r) (see l)
-
-  -- at the start a line's own two ends are the limits
-  pub seen-at-the-start : (f : ℕ) → 𝟘 <ℤ cross (see (from f)) (see (to f)) → Seen f (from f) (to f)
-  seen-at-the-start f h = a-seen-line-is-a-cone _ _ h
 
   -- the two lines beyond a free face, each from its right end to its left end
   module _ {f : ℕ} (h : f < N) (free : F .ends f ≡ false) where

@@ -7,10 +7,7 @@ use native.Mathlib.Omega.{arith}
 use native.Mathlib.Nat.{eq-or-lt-of-le, le-of-suc-le-suc}
 use lib.Dec.{eqb}
 use borrow.Author.Tests.{eq-eqb}
-
-pub one-true : (a b : Bool) → (a || b) ≡ true → (a ≡ true) ⊎ (b ≡ true)
-one-true true b e = inl e
-one-true false b e = inr e
+use Rattle.exact.proofs.Truth.{one-true}
 
 pub or-first : (a b : Bool) → a ≡ true → (a || b) ≡ true
 or-first a b e = rw e

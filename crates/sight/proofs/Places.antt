@@ -9,11 +9,6 @@ use Rattle.sight.specs.Once.{At, NeverTwice, Only}
 use Rattle.sight.specs.Once.At.{first, later}
 
 module _ {A : Type 0} where
-  -- one element stands at a place
-  pub place-has-one-element : {x y : A} {xs : List A} {i : ℕ} → At x xs i → At y xs i → x ≡ y
-  place-has-one-element first first = refl
-  place-has-one-element (later p) (later q) = place-has-one-element p q
-
   pub at-the-only-place : {x y : A} {i : ℕ} → At x (y ∷ []) i → x ≡ y
   at-the-only-place first = refl
   at-the-only-place (later p) = elim p [ ]
@@ -84,10 +79,6 @@ module _ {A : Type 0} where
       record { place = s .1; stands = s .2; has = s .3; no-other = λ x i p h. once .same-place x (s .0) i (s .1) p (s .2) h (s .3) }
 
   -- the element at a place, as it is read
-  pub at-is-read : {x : A} {xs : List A} {i : ℕ} (z : A) → At x xs i → getD xs i z ≡ x
-  at-is-read z first = refl
-  at-is-read z (later p) = at-is-read z p
-
   pub read-is-at : (xs : List A) (i : ℕ) (z : A) → i < length xs → At (getD xs i z) xs i
   read-is-at [] i z h = absurd (omega arith)
   read-is-at (x ∷ xs) zero z h = first

@@ -11,7 +11,7 @@ use lib.IntN.{ℤ}
 use lib.Signed.{_<ℤ_, _≤ℤ_, leZ}
 use Rattle.exact.proofs.Order.{𝟘, leZ-true, leZ-false}
 use Rattle.plane.specs.Side.{Point, side}
-use Rattle.plane.specs.Cone.{cross, Between, Around}
+use Rattle.plane.specs.Cone.{cross, Between}
 use Rattle.plane.proofs.Found.{side-from-the-stand, side-positive-is-beyond}
 use Rattle.plan.specs.Limits.{wall}
 use Rattle.plan.specs.Least.{least}
@@ -22,6 +22,7 @@ use Rattle.plan.proofs.Least.{not-both}
 use Rattle.plan.proofs.Faces.{next-below, next-stays-in-the-cell, next-of-next-of-next, Mate, mates, after-first, after-second, after-third}
 use Rattle.plan.proofs.Faces.Mate.{itself, after, last}
 use Rattle.plan.proofs.Plans.{back-exists, back-starts-at-the-finish, back-finishes-at-the-start, apex-lies-beyond}
+use Rattle.stand.proofs.Located.{InCell, the-cell-goes-around-the-stand}
 use Rattle.sight.specs.Sight.{Place}
 use Rattle.sight.specs.Sight.Place.{between, right-of-r, left-of-l}
 use Rattle.sight.specs.Floor.{placed}
@@ -108,8 +109,9 @@ module _ {cs : List ℤ} {ts ds : List ℕ} (sound : Sound cs ts ds) (w : ℕ) (
           by-mate (last e) = c e
 
   -- the sides of a cell follow each other around a stand strictly inside it
-  pub plan-start : (c : ℕ) → c < cell-count ts → Around (seen cs q (start ts (3 * c))) (seen cs q (start ts (3 * c + 1))) (seen cs q (start ts (3 * c + 2))) → Start (face-count ts) (seen cs q) (start ts) (finish ts) (3 * c) (3 * c + 1) (3 * c + 2)
-  plan-start c h a =
+  pub start-in-the-cell : (c : ℕ) → InCell cs ts q c → Start (face-count ts) (seen cs q) (start ts) (finish ts) (3 * c) (3 * c + 1) (3 * c + 2)
+  start-in-the-cell c stands =
+      let h = stands .cell-exists in
       record {
         side₀ = omega arith;
         side₁ = omega arith;
@@ -117,5 +119,5 @@ module _ {cs : List ℤ} {ts ds : List ℕ} (sound : Sound cs ts ds) (w : ℕ) (
         turn₀ = ap (start ts) (after-first c);
         turn₁ = ap (start ts) (after-second c);
         turn₂ = ap (start ts) (after-third c);
-        around = a;
+        around = the-cell-goes-around-the-stand cs ts q c (stands .strictly-inside);
       }

@@ -1,27 +1,22 @@
 -- Rows never outnumber corners (document 01, "Expansion"): the rows below a cone are at most one more than the corners strictly inside it.
-use mathlib.Core.Bool.{Bool, true, false, _&&_, _||_, false≢true}
+use mathlib.Core.Bool.{Bool, true, _&&_, _||_}
 use mathlib.Core.Logic.{_⊎_, inl, inr}
-use mathlib.Core.Path.{_≡_, refl, sym, _∙_}
+use mathlib.Core.Path.{_≡_, sym, _∙_}
 use Prim.Native.Nat.{ℕ, _+_, _≤_, _<_}
 use native.Mathlib.Omega.{arith}
 use lib.Dec.{eqb}
-use lib.ListN.{length, length-append}
 use lib.Signed.{ltZ, _<ℤ_}
 use borrow.Author.Tests.{eqb-true}
 use Rattle.exact.proofs.Order.{𝟘, ltZ-true, lt-ltZ}
+use Rattle.exact.proofs.Truth.{both-true, one-true}
 use Rattle.plane.specs.Side.{Point}
 use Rattle.plane.specs.Cone.{cross, Holds, Between, Around}
 use Rattle.plane.proofs.Found.{right-half-is-inside, left-half-is-inside, halves-share-nothing, left-half-does-not-hold-v, right-half-does-not-hold-v, corner-is-not-opposite}
-use Rattle.sight.specs.Sight.{Floor, Sight, rows, row-count, follow}
-use Rattle.sight.specs.Sight.Sight.{row, pass, both, cut}
+use Rattle.sight.specs.Sight.{Floor, Sight, row-count, follow}
 use Rattle.sight.proofs.Geometry.{Geometry}
-use Rattle.sight.proofs.Parts.{count, parts-at-most-the-whole, number-is-counted, three-parts-at-most-all, one-true, or-first, or-second}
+use Rattle.sight.proofs.Parts.{count, parts-at-most-the-whole, number-is-counted, three-parts-at-most-all, or-first, or-second}
 use Rattle.sight.proofs.Tree.{InSight, Grown, grown}
 use Rattle.sight.proofs.Tree.Grown.{ends, too-many, splits, keeps}
-
-both-true : (a b : Bool) → (a && b) ≡ true → (a ≡ true) × (b ≡ true)
-both-true true b e = (refl, e)
-both-true false b e = absurd (false≢true e)
 
 -- ---- corners inside a cone
 
@@ -103,13 +98,6 @@ module _ (see : ℕ → Point) (n : ℕ) where
       omega (arith, one-more-from-right a b ha, one-more-from-right b c hb, one-more-from-right c a hc, three-parts-at-most-all (from-right see a b) (from-right see b c) (from-right see c a) n (sides-share-no-corner a b c (t .ab)) (sides-share-no-corner b c a (t .bc)) (sides-share-no-corner c a b (t .ca)))
 
 -- ---- rows
-
-pub rows-are-counted : (t : Sight) → length (rows t) ≡ row-count t
-unfolding rows row-count
-rows-are-counted (row f r l) = refl
-rows-are-counted (pass f r l t) = rows-are-counted t
-rows-are-counted (both t u) = rw (length-append, rows-are-counted t, rows-are-counted u)
-rows-are-counted cut = refl
 
 module _ {F : Floor} {N M : ℕ} {see : ℕ → Point} {from to cell : ℕ → ℕ} (G : Geometry F N M see from to cell) (n : ℕ) (apex-exists : (g : ℕ) → g < N → F .apex g < n) where
   rows-of-a-tree : {f r l : ℕ} {t : Sight} → Grown G f r l t → row-count t ≤ 1 + inside see n r l

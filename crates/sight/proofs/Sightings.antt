@@ -10,7 +10,7 @@ use Rattle.plane.specs.Cone.{Meets, Direction}
 use Rattle.plan.specs.Lists.{corner-count, cell-count, face-count, start}
 use Rattle.plan.specs.Sound.{Sound}
 use Rattle.plan.proofs.Plans.{corner-exists}
-use Rattle.stand.proofs.Located.{InCell, the-cell-goes-around-the-stand}
+use Rattle.stand.proofs.Located.{InCell}
 use Rattle.sight.specs.Sight.{Whole, Row}
 use Rattle.sight.specs.Walk.{RowHolds, WalkEnds}
 use Rattle.sight.specs.Once.{At, NeverTwice, Only}
@@ -20,14 +20,14 @@ use Rattle.sight.proofs.Tree.{RowSeen}
 use Rattle.sight.proofs.Fuel.{listing-is-whole, crossings-at-most-rows-times-cells-less-one}
 use Rattle.sight.proofs.Listing as Listing
 use Rattle.sight.proofs.Listing.{Start}
-use Rattle.sight.proofs.PlanFloor.{plan-geometry, plan-start}
+use Rattle.sight.proofs.PlanFloor.{plan-geometry, start-in-the-cell}
 
 module _ {cs : List ℤ} {ts ds : List ℕ} (sound : Sound cs ts ds) (w : ℕ) (q : Point) (c : ℕ) (stands : InCell cs ts q c) where
   abbrev G : Geometry (plan-floor cs ts ds w q) (face-count ts) (cell-count ts) (seen cs q) (start ts) (finish ts) (λ f. f / 3)
   G = plan-geometry sound w q
 
   abbrev S : Start (face-count ts) (seen cs q) (start ts) (finish ts) (3 * c) (3 * c + 1) (3 * c + 2)
-  S = plan-start sound w q c (stands .cell-exists) (the-cell-goes-around-the-stand cs ts q c (stands .strictly-inside))
+  S = start-in-the-cell sound w q c stands
 
   -- cells − 1 crossings are enough: nothing is cut
   pub first-side-is-whole : Whole (through cs ts ds w q (3 * c))

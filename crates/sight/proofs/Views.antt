@@ -94,6 +94,9 @@ module _ (cs : List ℤ) (ts ds : List ℕ) (w : ℕ) (s : Stand) (room : ℕ) w
     setting-accepted e h k =
         k ∙ ap (λ b. unless b R.Setting (view-of-spot cs ts room (stood cs s))) (sym (doors-are e ∙ h)) ∙ ap (view-of-plan cs ts ds w s room) (sym accepted)
 
+pub a-refusal-is-no-view : {r : Refusal} {x y : ℤ} {c : ℕ} → O.Refused r ≡ O.From x y c → ⊥
+a-refusal-is-no-view p = let z : _≡_ {A = ℕ} 0 1 = cc in omega arith
+
 -- what a view says: the plan is accepted, the stand is within the limits and strictly inside its cell, and the table has room
 pub record Viewed (cs : List ℤ) (ts ds : List ℕ) (room : ℕ) (x y : ℤ) (c : ℕ) : Type 0 where
   pub sound : Sound cs ts ds
@@ -106,11 +109,8 @@ module _ (cs : List ℤ) (ts ds : List ℕ) (w : ℕ) (s : Stand) (room : ℕ) w
   unfolding viewed
   view-says {x} {y} {c} e = by-plan (checked cs ts ds) refl e
     where
-      never : {r : Refusal} → O.Refused r ≡ O.From x y c → ⊥
-      never p = let z : _≡_ {A = ℕ} 0 1 = cc in omega arith
-
       by-room : Sound cs ts ds → (u v : ℤ) (k : ℕ) → stood cs s ≡ S.At u v → located cs ts (record { x = u; y = v }) ≡ F.Cell k → (b : Bool) → ltb room (3 * corner-count cs) ≡ b → unless b R.Room (O.From u v k) ≡ O.From x y c → Viewed cs ts ds room x y c
-      by-room sound u v k st lo true h p = absurd (never p)
+      by-room sound u v k st lo true h p = absurd (a-refusal-is-no-view p)
       by-room sound u v k st lo false h p =
           let same-x : u ≡ x = cc in
           let same-y : v ≡ y = cc in
@@ -124,19 +124,19 @@ module _ (cs : List ℤ) (ts ds : List ℕ) (w : ℕ) (s : Stand) (room : ℕ) w
 
       by-cell : Sound cs ts ds → (u v : ℤ) → stood cs s ≡ S.At u v → (f : Found) → located cs ts (record { x = u; y = v }) ≡ f → view-of-cell cs room u v f ≡ O.From x y c → Viewed cs ts ds room x y c
       by-cell sound u v st (F.Cell k) lo p = by-room sound u v k st lo (ltb room (3 * corner-count cs)) refl p
-      by-cell sound u v st (F.Refused r) lo p = absurd (never p)
+      by-cell sound u v st (F.Refused r) lo p = absurd (a-refusal-is-no-view p)
 
       by-spot : Sound cs ts ds → (t : Spot) → stood cs s ≡ t → view-of-spot cs ts room t ≡ O.From x y c → Viewed cs ts ds room x y c
       by-spot sound (S.At u v) st p = by-cell sound u v st (located cs ts (record { x = u; y = v })) refl p
-      by-spot sound S.Refused st p = absurd (never p)
+      by-spot sound S.Refused st p = absurd (a-refusal-is-no-view p)
 
       by-setting : Sound cs ts ds → (b : Bool) → unless b R.Setting (view-of-spot cs ts room (stood cs s)) ≡ O.From x y c → Viewed cs ts ds room x y c
-      by-setting sound true p = absurd (never p)
+      by-setting sound true p = absurd (a-refusal-is-no-view p)
       by-setting sound false p = by-spot sound (stood cs s) refl p
 
       by-plan : (k : Checked) → checked cs ts ds ≡ k → view-of-plan cs ts ds w s room k ≡ O.From x y c → Viewed cs ts ds room x y c
       by-plan (C.Accepted p) h q = by-setting (accepted-is-sound cs ts ds p h .0) (wrong-setting w (length ds)) q
-      by-plan (C.Refused r) h q = absurd (never q)
+      by-plan (C.Refused r) h q = absurd (a-refusal-is-no-view q)
 
 -- ---- the whole listing
 

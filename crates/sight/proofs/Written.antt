@@ -12,7 +12,7 @@ use Rattle.plane.specs.Cone.{Meets, Direction}
 use Rattle.plan.specs.Sound.{Sound}
 use Rattle.plan.proofs.Plans.{corner-exists}
 use Rattle.stand.specs.declared.spot.Stand.{Stand}
-use Rattle.stand.proofs.Located.{InCell, the-cell-goes-around-the-stand}
+use Rattle.stand.proofs.Located.{InCell}
 use Rattle.sight.specs.Sight.{Floor, Sight, Row, rows, numbers, row-count}
 use Rattle.sight.specs.Sight.Sight.{row, pass, both, cut}
 use Rattle.sight.specs.Once.{At}
@@ -28,7 +28,7 @@ use Rattle.sight.proofs.Tree.{Grown, grown}
 use Rattle.sight.proofs.Tree.Grown.{ends, too-many, splits, keeps}
 use Rattle.sight.proofs.Places.{at-no-place, at-the-only-place, either-list}
 use Rattle.sight.proofs.Listing.{in-sight₀, in-sight₁, in-sight₂}
-use Rattle.sight.proofs.PlanFloor.{plan-geometry, plan-start}
+use Rattle.sight.proofs.PlanFloor.{plan-geometry, start-in-the-cell}
 use Rattle.sight.proofs.Sightings.{first-side-is-whole, demand-2, walk-is-unique}
 
 written-joined : (a b : List Row) → written (a ++ b) ≡ written a ++ written b
@@ -36,7 +36,7 @@ unfolding written
 written-joined [] b = refl
 written-joined (r ∷ a) b = ap (λ (l : List ℕ). r .face ∷ r .right ∷ r .left ∷ l) (written-joined a b)
 
-numbers-are-the-rows : (t : Sight) → numbers t ≡ written (rows t)
+pub numbers-are-the-rows : (t : Sight) → numbers t ≡ written (rows t)
 unfolding numbers rows written
 numbers-are-the-rows (row f r l) = refl
 numbers-are-the-rows (pass f r l t) = numbers-are-the-rows t
@@ -90,7 +90,7 @@ module _ {cs : List ℤ} {ts ds : List ℕ} (sound : Sound cs ts ds) (w : ℕ) (
   unfolding listing-rows
   row-limits-are-corners p =
       let G = plan-geometry sound w q in
-      let S = plan-start sound w q c (stands .cell-exists) (the-cell-goes-around-the-stand cs ts q c (stands .strictly-inside)) in
+      let S = start-in-the-cell sound w q c stands in
       let at₀ = corner-exists sound (3 * c) (S .side₀) in
       let at₁ = corner-exists sound (3 * c + 1) (S .side₁) in
       let at₂ = corner-exists sound (3 * c + 2) (S .side₂) in

@@ -9,7 +9,7 @@ use lib.ListN.{length, getD}
 use lib.IntN.{ℤ, pos}
 use lib.Signed.{leZ}
 use Rattle.plane.specs.Side.{Point, side}
-use Rattle.plan.specs.Limits.{wall}
+use Rattle.plan.specs.Limits.{most-corners, most-cells, wall}
 use Rattle.plan.specs.Lists.{corner-count, corner-at, next}
 use Rattle.plan.specs.Sound.{CornersNear}
 use Rattle.sight.specs.Sight.{Floor, Place, Sight, follow}
@@ -39,8 +39,8 @@ floor-of cs ls q =
 -- the lines of a checked plan: whole cells, corners that exist, and across each face wall or another face
 pub record Lines (cs : List ℤ) (ls : List ℕ) : Type 0 where
   pub whole-cells : length ls % 6 ≡ 0
-  pub few-faces : length ls ≤ 18000
-  pub few-corners : corner-count cs ≤ 2048
+  pub few-faces : length ls ≤ 6 * most-cells
+  pub few-corners : corner-count cs ≤ most-corners
   pub corners-near : CornersNear cs
   pub start-exists : (f : ℕ) → 2 * f + 1 < length ls → getD ls (2 * f) 0 < corner-count cs
   pub across-exists : (f : ℕ) → 2 * f + 1 < length ls → (getD ls (2 * f + 1) 0 ≡ wall → ⊥) → 2 * getD ls (2 * f + 1) 0 + 1 < length ls

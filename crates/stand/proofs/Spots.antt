@@ -13,10 +13,11 @@ use mir.Syntax.{w64}
 use mir.Val.{toZ, ofZ}
 use Rattle.exact.specs.Within.{Within}
 use Rattle.exact.proofs.Bounds.{coordinate}
+use Rattle.exact.proofs.Truth.{neither-true}
 use Rattle.plane.specs.Side.{Point, limit, Near}
 use Rattle.plan.specs.Lists.{corner-count, corner-at}
 use Rattle.plan.specs.Check.{outside}
-use Rattle.plan.proofs.Checks.{not-outside, neither}
+use Rattle.plan.proofs.Checks.{not-outside}
 use Rattle.stand.specs.Whole.{whole}
 use Rattle.stand.specs.Spot.{pair, whole-point, unless, within-limits, offset-by, stood}
 use Rattle.stand.specs.declared.number.Millimetres.{Millimetres}
@@ -65,7 +66,7 @@ module _ (x y : ℤ) where
       by-cases : (b : Bool) → (outside x || outside y) ≡ b → unless b (At x y) ≡ At u v → Near (record { x = u; y = v })
       by-cases true h p = absurd (let z : _≡_ {A = ℕ} 0 1 = cc in omega arith)
       by-cases false h p =
-          let both = neither (outside x) (outside y) h in
+          let both = neither-true (outside x) (outside y) h in
           let same-x : x ≡ u = cc in
           let same-y : y ≡ v = cc in
           record { x-near = subst (Within limit) same-x (not-outside x (both .0)); y-near = subst (Within limit) same-y (not-outside y (both .1)) }

@@ -15,7 +15,8 @@ use Rattle.sight.specs.Sight.{Sight, Floor, follow, hand-on, crossings}
 use Rattle.sight.specs.Sight.Sight.{row, both}
 use Rattle.sight.specs.Floor.{floor-of, placed}
 use Rattle.sight.specs.Apex.{apex-place}
-use Rattle.sight.proofs.Expansion.{Room, Passed, ended, passed, room-for-a-row, room-beyond, room-for-the-first, room-for-the-second, same-written, row-written, beyond-written, both-written, next-exists, right-of-r-hands-on, left-of-l-hands-on, between-hands-on}
+use Rattle.sight.proofs.Expansion.{Room, Passed, passed, room-for-a-row, room-beyond, room-for-the-first, room-for-the-second, same-written, row-written, beyond-written, both-written, next-exists, right-of-r-hands-on, left-of-l-hands-on, between-hands-on}
+use Rattle.sight.proofs.Trees.{follow-a-wall}
 use Rattle.sight.proofs.expand.cross.Reads as cross
 use Rattle.sight.proofs.expand.cross.Kinds as cross-kinds
 use Rattle.sight.proofs.expand.+cross+hand_on.Lts-cross as cross-lts
@@ -64,7 +65,7 @@ line t s = follow (ground t s) (s .args .left) (s .args .f) (s .args .r) (s .arg
 is-row : (t : ℕ) (c : cross-lts.Then1 (cross-calls t) (cross-at t) cross.Post) →
     let s = c .before .before .before .before in
     line t s ≡ row (s .args .f) (s .args .r) (s .args .l)
-is-row t c = let s = c .before .before .before .before in ended _ (s .args .left) _ _ _ (eq-eqb _ _ (c .if1 .taken))
+is-row t c = let s = c .before .before .before .before in follow-a-wall _ (s .args .left) _ _ _ (eq-eqb _ _ (c .if1 .taken))
 
 row-fits : (t : ℕ) (c : cross-lts.Then1 (cross-calls t) (cross-at t) cross.Post) →
     let s = c .before .before .before .before in
