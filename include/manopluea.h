@@ -26,8 +26,10 @@
  *    8 STAND      number or corner not accepted                                                                   0
  *    9 LINE       strictly inside no cell, on some cell's border                                                  0
  *   10 OUTSIDE    inside or on no cell                                                                            0
- *   11 ROOM       table shorter than 3*corners numbers (listing); bytes shorter than the file (writer); any list
- *                 shorter than its numbers (reader)                                                               0
+ *   11 ROOM       table shorter than 3*corners numbers (listing, door change); bytes shorter than the file (writer);
+ *                 any list shorter than its numbers (reader); text shorter than MANOPLUEA_TEXT bytes (printing)    0
+ *   12 CHANGE     no such door, or already in that state                                                          0
+ *   13 ROWS       the given list differs from the true one, in length or any number                               0
  *
  * The lowest number that applies is the reply. A refusal returns its number and place only, and every lent table, list and file keeps its
  * contents. On 0, numbers and bytes beyond those written keep their old values. Each call checks its plan anew.
@@ -48,6 +50,9 @@ extern "C" {
 
 /* The numbers of a reply. */
 #define MANOPLUEA_REPLY 5
+
+/* A text of so many bytes has room for all that the printing program can print. */
+#define MANOPLUEA_TEXT 36928
 
 /* The plan check. Replies 0 to 6. On 0 the values are the counts of corners, cells and doors. Writes to the reply only. */
 void manopluea_check(const int32_t *corners, size_t corners_length,
@@ -126,6 +131,12 @@ void manopluea_change_offset(const int32_t *corners, size_t corners_length,
                              size_t door, bool shut,
                              uint16_t *table, size_t table_length,
                              uint64_t *reply, size_t reply_length);
+
+/* What the printing program prints for an input: a query record (kind 4 or 5), then a plan. Replies 0 and 11. On 0 the first value is the number of
+ * bytes printed, which stand in the text from its beginning; a refused query or plan is printed too, as `refused`, its number and place. */
+void manopluea_print(const uint8_t *input, size_t input_length,
+                     uint8_t *text, size_t text_length,
+                     uint64_t *reply, size_t reply_length);
 
 #ifdef __cplusplus
 }

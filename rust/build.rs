@@ -1,9 +1,14 @@
 //! Links the proved library where its archive is there, and leaves the module
 //! `proved` out, with a message, where it is not.
 //!
-//! The archive is for x86-64. For another machine it is linked with
-//! `bridge/serve.c` by the kit's compiler, into a program that the kit's
-//! emulator runs.
+//! The archive that `rt staticlib exports` makes is for x86-64. For another
+//! machine it is linked with `bridge/serve.c` by the kit's compiler, into a
+//! program that the kit's emulator runs. `MANOPLUEA_ARCHIVE` names another
+//! archive, made for the machine at hand: `bench.sh` makes one, since the speed
+//! under an emulator means nothing.
+
+#[path = "src/kit.rs"]
+mod kit;
 
 use std::env;
 use std::path::{Path, PathBuf};
@@ -11,10 +16,13 @@ use std::process::Command;
 
 fn main() {
     println!("cargo::rustc-check-cfg=cfg(proved)");
+    println!("cargo::rustc-check-cfg=cfg(linked)");
     println!("cargo::rerun-if-changed=build.rs");
+    println!("cargo::rerun-if-changed=src/kit.rs");
     println!("cargo::rerun-if-changed=bridge");
     println!("cargo::rerun-if-changed=../include/manopluea.h");
     println!("cargo::rerun-if-env-changed=RATTLE_HOME");
+    println!("cargo::rerun-if-env-changed=MANOPLUEA_ARCHIVE");
     match link() {
         Ok(()) => println!("cargo::rustc-cfg=proved"),
         Err(why) => println!("cargo::warning=the proved library is left out: {why}"),
@@ -23,24 +31,14 @@ fn main() {
 
 fn link() -> Result<(), String> {
     let package = Path::new(env!("CARGO_MANIFEST_DIR"));
-    let folder = package.join("../target/staticlib");
-    let archive = folder.join("libexports.a");
-    println!("cargo::rerun-if-changed={}", archive.display());
-    if !archive.is_file() {
-        let archive = archive.display();
-        return Err(format!(
-            "{archive} is not there; `rt staticlib exports` makes it"
-        ));
+    if let Some(archive) = env::var_os("MANOPLUEA_ARCHIVE") {
+        return link_archive(&present(package.join(archive))?);
     }
+    let archive = present(package.join("../target/staticlib/libexports.a"))?;
     if env::var("CARGO_CFG_TARGET_ARCH").as_deref() == Ok("x86_64") {
-        println!("cargo::rustc-link-search=native={}", folder.display());
-        println!("cargo::rustc-link-lib=static=exports");
-        return Ok(());
+        return link_archive(&archive);
     }
-    let tools = kit()?
-        .join("on")
-        .join(env::consts::ARCH)
-        .join("toolchain/bin");
+    let tools = kit::toolchain()?.join("bin");
     let server = link_server(&tools, &package.join("bridge"), &archive)?;
     let emulator = tools.join("qemu-x86_64");
     println!("cargo::rustc-env=MANOPLUEA_EMULATOR={}", emulator.display());
@@ -48,18 +46,24 @@ fn link() -> Result<(), String> {
     Ok(())
 }
 
-/// The folder of the Rattle kit: RATTLE_HOME, or where `rt` is.
-fn kit() -> Result<PathBuf, String> {
-    if let Some(home) = env::var_os("RATTLE_HOME") {
-        return Ok(home.into());
+fn present(archive: PathBuf) -> Result<PathBuf, String> {
+    println!("cargo::rerun-if-changed={}", archive.display());
+    if archive.is_file() {
+        return Ok(archive);
     }
-    let path = env::var_os("PATH").unwrap_or_default();
-    env::split_paths(&path)
-        .filter_map(|folder| folder.join("rt").canonicalize().ok())
-        .find_map(|rt| Some(rt.parent()?.parent()?.to_path_buf()))
-        .ok_or_else(|| {
-            "the archive is for x86-64, and no Rattle kit is there to run it".to_string()
-        })
+    let archive = archive.display();
+    Err(format!(
+        "{archive} is not there; `rt staticlib exports` makes the one for x86-64"
+    ))
+}
+
+/// Links an archive that is made for the machine at hand.
+fn link_archive(archive: &Path) -> Result<(), String> {
+    let folder = archive.parent().ok_or("an archive lies in a folder")?;
+    println!("cargo::rustc-link-search=native={}", folder.display());
+    println!("cargo::rustc-link-lib=static=exports");
+    println!("cargo::rustc-cfg=linked");
+    Ok(())
 }
 
 fn link_server(tools: &Path, bridge: &Path, archive: &Path) -> Result<PathBuf, String> {

@@ -1,11 +1,12 @@
 /* The proved library behind a pipe, for machines that its archive is not made for: built for x86-64 and run under the kit's emulator.
  * It reads requests from standard input and writes what each call leaves to standard output, until the input ends.
  *
- * A request is fourteen numbers of eight bytes, call, setting, corner, x, y, door, shut and the lengths of reply, corners, cells, doors, given,
- * table and file, then the contents of those seven lists, back to back. The answer is the seven lists after the call. */
+ * A request is fifteen numbers of eight bytes, call, setting, corner, x, y, door, shut and the lengths of reply, corners, cells, doors, given,
+ * table, file and text, then the contents of those eight lists, back to back. The answer is the eight lists after the call. The file of PRINT is
+ * its input. */
 #include "../../include/manopluea.h"
 
-enum { CHECK, READ, WRITE, FIND_POINT, FIND_OFFSET, LIST_POINT, LIST_OFFSET, CHANGE_POINT, CHANGE_OFFSET };
+enum { CHECK, READ, WRITE, FIND_POINT, FIND_OFFSET, LIST_POINT, LIST_OFFSET, CHANGE_POINT, CHANGE_OFFSET, PRINT };
 
 static _Alignas(8) uint8_t lists[1 << 21];
 
@@ -66,18 +67,19 @@ static void serve_one(void)
     struct {
         uint64_t call, setting, corner;
         double x, y;
-        uint64_t door, shut, reply, corners, cells, doors, given, table, file;
+        uint64_t door, shut, reply, corners, cells, doors, given, table, file, text;
     } asked;
     receive(&asked, sizeof asked);
-    size_t r = asked.reply, n = asked.corners, m = asked.cells, k = asked.doors, g = asked.given, t = asked.table, f = asked.file;
-    if ((r | n | m | k | g | t | f) >> 32 || 8 * r + 4 * n + 2 * (m + k + g + t) + f > sizeof lists)
+    size_t r = asked.reply, n = asked.corners, m = asked.cells, k = asked.doors, g = asked.given, t = asked.table, f = asked.file,
+           x = asked.text;
+    if ((r | n | m | k | g | t | f | x) >> 32 || 8 * r + 4 * n + 2 * (m + k + g + t) + f + x > sizeof lists)
         leave(2);
     /* the widest numbers come first, so each list is aligned */
     uint64_t *reply = (uint64_t *)lists;
     int32_t *corners = (int32_t *)(reply + r);
     uint16_t *cells = (uint16_t *)(corners + n), *doors = cells + m, *given = doors + k, *table = given + g;
-    uint8_t *file = (uint8_t *)(table + t);
-    size_t length = (size_t)(file + f - lists);
+    uint8_t *file = (uint8_t *)(table + t), *text = file + f;
+    size_t length = (size_t)(text + x - lists);
     uint16_t corner = (uint16_t)asked.corner;
     receive(lists, length);
     switch (asked.call) {
@@ -108,6 +110,9 @@ static void serve_one(void)
     case CHANGE_OFFSET:
         manopluea_change_offset(corners, n, cells, m, doors, k, asked.setting, corner, asked.x, asked.y, given, g, asked.door, asked.shut, table, t,
                                 reply, r);
+        break;
+    case PRINT:
+        manopluea_print(file, f, text, x, reply, r);
         break;
     default:
         leave(3);

@@ -1,64 +1,75 @@
-//! Times of the listing on four floors.
+//! Times of the public calls on four floors: of the proved library, of the
+//! second program and of plain Rust, side by side.
 
-use crate::calls::{Calls, Reply, Stand};
-use crate::generate::{self, Dice, Mesh, Scene};
+use crate::calls::{Calls, DoorChange, Lists, Plan, Stand};
+use crate::generate::{self, Dice, Mesh};
+use crate::paper::{self, Paper, DOORS};
+use crate::plain;
 use std::fmt::Write;
+use std::hint::black_box;
 use std::time::{Duration, Instant};
 
-/// How long each floor is listed over and over.
-const TIME_EACH: Duration = Duration::from_millis(400);
+/// How long the calls are made over and over on each floor.
+const TIME_EACH: Duration = Duration::from_secs(4);
 
-/// Fewest runs behind a median, for listings that take long.
-const FEWEST_RUNS: usize = 31;
+/// Fewest rounds behind a median, for listings that take long.
+const FEWEST_ROUNDS: usize = 51;
 
 /// So many stands are tried for the one that sees through most lines.
 const STANDS_TRIED: usize = 60;
 
-/// Medians of one floor, in nanoseconds a call.
-struct Times {
-    rows: u64,
+/// A floor, and what is asked about it: every door is open, one is to be shut.
+struct Floor {
+    name: &'static str,
+    plan: Plan,
+    stand: Stand,
+    /// The true list.
+    given: Vec<u16>,
     crossings: u64,
-    list: f64,
-    /// Finding does all a listing does before the expansion.
+    door: usize,
+}
+
+/// A call made on a floor.
+type Call<'a> = Box<dyn FnMut() + 'a>;
+
+/// Medians of one program on one floor, in nanoseconds a call.
+struct Times {
+    check: f64,
     find: f64,
+    list: f64,
+    /// The listing with the door shut.
+    list_after: f64,
+    change: f64,
 }
 
-/// Lists each floor many times, and reports medians.
-pub fn report(calls: &dyn Calls) -> String {
-    let mut text = format!(
-        "{:<10}{:>8}{:>7}{:>7}{:>11}{:>12}{:>10}{:>13}{:>16}\n",
-        "floor",
-        "corners",
-        "cells",
-        "rows",
-        "crossings",
-        "list ns",
-        "find ns",
-        "ns/crossing",
-        "expansion only"
-    );
-    for (name, scene) in floors(calls) {
-        let times = times(calls, &scene);
-        let crossings = times.crossings.max(1) as f64;
-        writeln!(
-            text,
-            "{name:<10}{:>8}{:>7}{:>7}{:>11}{:>12.0}{:>10.0}{:>13.2}{:>16.2}",
-            scene.plan.corners.len() / 2,
-            scene.plan.cells.len() / 6,
-            times.rows,
-            times.crossings,
-            times.list,
-            times.find,
-            times.list / crossings,
-            (times.list - times.find) / crossings,
-        )
-        .expect("a string takes every line");
+impl Times {
+    /// All that a listing does once the stand's cell is known.
+    fn expansion(&self) -> f64 {
+        self.list - self.find
     }
-    text
+
+    fn two_listings(&self) -> f64 {
+        self.list + self.list_after
+    }
 }
 
-/// The four floors, each from the stand that crosses most lines.
-fn floors(calls: &dyn Calls) -> Vec<(&'static str, Scene)> {
+/// Times the calls on each floor, and reports medians.
+pub fn report(proved: &dyn Calls) -> String {
+    floors()
+        .iter()
+        .map(|floor| {
+            let programs = [
+                calls_of(floor, proved),
+                calls_of(floor, &Paper),
+                calls_on(floor, plain::check, plain::find, plain::list, plain::change),
+            ];
+            describe(floor, &medians(programs))
+        })
+        .collect()
+}
+
+/// Four floors, each from the stand that crosses most lines.
+fn floors() -> Vec<Floor> {
     let dice = &mut Dice::new(1);
     let meshes = [
         ("cathedral", generate::cathedral(29, 39, 40, dice)),
@@ -70,56 +81,219 @@ fn floors(calls: &dyn Calls) -> Vec<(&'static str, Scene)> {
     ];
     meshes
         .into_iter()
-        .map(|(name, mesh)| (name, best_scene(calls, &mesh, dice)))
+        .map(|(name, mesh)| floor(name, &mesh, dice))
         .collect()
 }
 
-fn best_scene(calls: &dyn Calls, mesh: &Mesh, dice: &mut Dice) -> Scene {
-    let plan = mesh.plan(&generate::doors(mesh, dice));
-    let scene = |[x, y]: generate::Spot| Scene {
-        plan: plan.clone(),
-        setting: 0,
-        stand: Stand::Point(x as f64, y as f64),
-        door: 0,
+fn floor(name: &'static str, mesh: &Mesh, dice: &mut Dice) -> Floor {
+    let plan = with_most_doors(mesh, dice);
+    let (stand, (given, crossings)) = (0..STANDS_TRIED)
+        .map(|_| {
+            let [x, y] = generate::inside(mesh, dice);
+            let stand = Stand::Point(x as f64, y as f64);
+            (stand, listing(&plan, 0, stand))
+        })
+        .max_by_key(|(_, (_, crossings))| *crossings)
+        .expect("some stand is tried");
+    // A door that is seen, so that the change changes something.
+    let door = (0..plan.doors.len())
+        .find(|door| listing(&plan, 1 << door, stand).0 != given)
+        .expect("some door is seen");
+    Floor {
+        name,
+        plan,
+        stand,
+        given,
+        crossings,
+        door,
+    }
+}
+
+fn with_most_doors(mesh: &Mesh, dice: &mut Dice) -> Plan {
+    let mut lines = mesh.free_lines();
+    dice.shuffle(&mut lines);
+    lines.truncate(*DOORS.end());
+    mesh.plan(&lines)
+}
+
+/// The rows and crossings that the second program lists.
+fn listing(plan: &Plan, setting: u64, stand: Stand) -> (Vec<u16>, u64) {
+    let mut table = table(plan);
+    let reply = paper::list(plan.lists(), setting, stand, &mut table);
+    table.truncate(3 * reply.values[0] as usize);
+    (table, reply.values[1])
+}
+
+fn table(plan: &Plan) -> Vec<u16> {
+    vec![0; 3 * plan.corners.len() / 2]
+}
+
+fn calls_of<'a>(floor: &'a Floor, calls: &'a dyn Calls) -> [Call<'a>; 5] {
+    calls_on(
+        floor,
+        |lists| calls.check(lists),
+        |lists, stand| calls.find(lists, stand),
+        |lists, setting, stand, table| calls.list(lists, setting, stand, table),
+        |lists, change, table| calls.change(lists, change, table),
+    )
+}
+
+/// The calls that are timed, in the order of `Times`. No answer has a use, and
+/// a black box keeps each call from being left out for that.
+fn calls_on<'a, Checked, Found, Listed>(
+    floor: &'a Floor,
+    check: impl Fn(Lists<'a>) -> Checked + 'a,
+    find: impl Fn(Lists<'a>, Stand) -> Found + 'a,
+    list: impl Fn(Lists<'a>, u64, Stand, &mut [u16]) -> Listed + Copy + 'a,
+    change: impl Fn(Lists<'a>, DoorChange<'a>, &mut [u16]) -> Listed + 'a,
+) -> [Call<'a>; 5] {
+    let (lists, stand) = (floor.plan.lists(), floor.stand);
+    let list_under = |setting| {
+        let mut table = table(&floor.plan);
+        move || {
+            black_box(list(lists, setting, stand, &mut table));
+        }
     };
-    (0..STANDS_TRIED)
-        .map(|_| scene(generate::inside(mesh, dice)))
-        .max_by_key(|scene| list(calls, scene, &mut table(scene)).values[1])
-        .expect("some stand is tried")
-}
-
-fn table(scene: &Scene) -> Vec<u16> {
-    vec![0; 3 * scene.plan.corners.len() / 2]
-}
-
-fn list(calls: &dyn Calls, scene: &Scene, table: &mut [u16]) -> Reply {
-    calls.list(scene.plan.lists(), scene.setting, scene.stand, table)
-}
-
-fn times(calls: &dyn Calls, scene: &Scene) -> Times {
-    let mut table = table(scene);
-    let reply = list(calls, scene, &mut table);
-    Times {
-        rows: reply.values[0],
-        crossings: reply.values[1],
-        list: median(|| {
-            std::hint::black_box(list(calls, scene, &mut table));
+    let shutting = DoorChange {
+        setting: 0,
+        stand,
+        given: &floor.given,
+        door: floor.door,
+        shut: true,
+    };
+    let mut changed = table(&floor.plan);
+    [
+        Box::new(move || {
+            black_box(check(lists));
         }),
-        find: median(|| {
-            std::hint::black_box(calls.find(scene.plan.lists(), scene.stand));
+        Box::new(move || {
+            black_box(find(lists, stand));
         }),
-    }
+        Box::new(list_under(0)),
+        Box::new(list_under(1 << floor.door)),
+        Box::new(move || {
+            black_box(change(lists, shutting, &mut changed));
+        }),
+    ]
 }
 
-/// The median time of a call in nanoseconds.
-fn median(mut call: impl FnMut()) -> f64 {
-    let mut all = Vec::new();
+/// The median time of each call of each program. The programs take turns, so
+/// that a machine that gets slower or faster does so for all of them.
+fn medians(mut programs: [[Call<'_>; 5]; 3]) -> [Times; 3] {
+    let mut samples: [[Vec<Duration>; 5]; 3] = Default::default();
     let begin = Instant::now();
-    while all.len() < FEWEST_RUNS || begin.elapsed() < TIME_EACH {
-        let start = Instant::now();
-        call();
-        all.push(start.elapsed());
+    while samples[0][0].len() < FEWEST_ROUNDS || begin.elapsed() < TIME_EACH {
+        for call in 0..5 {
+            for (calls, samples) in programs.iter_mut().zip(&mut samples) {
+                let start = Instant::now();
+                calls[call]();
+                samples[call].push(start.elapsed());
+            }
+        }
     }
-    all.sort_unstable();
-    all[all.len() / 2].as_nanos() as f64
+    samples.map(|samples| {
+        let [check, find, list, list_after, change] = samples.map(median);
+        Times {
+            check,
+            find,
+            list,
+            list_after,
+            change,
+        }
+    })
+}
+
+fn median(mut samples: Vec<Duration>) -> f64 {
+    samples.sort_unstable();
+    samples[samples.len() / 2].as_nanos() as f64
+}
+
+fn describe(floor: &Floor, times: &[Times; 3]) -> String {
+    let crossings = floor.crossings as f64;
+    let mut text = heading(floor);
+    for (name, figure) in [
+        ("check", (|of| of.check) as fn(&Times) -> f64),
+        ("find", |of| of.find),
+        ("list", |of| of.list),
+        ("expansion (list - find)", Times::expansion),
+        ("change", |of| of.change),
+    ] {
+        text += &line(name, 0, times.each_ref().map(figure));
+    }
+    let each = times.each_ref();
+    let a_crossing = each.map(|of| of.expansion() / crossings);
+    text += &line("expansion, a crossing", 2, a_crossing);
+    let against_two = each.map(|of| of.change / of.two_listings());
+    text += &line("change / two listings", 2, against_two);
+    text.push('\n');
+    text
+}
+
+fn heading(floor: &Floor) -> String {
+    format!(
+        "{}: {} corners, {} cells, {} doors; {} rows, {} crossings\n{:<25}{:>11}{:>11}{:>11}{:>15}{:>14}\n",
+        floor.name,
+        floor.plan.corners.len() / 2,
+        floor.plan.cells.len() / 6,
+        floor.plan.doors.len(),
+        floor.given.len() / 3,
+        floor.crossings,
+        "nanoseconds",
+        "proved",
+        "second",
+        "plain",
+        "proved/second",
+        "proved/plain",
+    )
+}
+
+/// A figure of the three programs with so many decimal places, and its ratios.
+fn line(name: &str, places: usize, [proved, second, plain]: [f64; 3]) -> String {
+    let mut text = format!("{name:<25}");
+    for figure in [proved, second, plain] {
+        write!(text, "{figure:>11.places$}").expect("a string takes every figure");
+    }
+    text + &format!("{:>15.2}{:>14.2}\n", proved / second, proved / plain)
+}
+
+#[cfg(test)]
+mod tests {
+    use super::*;
+
+    #[test]
+    fn the_floors_are_of_their_sizes() {
+        let sizes: Vec<_> = floors()
+            .iter()
+            .map(|floor| (floor.plan.corners.len() / 2, floor.plan.cells.len() / 6))
+            .collect();
+        assert_eq!(
+            sizes,
+            [
+                (1_200, 2_002),
+                (2_002, 2_000),
+                (2_048, 3_000),
+                (2_048, 3_000)
+            ]
+        );
+    }
+
+    /// What is timed is the same work: each program lists the same rows.
+    #[test]
+    fn the_floors_are_listed_alike() {
+        for floor in floors() {
+            let mut plain = table(&floor.plan);
+            let counts = plain::list(floor.plan.lists(), 0, floor.stand, &mut plain);
+            let counts = counts.expect("a floor can be listed");
+            assert_eq!(counts.crossings, floor.crossings, "{}", floor.name);
+            assert_eq!(plain[..3 * counts.rows], floor.given, "{}", floor.name);
+            #[cfg(proved)]
+            {
+                let mut proved = table(&floor.plan);
+                let reply =
+                    crate::proved::Proved.list(floor.plan.lists(), 0, floor.stand, &mut proved);
+                assert_eq!(reply.values, [counts.rows as u64, counts.crossings, 0]);
+                assert_eq!(proved, plain, "{}", floor.name);
+            }
+        }
+    }
 }

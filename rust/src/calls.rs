@@ -39,6 +39,19 @@ pub enum Stand {
     Offset(u16, f64, f64),
 }
 
+/// A door change as it is asked for.
+#[derive(Clone, Copy, Debug)]
+pub struct DoorChange<'a> {
+    /// The old one.
+    pub setting: u64,
+    pub stand: Stand,
+    /// The list under the old setting, three numbers a row.
+    pub given: &'a [u16],
+    pub door: usize,
+    /// The wished state of the door.
+    pub shut: bool,
+}
+
 /// The reply to a call: its number, its place and up to three values.
 /// A refusal has the values 0.
 ///
@@ -51,8 +64,7 @@ pub struct Reply {
     pub values: [u64; 3],
 }
 
-/// One method for each public call. An implementor that lacks the door change
-/// or the printing program says `None` there, and is not compared by it.
+/// One method for each public call.
 pub trait Calls {
     fn check(&self, lists: Lists<'_>) -> Reply;
 
@@ -66,25 +78,9 @@ pub trait Calls {
     /// Three numbers a row go into the table: face, right limit, left limit.
     fn list(&self, lists: Lists<'_>, setting: u64, stand: Stand, table: &mut [u16]) -> Reply;
 
-    /// `setting` is the old one, `given` the list under it, and `shut` the
-    /// wished state of the door.
-    #[allow(clippy::too_many_arguments, unused_variables)]
-    fn change(
-        &self,
-        lists: Lists<'_>,
-        setting: u64,
-        stand: Stand,
-        given: &[u16],
-        door: usize,
-        shut: bool,
-        table: &mut [u16],
-    ) -> Option<Reply> {
-        None
-    }
+    /// The list under the new setting goes into the table.
+    fn change(&self, lists: Lists<'_>, change: DoorChange<'_>, table: &mut [u16]) -> Reply;
 
     /// What the printing program prints for this standard input.
-    #[allow(unused_variables)]
-    fn print(&self, input: &[u8]) -> Option<Vec<u8>> {
-        None
-    }
+    fn print(&self, input: &[u8]) -> Vec<u8>;
 }

@@ -5,11 +5,15 @@ mod shrink;
 mod trial;
 
 pub use shrink::smallest;
-pub use trial::{Asked, AskedOfBytes, Both, Trial};
+pub use trial::{Asked, AskedOfBytes, Both, Outcome, Trial};
 
 use crate::calls::Calls;
 use crate::generate::{self, Case};
 use std::fmt;
+
+/// The printing program is a process for each input, so only one case in so
+/// many is put to it.
+const PROGRAM_EVERY: usize = 50;
 
 /// How often each reply number came up, for each call.
 #[derive(Clone, Debug, Default, PartialEq, Eq)]
@@ -104,7 +108,8 @@ pub fn compare(
     for number in 0..count {
         for trial in trials(generate::case(seed, number)) {
             if trial.run(both, &mut tally).is_err() {
-                return Err(mismatch(both, number, trial));
+                let run = |trial: &Trial| trial.run(both, &mut Tally::default());
+                return Err(mismatch(number, trial, run));
             }
         }
         tally.cases += 1;
@@ -112,8 +117,30 @@ pub fn compare(
     Ok(tally)
 }
 
-fn mismatch(both: Both<'_>, case: u64, trial: Trial) -> Box<Mismatch> {
-    let run = |trial: &Trial| trial.run(both, &mut Tally::default());
+/// Puts the inputs of some of a seed's cases to the printing program itself,
+/// and gives back of how many. It stops at the first mismatch with the paper
+/// program.
+pub fn compare_program(
+    program: impl Fn(&[u8]) -> Vec<u8>,
+    seed: u64,
+    count: u64,
+) -> Result<u64, Box<Mismatch>> {
+    let run = |trial: &Trial| match trial {
+        Trial::Bytes(input, AskedOfBytes::Print) => trial::run_program(input, &program),
+        _ => Ok(()),
+    };
+    let mut inputs = 0;
+    for number in (0..count).step_by(PROGRAM_EVERY) {
+        let trial = Trial::Bytes(generate::case(seed, number).input, AskedOfBytes::Print);
+        if run(&trial).is_err() {
+            return Err(mismatch(number, trial, run));
+        }
+        inputs += 1;
+    }
+    Ok(inputs)
+}
+
+fn mismatch(case: u64, trial: Trial, run: impl Fn(&Trial) -> Outcome) -> Box<Mismatch> {
     let trial = smallest(trial, |smaller| run(smaller).is_err());
     let fault = run(&trial).expect_err("a trial is only made smaller while it fails");
     Box::new(Mismatch { case, trial, fault })

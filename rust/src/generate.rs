@@ -243,8 +243,10 @@ fn input(scene: &Scene, dice: &mut Dice) -> Vec<u8> {
         _ => {}
     }
     let mut input = [query, plan].concat();
-    if dice.percent(1) {
-        input.resize(MOST_INPUT + dice.below(2), 0);
+    match dice.below(100) {
+        0 => input.resize(MOST_INPUT + dice.pick(&[0, 1, 2, MOST_INPUT]), 0),
+        1 => input.truncate(dice.below(40)),
+        _ => {}
     }
     input
 }
@@ -335,6 +337,19 @@ mod tests {
             largest += usize::from(sizes == (*CORNERS.end(), *CELLS.end()));
         }
         assert!(on_top > 100 && parted > 100 && at_edges > 100 && largest > 2);
+    }
+
+    #[test]
+    fn inputs_of_every_kind_come_up() {
+        let (mut longer, mut longest, mut cut, mut wrong_kind) = (0, 0, 0, 0);
+        for number in 0..4_000 {
+            let input = case(8, number).input;
+            longer += usize::from(input.len() > MOST_INPUT);
+            longest += usize::from(input.len() == MOST_INPUT);
+            cut += usize::from(input.len() < 30);
+            wrong_kind += usize::from(input.len() >= 30 && ![4, 5].contains(&input[4]));
+        }
+        assert!(longer > 10 && longest > 4 && cut > 10 && wrong_kind > 10);
     }
 
     /// How many cells hold a spot strictly inside.

@@ -1,7 +1,7 @@
 //! The commands: `compare SEED COUNT`, `self SEED COUNT`, `case LETTER`, `bench`.
 
 use manopluea_compare::paper::Paper;
-use manopluea_compare::{bench, compare, examples};
+use manopluea_compare::{compare, examples};
 use std::process::ExitCode;
 
 const USAGE: &str =
@@ -14,10 +14,7 @@ fn main() -> ExitCode {
         ["compare", seed, count] => run(seed, count, compare_with_proved),
         ["self", seed, count] => run(seed, count, compare_with_itself),
         ["case", letter] => show_example(letter),
-        ["bench"] => {
-            print!("{}", bench::report(&Paper));
-            Ok(())
-        }
+        ["bench"] => bench_proved(),
         _ => Err(USAGE.to_string()),
     };
     match done {
@@ -36,14 +33,18 @@ fn run(seed: &str, count: &str, compare: fn(u64, u64) -> Result<(), String>) -> 
     }
 }
 
-/// Puts the paper program against the proved library.
+/// Puts the paper program against the proved library and the printing program.
 #[cfg(proved)]
 fn compare_with_proved(seed: u64, count: u64) -> Result<(), String> {
-    use manopluea_compare::proved::Proved;
+    use manopluea_compare::{program::Program, proved::Proved};
+    let program = Program::find()?;
     let begin = std::time::Instant::now();
     let tally =
         compare::compare(&Paper, &Proved, seed, count).map_err(|fault| fault.to_string())?;
     print!("{tally}");
+    let inputs = compare::compare_program(|input| program.print(input), seed, count)
+        .map_err(|fault| fault.to_string())?;
+    println!("printing program: {inputs} inputs");
     println!("{:.1} seconds", begin.elapsed().as_secs_f64());
     Ok(())
 }
@@ -52,6 +53,19 @@ fn compare_with_proved(seed: u64, count: u64) -> Result<(), String> {
 fn compare_with_proved(_seed: u64, _count: u64) -> Result<(), String> {
     Err("the proved library was left out of this build: run `rt staticlib exports`, then build again"
         .to_string())
+}
+
+/// Times the proved library, where it is part of this program.
+#[cfg(linked)]
+fn bench_proved() -> Result<(), String> {
+    use manopluea_compare::{bench, proved::Proved};
+    print!("{}", bench::report(&Proved));
+    Ok(())
+}
+
+#[cfg(not(linked))]
+fn bench_proved() -> Result<(), String> {
+    Err("this build has no proved library for the machine at hand: run bench.sh".to_string())
 }
 
 /// Puts the paper program to itself: what this tests is the generator, and

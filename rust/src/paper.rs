@@ -18,7 +18,7 @@ pub use printing::{print, query, MOST_INPUT};
 pub use runs::change_by_runs;
 pub use sight::{Direction, Listing, Row, View, Walk};
 
-use crate::calls::{Calls, Lists, Reply, Stand};
+use crate::calls::{Calls, DoorChange, Lists, Reply, Stand};
 
 /// The paper program as an implementor of the public calls.
 pub struct Paper;
@@ -50,21 +50,12 @@ impl Calls for Paper {
         list(lists, setting, stand, table)
     }
 
-    fn change(
-        &self,
-        lists: Lists<'_>,
-        setting: u64,
-        stand: Stand,
-        given: &[u16],
-        door: usize,
-        shut: bool,
-        table: &mut [u16],
-    ) -> Option<Reply> {
-        Some(change(lists, setting, stand, given, door, shut, table))
+    fn change(&self, lists: Lists<'_>, asked: DoorChange<'_>, table: &mut [u16]) -> Reply {
+        change(lists, asked, table)
     }
 
-    fn print(&self, input: &[u8]) -> Option<Vec<u8>> {
-        Some(print(input))
+    fn print(&self, input: &[u8]) -> Vec<u8> {
+        print(input)
     }
 }
 
@@ -88,18 +79,8 @@ pub fn list(lists: Lists<'_>, setting: u64, stand: Stand, table: &mut [u16]) -> 
     reply(list_checked(lists, setting, stand, table))
 }
 
-pub fn change(
-    lists: Lists<'_>,
-    setting: u64,
-    stand: Stand,
-    given: &[u16],
-    door: usize,
-    shut: bool,
-    table: &mut [u16],
-) -> Reply {
-    reply(change_checked(
-        lists, setting, stand, given, door, shut, table,
-    ))
+pub fn change(lists: Lists<'_>, asked: DoorChange<'_>, table: &mut [u16]) -> Reply {
+    reply(change_checked(lists, asked, table))
 }
 
 /// What is given back on 0: up to three values.
@@ -157,13 +138,16 @@ fn list_checked(
 
 fn change_checked(
     lists: Lists<'_>,
-    setting: u64,
-    stand: Stand,
-    given: &[u16],
-    door: usize,
-    shut: bool,
+    asked: DoorChange<'_>,
     table: &mut [u16],
 ) -> Result<Values, Refusal> {
+    let DoorChange {
+        setting,
+        stand,
+        given,
+        door,
+        shut,
+    } = asked;
     let floor = Floor::check(lists)?;
     let before = View::new(&floor, setting, stand)?;
     room_for_rows(&floor, table)?;

@@ -1,22 +1,28 @@
 //! The proved library behind its C interface, `include/manopluea.h`, as an
 //! implementor of the public calls.
 
-// The archive is for x86-64; elsewhere its functions run in a process of their
-// own, under an emulator. Both modules have the same functions.
-#[cfg(target_arch = "x86_64")]
+// Where the archive is not made for the machine at hand, its functions run in a
+// process of their own, under an emulator. Both modules have the same functions.
+#[cfg(linked)]
 #[path = "proved/linked.rs"]
 mod c;
-#[cfg(not(target_arch = "x86_64"))]
+#[cfg(not(linked))]
 #[path = "proved/piped.rs"]
 mod c;
 
 pub use c::list_on_stack;
 
-use crate::calls::{Calls, Lists, Reply, Stand};
+use crate::calls::{Calls, DoorChange, Lists, Reply, Stand};
+use crate::paper::CORNERS;
 
-/// The proved library. The printing program is not in it yet: `print` comes
-/// here with it.
+/// The proved library.
 pub struct Proved;
+
+/// A text of so many bytes has room for everything that is printed.
+const MOST_TEXT: usize = 64 + 18 * *CORNERS.end();
+
+/// What a text holds before a call: no byte that is ever printed.
+const UNPRINTED: u8 = 0xa5;
 
 /// The five numbers before a call: every one of them has to be written.
 const UNWRITTEN: [u64; 5] = [u64::MAX; 5];
@@ -65,19 +71,21 @@ impl Calls for Proved {
         replied(|five| c::list(lists, setting, stand, table, five))
     }
 
-    fn change(
-        &self,
-        lists: Lists<'_>,
-        setting: u64,
-        stand: Stand,
-        given: &[u16],
-        door: usize,
-        shut: bool,
-        table: &mut [u16],
-    ) -> Option<Reply> {
-        Some(replied(|five| {
-            c::change(lists, setting, stand, given, door, shut, table, five)
-        }))
+    fn change(&self, lists: Lists<'_>, asked: DoorChange<'_>, table: &mut [u16]) -> Reply {
+        replied(|five| c::change(lists, asked, table, five))
+    }
+
+    fn print(&self, input: &[u8]) -> Vec<u8> {
+        let mut text = vec![UNPRINTED; MOST_TEXT];
+        let reply = replied(|five| c::print(input, &mut text, five));
+        let [length, rest @ ..] = reply.values;
+        assert_eq!((reply.number, reply.place, rest), (0, 0, [0, 0]));
+        let unwritten = text.split_off(length as usize);
+        assert!(
+            unwritten.iter().all(|&byte| byte == UNPRINTED),
+            "bytes beyond those printed keep their values"
+        );
+        text
     }
 }
 
@@ -98,20 +106,43 @@ mod tests {
             let mut bytes = vec![9; file.len()];
             let (mut corners, mut cells, mut doors) = ([9; 8], [9; 12], [9; 1]);
             let mut table = [9; 12];
+            let mut text = vec![9; MOST_TEXT];
             c::check(lists, &mut short);
             c::read(&file, &mut corners, &mut cells, &mut doors, &mut short);
             c::write(lists, &mut bytes, &mut short);
             for stand in [Stand::Point(6.0, 3.0), Stand::Offset(0, 6.0, 3.0)] {
                 c::find(lists, stand, &mut short);
                 c::list(lists, 0, stand, &mut table, &mut short);
-                let rows = [0, 0, 1, 1, 1, 2, 4, 2, 3, 5, 3, 0];
-                c::change(lists, 0, stand, &rows, 0, true, &mut table, &mut short);
+                let asked = DoorChange {
+                    setting: 0,
+                    stand,
+                    given: &[0, 0, 1, 1, 1, 2, 4, 2, 3, 5, 3, 0],
+                    door: 0,
+                    shut: true,
+                };
+                c::change(lists, asked, &mut table, &mut short);
             }
+            c::print(&file, &mut text, &mut short);
             assert_eq!(short, vec![7; length]);
+            assert_eq!(text, vec![9; MOST_TEXT]);
             assert_eq!(bytes, vec![9; file.len()]);
             assert_eq!((corners, cells, doors), ([9; 8], [9; 12], [9; 1]));
             assert_eq!(table, [9; 12]);
         }
+    }
+
+    /// A text that could not hold every answer is refused, whatever the answer
+    /// is; one byte more is enough.
+    #[test]
+    fn a_text_has_room_for_every_answer_or_is_left_alone() {
+        let (mut text, mut reply) = (vec![9; MOST_TEXT], [7; 5]);
+        c::print(&[], &mut text[1..], &mut reply);
+        assert_eq!(reply, [11, 0, 0, 0, 0]);
+        assert_eq!(text, vec![9; MOST_TEXT]);
+        c::print(&[], &mut text, &mut reply);
+        assert_eq!(reply, [0, 0, 12, 0, 0]);
+        assert_eq!(text[..12], *b"refused 1 0\n");
+        assert_eq!(text[12..], vec![9; MOST_TEXT - 12]);
     }
 
     /// What lies beyond the five numbers of a longer reply is left alone.

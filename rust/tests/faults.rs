@@ -2,12 +2,23 @@
 //! be shut out that document 01 names, and some more. The comparison has to
 //! find every one of them.
 
-use manopluea_compare::calls::{Calls, Lists, Reply, Stand};
-use manopluea_compare::compare::{compare, Mismatch, Trial};
+use manopluea_compare::calls::{Calls, DoorChange, Lists, Reply, Stand};
+use manopluea_compare::compare::{compare, compare_program, Mismatch, Trial};
 use manopluea_compare::paper::{self, Floor, Paper, Row, View, WALL};
 
-#[derive(Clone, Copy, Debug, PartialEq, Eq)]
-enum Fault {
+/// The enum of the faults, and the list of all of them.
+macro_rules! faults {
+    ($($fault:ident,)*) => {
+        #[derive(Clone, Copy, Debug, PartialEq, Eq)]
+        enum Fault {
+            $($fault,)*
+        }
+
+        const ALL: &[Fault] = &[$(Fault::$fault,)*];
+    };
+}
+
+faults! {
     // In the expansion.
     CornerOnLimitIsBetween,
     FartherCornerBecomesLimit,
@@ -46,39 +57,6 @@ enum Fault {
 }
 
 use Fault::*;
-
-const ALL: [Fault; 30] = [
-    CornerOnLimitIsBetween,
-    FartherCornerBecomesLimit,
-    LineEndsBecomeLimits,
-    OtherSidesAreWalls,
-    DoubleSideValues,
-    NarrowSideValues,
-    DoorIsWallFromOneFace,
-    AdjacentRowsAreJoined,
-    NothingIsWritten,
-    CrossingsAreInvented,
-    RestOfTableIsCleared,
-    RefusalClearsTable,
-    RefusalCarriesValues,
-    RoomIsAskedForRowsOnly,
-    RoomComesBeforeStand,
-    OldListIsCopied,
-    OneRunIsShut,
-    GivenListIsTrusted,
-    ChangeComesBeforeRoom,
-    StandIsTruncated,
-    OffsetHasNoBound,
-    HighestCellIsFound,
-    LineIsOutside,
-    LengthHasASign,
-    ReaderWritesBeforeRoom,
-    WriterClearsTheRest,
-    PlaceOfNeighbourIsItsCell,
-    LineIsItsCorners,
-    InputLimitIsExclusive,
-    LastLineHasNoEnd,
-];
 
 struct Faulty(Fault);
 
@@ -169,18 +147,16 @@ impl Calls for Faulty {
         reply
     }
 
-    fn change(
-        &self,
-        lists: Lists<'_>,
-        setting: u64,
-        stand: Stand,
-        given: &[u16],
-        door: usize,
-        shut: bool,
-        table: &mut [u16],
-    ) -> Option<Reply> {
-        let stand = self.stand(lists, stand);
-        let mut reply = paper::change(lists, setting, stand, given, door, shut, table);
+    fn change(&self, lists: Lists<'_>, mut asked: DoorChange<'_>, table: &mut [u16]) -> Reply {
+        asked.stand = self.stand(lists, asked.stand);
+        let DoorChange {
+            setting,
+            stand,
+            given,
+            door,
+            shut,
+        } = asked;
+        let mut reply = paper::change(lists, asked, table);
         match self.0 {
             OldListIsCopied if reply.number == 0 => {
                 table[..given.len()].copy_from_slice(given);
@@ -199,19 +175,19 @@ impl Calls for Faulty {
             }
             _ => {}
         }
-        Some(reply)
+        reply
     }
 
-    fn print(&self, input: &[u8]) -> Option<Vec<u8>> {
+    fn print(&self, input: &[u8]) -> Vec<u8> {
         let mut printed = paper::print(input);
-        Some(match self.0 {
+        match self.0 {
             InputLimitIsExclusive if input.len() == 65_536 => b"refused 2 0\n".to_vec(),
             LastLineHasNoEnd => {
                 printed.pop();
                 printed
             }
             _ => printed,
-        })
+        }
     }
 }
 
@@ -449,9 +425,20 @@ fn mismatch(fault: Fault) -> Box<Mismatch> {
 
 #[test]
 fn every_fault_is_found() {
-    for fault in ALL {
+    for &fault in ALL {
         println!("{fault:?}: {}", mismatch(fault));
     }
+}
+
+/// A fault of the printing program is found by the inputs that are put to it.
+#[test]
+fn a_fault_of_the_printing_program_is_found() {
+    for fault in [InputLimitIsExclusive, LastLineHasNoEnd] {
+        let compared = compare_program(|input| Faulty(fault).print(input), 3, 40_000);
+        println!("{fault:?}: {}", compared.expect_err("a fault is found"));
+    }
+    let compared = compare_program(paper::print, 3, 1_000);
+    assert_eq!(compared.expect("there is no fault"), 20);
 }
 
 /// A slip in the expansion shows on a few cells, however large the plan was

@@ -2,7 +2,7 @@
 //! program and of the proved library, and both leave the same lent memory.
 #![cfg(proved)]
 
-use manopluea_compare::calls::{Calls, Plan, Reply, Stand};
+use manopluea_compare::calls::{Calls, DoorChange, Plan, Reply, Stand};
 use manopluea_compare::examples::{all, plan_q};
 use manopluea_compare::paper::{encode, Paper, WALL};
 use manopluea_compare::proved::{list_on_stack, Proved};
@@ -581,21 +581,11 @@ fn rows(plan: &Plan, setting: u64, stand: Stand) -> Vec<u16> {
 }
 
 /// The change's reply and table; a refusal leaves the table as it was.
-fn change(
-    plan: &Plan,
-    setting: u64,
-    stand: Stand,
-    given: &[u16],
-    door: usize,
-    shut: bool,
-) -> (Reply, Vec<u16>) {
+fn change(plan: &Plan, asked: DoorChange<'_>) -> (Reply, Vec<u16>) {
     let before = vec![u16::from(FILL); 3 * plan.corners.len() / 2];
     let (reply, table) = both(|calls| {
         let mut table = before.clone();
-        let reply = calls
-            .change(plan.lists(), setting, stand, given, door, shut, &mut table)
-            .expect("both have the change");
-        (reply, table)
+        (calls.change(plan.lists(), asked, &mut table), table)
     });
     if reply.number != 0 {
         assert_eq!(table, before, "a refusal wrote");
@@ -606,8 +596,14 @@ fn change(
 /// Changes a door from the true list and compares with a fresh listing.
 fn toggle(plan: &Plan, setting: u64, stand: Stand, door: usize) -> Vec<u16> {
     let bit = 1 << door;
-    let given = rows(plan, setting, stand);
-    let changed = change(plan, setting, stand, &given, door, setting & bit == 0);
+    let asked = DoorChange {
+        setting,
+        stand,
+        given: &rows(plan, setting, stand),
+        door,
+        shut: setting & bit == 0,
+    };
+    let changed = change(plan, asked);
     let fresh = list(plan, setting ^ bit, stand, changed.1.len());
     assert_eq!(changed, fresh, "door {door} of setting {setting:b}");
     rows(plan, setting ^ bit, stand)
@@ -670,8 +666,16 @@ fn sixty_four_doors_one_after_another() {
 fn changes_that_are_refused() {
     let (plan, stand) = (hall(), Stand::Point(0.0, 5.0));
     let truth = rows(&plan, 0, stand);
+    let shutting = DoorChange {
+        setting: 0,
+        stand,
+        given: &truth,
+        door: 0,
+        shut: true,
+    };
     let untrue = |given: &[u16]| {
-        assert_eq!(change(&plan, 0, stand, given, 0, true).0, refused(13, 0));
+        let asked = DoorChange { given, ..shutting };
+        assert_eq!(change(&plan, asked).0, refused(13, 0));
     };
     for place in 0..truth.len() {
         for number in [truth[place].wrapping_sub(1), truth[place] + 1] {
@@ -689,14 +693,23 @@ fn changes_that_are_refused() {
     untrue(&rows(&plan, 1, stand));
     // Reply 12 comes before 13.
     for (setting, door, shut) in [(0, 3, true), (0, 64, false), (0, 0, false), (1, 0, true)] {
-        assert_eq!(
-            change(&plan, setting, stand, &[], door, shut).0,
-            refused(12, 0)
-        );
+        let asked = DoorChange {
+            setting,
+            stand,
+            given: &[],
+            door,
+            shut,
+        };
+        assert_eq!(change(&plan, asked).0, refused(12, 0));
     }
-    assert_eq!(
-        change(&plan, 0, stand, &truth, usize::MAX, true).0,
-        refused(12, 0)
-    );
-    assert_eq!(change(&plan, 8, stand, &truth, 0, true).0, refused(7, 0));
+    let no_door = DoorChange {
+        door: usize::MAX,
+        ..shutting
+    };
+    assert_eq!(change(&plan, no_door).0, refused(12, 0));
+    let no_such_bit = DoorChange {
+        setting: 8,
+        ..shutting
+    };
+    assert_eq!(change(&plan, no_such_bit).0, refused(7, 0));
 }

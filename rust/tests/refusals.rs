@@ -1,7 +1,7 @@
 //! Refusals by hand: their order, their limits, and lent memory they leave
 //! alone.
 
-use manopluea_compare::calls::{Plan, Reply, Stand};
+use manopluea_compare::calls::{DoorChange, Plan, Reply, Stand};
 use manopluea_compare::examples::plan_q;
 use manopluea_compare::generate::query_record;
 use manopluea_compare::paper::{self, WALL};
@@ -138,8 +138,14 @@ fn the_door_change_refuses_in_order() {
     let true_rows = [0, 0, 1, 1, 1, 2, 2, 2, 0];
     let mut table = [7; 12];
     let mut change = |given: &[u16], door, shut| {
-        let reply = paper::change(q.lists(), 1, BESIDE, given, door, shut, &mut table);
-        (reply, table)
+        let asked = DoorChange {
+            setting: 1,
+            stand: BESIDE,
+            given,
+            door,
+            shut,
+        };
+        (paper::change(q.lists(), asked, &mut table), table)
     };
     let untouched = [7; 12];
     assert_eq!(change(&true_rows, 1, false), (refused(12, 0), untouched));

@@ -20,6 +20,9 @@ use Rattle.sight.specs.Listing.{listed}
 use Rattle.sight.specs.declared.list.Listed.{Listed}
 use Rattle.sight.specs.declared.list.Listed.the-variants as L
 use Rattle.doors.specs.Change.{changed}
+use Rattle.printing.specs.Print.{answered}
+use Rattle.printing.specs.declared.Printed.{Printed}
+use Rattle.printing.specs.declared.Printed.the-variants as P
 
 abbrev pub five : ℕ → ℕ → ℕ → ℕ → ℕ → List ℕ
 five n p a b c = n ∷ p ∷ a ∷ b ∷ c ∷ []
@@ -42,6 +45,11 @@ found-numbers (F.Refused r) = refused r
 abbrev pub listed-numbers : Listed → List ℕ
 listed-numbers (L.Rows n k) = five 0 0 n k 0
 listed-numbers (L.Refused r) = refused r
+
+-- printing: how many bytes the lines take
+abbrev pub printed-numbers : Printed → List ℕ
+printed-numbers (P.Text n) = five 0 0 n 0 0
+printed-numbers (P.Refused r) = refused r
 
 -- ---- lent memory and reply at exit
 
@@ -87,4 +95,10 @@ unfoldable pub change-left : List ℤ → List ℕ → List ℕ → ℕ → Stan
 change-left cs ts ds w s given i b table reply = (
   left (has-five reply) table (changed cs ts ds w s given i b table .1),
   replied (has-five reply) reply (listed-numbers (changed cs ts ds w s given i b table .0)),
+)
+
+unfoldable pub print-left : List ℕ → List ℕ → List ℕ → List ℕ × List ℕ
+print-left input text reply = (
+  left (has-five reply) text (answered input text .1),
+  replied (has-five reply) reply (printed-numbers (answered input text .0)),
 )

@@ -3,8 +3,8 @@
 // include/manopluea.h has the promise of each function in words, specs/Reply.antt what each leaves as a function of the input.
 ghost use mathlib.Core.Path.{_≡_};
 ghost use Rattle.stand.specs.declared.spot.Stand.the-variants.{Point, Offset};
-ghost use Rattle.exports.specs.Reply.{check-left, read-left, write-left, find-left, list-left, change-left};
-use stand::spot::Stand;
+ghost use Rattle.exports.specs.Reply.{check-left, read-left, write-left, find-left, list-left, change-left, print-left};
+use manopluea::Stand;
 
 mod reply;
 
@@ -16,7 +16,7 @@ pub extern "C" fn manopluea_check(corners: &[i32], cells: &[u16], doors: &[u16],
     if reply.len() < 5 {
         return;
     }
-    let answer = plan::check(corners, cells, doors);
+    let answer = manopluea::check(corners, cells, doors);
     reply::put_checked(reply, answer);
 }
 
@@ -34,7 +34,7 @@ pub extern "C" fn manopluea_read(
     if reply.len() < 5 {
         return;
     }
-    let answer = planfile::read(file, corners, cells, doors);
+    let answer = manopluea::read(file, corners, cells, doors);
     reply::put_checked(reply, answer);
 }
 
@@ -52,7 +52,7 @@ pub extern "C" fn manopluea_write(
     if reply.len() < 5 {
         return;
     }
-    let answer = planfile::write(corners, cells, doors, file);
+    let answer = manopluea::write(corners, cells, doors, file);
     reply::put_checked(reply, answer);
 }
 
@@ -71,7 +71,7 @@ pub extern "C" fn manopluea_find_point(
     if reply.len() < 5 {
         return;
     }
-    let answer = stand::find::find(corners, cells, doors, Stand::Point(x, y));
+    let answer = manopluea::find(corners, cells, doors, Stand::Point(x, y));
     reply::put_found(reply, answer);
 }
 
@@ -91,7 +91,7 @@ pub extern "C" fn manopluea_find_offset(
     if reply.len() < 5 {
         return;
     }
-    let answer = stand::find::find(corners, cells, doors, Stand::Offset(corner, dx, dy));
+    let answer = manopluea::find(corners, cells, doors, Stand::Offset(corner, dx, dy));
     reply::put_found(reply, answer);
 }
 
@@ -112,7 +112,7 @@ pub extern "C" fn manopluea_list_point(
     if reply.len() < 5 {
         return;
     }
-    let answer = sight::list::list(corners, cells, doors, setting, Stand::Point(x, y), table);
+    let answer = manopluea::list(corners, cells, doors, setting, Stand::Point(x, y), table);
     reply::put_listed(reply, answer);
 }
 
@@ -134,7 +134,7 @@ pub extern "C" fn manopluea_list_offset(
     if reply.len() < 5 {
         return;
     }
-    let answer = sight::list::list(
+    let answer = manopluea::list(
         corners,
         cells,
         doors,
@@ -165,7 +165,7 @@ pub extern "C" fn manopluea_change_point(
     if reply.len() < 5 {
         return;
     }
-    let answer = doors::change(
+    let answer = manopluea::change(
         corners,
         cells,
         doors,
@@ -200,7 +200,7 @@ pub extern "C" fn manopluea_change_offset(
     if reply.len() < 5 {
         return;
     }
-    let answer = doors::change(
+    let answer = manopluea::change(
         corners,
         cells,
         doors,
@@ -212,4 +212,16 @@ pub extern "C" fn manopluea_change_offset(
         table,
     );
     reply::put_listed(reply, answer);
+}
+
+// What the printing program prints for an input; the value is how many bytes of the text it is.
+#[no_mangle]
+pub extern "C" fn manopluea_print(input: &[u8], text: &mut [u8], reply: &mut [u64])
+    ensures { λ _. ⌜ (now (text .exit), now (reply .exit)) ≡ print-left (now (input .entry)) (now (text .entry)) (now (reply .entry)) ⌝ }
+{
+    if reply.len() < 5 {
+        return;
+    }
+    let answer = printing::print(input, text);
+    reply::put_printed(reply, answer);
 }

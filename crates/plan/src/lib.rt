@@ -9,6 +9,7 @@ pub mod corner;
 mod door;
 pub mod face;
 pub mod neighbour;
+pub mod reply;
 pub mod setting;
 
 // The counts of an accepted plan; its constants are the limits of every plan.

@@ -71,40 +71,40 @@ puts-go-on {k} {ns} {l₀} {at} {l} {i} p h {n} is-n {l′} is-l =
 pub puts-end : {k : ℕ} {ns l₀ : List ℕ} {at : ℕ} {l : List ℕ} {i : ℕ} → Puts k ns l₀ at l i → length ns ≤ i → l ≡ sets l₀ at (all-bytes k ns)
 puts-end {k} {ns} {l₀} {at} {l} {i} p h = p .so-far ∙ ap (λ (ms : List ℕ). sets l₀ at (all-bytes k ms)) (take-all i ns h)
 
--- ---- a loop that stores a list from the beginning on has come to its i-th
+-- ---- a loop that stores a list from `at` on has come to its i-th
 
-pub record Fills {ℓ} {A : Type ℓ} (vs l₀ l : List A) (i : ℕ) : Type ℓ where
+pub record Fills {ℓ} {A : Type ℓ} (vs l₀ : List A) (at : ℕ) (l : List A) (i : ℕ) : Type ℓ where
   pub within : i ≤ length vs
   pub same-length : length l ≡ length l₀
-  pub so-far : l ≡ sets l₀ 0 (take i vs)
+  pub so-far : l ≡ sets l₀ at (take i vs)
 
 module _ {ℓ} {A : Type ℓ} {vs : List A} where
-  pub fills-begin : (l : List A) → Fills vs l l 0
-  fills-begin l = record { within = omega arith; same-length = refl; so-far = refl }
+  pub fills-begin : (l : List A) (at : ℕ) → Fills vs l at l 0
+  fills-begin l at = record { within = omega arith; same-length = refl; so-far = refl }
 
-  pub fills-go-on : {l₀ l : List A} {i : ℕ} → Fills vs l₀ l i → i < length vs → (d : A) {v : A} → v ≡ getD vs i d → Fills vs l₀ (set l i v) (i + 1)
-  fills-go-on {l₀} {l} {i} f h d {v} is-v =
+  pub fills-go-on : {l₀ : List A} {at : ℕ} {l : List A} {i j : ℕ} → Fills vs l₀ at l i → i < length vs → at + i ≡ j → (d : A) {v : A} → v ≡ getD vs i d → Fills vs l₀ at (set l j v) (i + 1)
+  fills-go-on {l₀} {at} {l} {i} {j} f h is-j d {v} is-v =
       let len : length (take i vs) ≡ i = length-take-le i vs (f .within) in
       record {
         within = omega arith;
-        same-length = length-set l i v ∙ f .same-length;
+        same-length = length-set l j v ∙ f .same-length;
         so-far =
-            ap₂ (λ (m : List A) (u : A). set m i u) (f .so-far) is-v
-            ∙ sets-then l₀ 0 i (take i vs) (getD vs i d ∷ []) (omega arith)
-            ∙ ap (sets l₀ 0) (sym (take-suc vs i d h) ∙ ap (λ (j : ℕ). take j vs) (sym (add-one i)));
+            ap₂ (λ (m : List A) (u : A). set m j u) (f .so-far) is-v
+            ∙ sets-then l₀ at j (take i vs) (getD vs i d ∷ []) (omega arith)
+            ∙ ap (sets l₀ at) (sym (take-suc vs i d h) ∙ ap (λ (j : ℕ). take j vs) (sym (add-one i)));
       }
 
-  pub fills-end : {l₀ l : List A} {i : ℕ} → Fills vs l₀ l i → length vs ≤ i → l ≡ sets l₀ 0 vs
-  fills-end {l₀} {l} {i} f h = f .so-far ∙ ap (sets l₀ 0) (take-all i vs h)
+  pub fills-end : {l₀ : List A} {at : ℕ} {l : List A} {i : ℕ} → Fills vs l₀ at l i → length vs ≤ i → l ≡ sets l₀ at vs
+  fills-end {l₀} {at} {l} {i} f h = f .so-far ∙ ap (sets l₀ at) (take-all i vs h)
 
 -- ---- a loop that stores the numbers of a file
 
-module _ (k : ℕ) (s : List ℕ) (at : ℕ) {l₀ l : List ℕ} {i : ℕ} (f : Fills (numbers-at k s at (length l₀)) l₀ l i) where
-  pub numbers-go-on : i < length l → {v : ℕ} → v ≡ number-at k s (at + k * i) → Fills (numbers-at k s at (length l₀)) l₀ (set l i v) (i + 1)
+module _ (k : ℕ) (s : List ℕ) (at : ℕ) {l₀ l : List ℕ} {i : ℕ} (f : Fills (numbers-at k s at (length l₀)) l₀ 0 l i) where
+  pub numbers-go-on : i < length l → {v : ℕ} → v ≡ number-at k s (at + k * i) → Fills (numbers-at k s at (length l₀)) l₀ 0 (set l i v) (i + 1)
   numbers-go-on h e =
       let same : length l ≡ length l₀ = f .same-length in
       let long : length (numbers-at k s at (length l₀)) ≡ length l₀ = length-numbers-at k s at (length l₀) in
-      fills-go-on f (omega arith) 0 (e ∙ number-listed k s at (length l₀) i (omega arith))
+      fills-go-on f (omega arith) (omega arith) 0 (e ∙ number-listed k s at (length l₀) i (omega arith))
 
   pub numbers-end : length l ≤ i → l ≡ numbers-at k s at (length l₀)
   numbers-end h =
@@ -112,15 +112,15 @@ module _ (k : ℕ) (s : List ℕ) (at : ℕ) {l₀ l : List ℕ} {i : ℕ} (f : 
       let long : length (numbers-at k s at (length l₀)) ≡ length l₀ = length-numbers-at k s at (length l₀) in
       fills-end f (omega arith) ∙ sets-all l₀ (numbers-at k s at (length l₀)) (sym long)
 
-module _ (s : List ℕ) (at : ℕ) {l₀ l : List ℤ} {i : ℕ} (f : Fills (map signed (numbers-at 4 s at (length l₀))) l₀ l i) where
+module _ (s : List ℕ) (at : ℕ) {l₀ l : List ℤ} {i : ℕ} (f : Fills (map signed (numbers-at 4 s at (length l₀))) l₀ 0 l i) where
   long : length (map signed (numbers-at 4 s at (length l₀))) ≡ length l₀
   long = length-map (numbers-at 4 s at (length l₀)) signed ∙ length-numbers-at 4 s at (length l₀)
 
-  pub corners-go-on : i < length l → {v : ℤ} → v ≡ signed (number-at 4 s (at + 4 * i)) → Fills (map signed (numbers-at 4 s at (length l₀))) l₀ (set l i v) (i + 1)
+  pub corners-go-on : i < length l → {v : ℤ} → v ≡ signed (number-at 4 s (at + 4 * i)) → Fills (map signed (numbers-at 4 s at (length l₀))) l₀ 0 (set l i v) (i + 1)
   corners-go-on h e =
       let same : length l ≡ length l₀ = f .same-length in
       let whole = long in
-      fills-go-on f (omega arith) (signed 0)
+      fills-go-on f (omega arith) (omega arith) (signed 0)
       (e ∙ ap signed (number-listed 4 s at (length l₀) i (omega arith)) ∙ sym (List·getD-map signed (numbers-at 4 s at (length l₀)) i 0))
 
   pub corners-end : length l ≤ i → l ≡ map signed (numbers-at 4 s at (length l₀))

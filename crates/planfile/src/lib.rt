@@ -10,7 +10,7 @@ use plan::Checked;
 use plan::Plan;
 use plan::Refusal;
 
-mod bytes;
+pub mod bytes;
 mod list;
 mod record;
 

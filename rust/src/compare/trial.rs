@@ -2,7 +2,7 @@
 //! their answers.
 
 use super::{Call, Tally};
-use crate::calls::{Calls, Plan, Reply};
+use crate::calls::{Calls, DoorChange, Plan, Reply};
 use crate::generate::{Given, Room, Scene};
 use crate::paper::{self, Direction, Floor, Listing, Paper, Row, View};
 use std::fmt::Debug;
@@ -61,18 +61,6 @@ impl Both<'_> {
     fn ask<T: PartialEq + Debug>(self, ask: impl Fn(&dyn Calls) -> T) -> Result<T, String> {
         same(ask(self.left), ask(self.right))
     }
-
-    /// The same for a call that an implementor may lack: nothing is compared
-    /// where one of them does.
-    fn ask_if_both<T: PartialEq + Debug>(
-        self,
-        ask: impl Fn(&dyn Calls) -> Option<T>,
-    ) -> Result<Option<T>, String> {
-        match (ask(self.left), ask(self.right)) {
-            (Some(left), Some(right)) => same(left, right).map(Some),
-            _ => Ok(None),
-        }
-    }
 }
 
 fn same<T: PartialEq + Debug>(left: T, right: T) -> Result<T, String> {
@@ -90,6 +78,11 @@ impl Trial {
             Trial::Bytes(bytes, asked) => run_bytes(bytes, asked, both, tally),
         }
     }
+}
+
+/// Whether the printing program prints what the paper program does.
+pub fn run_program(input: &[u8], program: impl Fn(&[u8]) -> Vec<u8>) -> Outcome {
+    same(text(paper::print(input)), text(program(input))).map(drop)
 }
 
 fn run_scene(scene: &Scene, asked: &Asked, both: Both<'_>, tally: &mut Tally) -> Outcome {
@@ -114,10 +107,8 @@ fn run_scene(scene: &Scene, asked: &Asked, both: Both<'_>, tally: &mut Tally) ->
         }
         Asked::Change { shut, given, table } => {
             let given = given.numbers(&true_numbers(scene));
-            let changed = both.ask_if_both(|calls| change(calls, scene, &given, *shut, *table))?;
-            if let Some((reply, _)) = changed {
-                tally.count(Call::Change, reply.number);
-            }
+            let (reply, _) = both.ask(|calls| change(calls, scene, &given, *shut, *table))?;
+            tally.count(Call::Change, reply.number);
         }
         Asked::RoundTrip => round_trip(&scene.plan, both)?,
         Asked::Demand2 { directions } => demand_2(scene, directions, both, tally)?,
@@ -134,9 +125,8 @@ fn run_bytes(bytes: &[u8], asked: &AskedOfBytes, both: Both<'_>, tally: &mut Tal
             tally.count(Call::Read, reply.number);
         }
         AskedOfBytes::Print => {
-            if let Some(printed) = both.ask_if_both(|calls| calls.print(bytes).map(text))? {
-                tally.count(Call::Print, printed_number(&printed));
-            }
+            let printed = both.ask(|calls| text(calls.print(bytes)))?;
+            tally.count(Call::Print, printed_number(&printed));
         }
     }
     Ok(())
@@ -184,18 +174,16 @@ fn change(
     given: &[u16],
     shut: bool,
     room: Room,
-) -> Option<(Reply, Vec<u16>)> {
+) -> (Reply, Vec<u16>) {
     let mut table = lent_words(room.length(table_asked(scene)));
-    let reply = calls.change(
-        scene.plan.lists(),
-        scene.setting,
-        scene.stand,
+    let asked = DoorChange {
+        setting: scene.setting,
+        stand: scene.stand,
         given,
-        scene.door,
+        door: scene.door,
         shut,
-        &mut table,
-    )?;
-    Some((reply, table))
+    };
+    (calls.change(scene.plan.lists(), asked, &mut table), table)
 }
 
 /// The length of the table a listing asks for.
@@ -319,8 +307,8 @@ fn held_once(view: &View<'_>, rows: &[Row], d: Direction) -> Outcome {
     }
 }
 
-/// The door change, where both have it, gives what a fresh listing gives, and
-/// what the paper's routes and runs give.
+/// The door change gives what a fresh listing gives, and what the paper's
+/// routes and runs give.
 fn demand_3(scene: &Scene, both: Both<'_>, tally: &mut Tally) -> Outcome {
     let Ok(before) = both.ask(|calls| listing(calls, scene, scene.setting))? else {
         return Ok(());
@@ -332,14 +320,11 @@ fn demand_3(scene: &Scene, both: Both<'_>, tally: &mut Tally) -> Outcome {
     let shut = setting >> scene.door & 1 == 1;
     let given = before.rows.as_flattened();
     let fresh = both.ask(|calls| listing(calls, scene, setting))?;
-    let changed =
-        both.ask_if_both(|calls| change(calls, scene, given, shut, Room::Exact).map(listing_of))?;
+    let changed = both.ask(|calls| listing_of(change(calls, scene, given, shut, Room::Exact)))?;
     let by_runs = change_by_runs(scene, &before, setting, shut)?;
     same(&fresh, &Ok(by_runs))?;
-    if let Some(changed) = changed {
-        same(fresh, changed).map(drop)?;
-        tally.changes += 1;
-    }
+    same(fresh, changed).map(drop)?;
+    tally.changes += 1;
     Ok(())
 }
 

@@ -1,166 +1,54 @@
 //! The functions of `include/manopluea.h` linked from the archive, with
 //! slices for pointers and lengths.
-//!
-//! A call is safe because each pointer comes with the length of its own slice,
-//! a slice's pointer is never null, and memory that is written to is borrowed
-//! as mutable, so it overlaps nothing. The functions ask nothing else.
 
-use crate::calls::{Lists, Reply, Stand};
+use crate::calls::{DoorChange, Lists, Reply, Stand};
 
-extern "C" {
-    fn manopluea_check(
-        corners: *const i32,
-        corners_length: usize,
-        cells: *const u16,
-        cells_length: usize,
-        doors: *const u16,
-        doors_length: usize,
-        reply: *mut u64,
-        reply_length: usize,
-    );
-
-    fn manopluea_read(
-        file: *const u8,
-        file_length: usize,
-        corners: *mut i32,
-        corners_length: usize,
-        cells: *mut u16,
-        cells_length: usize,
-        doors: *mut u16,
-        doors_length: usize,
-        reply: *mut u64,
-        reply_length: usize,
-    );
-
-    fn manopluea_write(
-        corners: *const i32,
-        corners_length: usize,
-        cells: *const u16,
-        cells_length: usize,
-        doors: *const u16,
-        doors_length: usize,
-        file: *mut u8,
-        file_length: usize,
-        reply: *mut u64,
-        reply_length: usize,
-    );
-
-    fn manopluea_find_point(
-        corners: *const i32,
-        corners_length: usize,
-        cells: *const u16,
-        cells_length: usize,
-        doors: *const u16,
-        doors_length: usize,
-        x: f64,
-        y: f64,
-        reply: *mut u64,
-        reply_length: usize,
-    );
-
-    fn manopluea_find_offset(
-        corners: *const i32,
-        corners_length: usize,
-        cells: *const u16,
-        cells_length: usize,
-        doors: *const u16,
-        doors_length: usize,
-        corner: u16,
-        dx: f64,
-        dy: f64,
-        reply: *mut u64,
-        reply_length: usize,
-    );
-
-    fn manopluea_list_point(
-        corners: *const i32,
-        corners_length: usize,
-        cells: *const u16,
-        cells_length: usize,
-        doors: *const u16,
-        doors_length: usize,
-        setting: u64,
-        x: f64,
-        y: f64,
-        table: *mut u16,
-        table_length: usize,
-        reply: *mut u64,
-        reply_length: usize,
-    );
-
-    fn manopluea_list_offset(
-        corners: *const i32,
-        corners_length: usize,
-        cells: *const u16,
-        cells_length: usize,
-        doors: *const u16,
-        doors_length: usize,
-        setting: u64,
-        corner: u16,
-        dx: f64,
-        dy: f64,
-        table: *mut u16,
-        table_length: usize,
-        reply: *mut u64,
-        reply_length: usize,
-    );
-
-    fn manopluea_change_point(
-        corners: *const i32,
-        corners_length: usize,
-        cells: *const u16,
-        cells_length: usize,
-        doors: *const u16,
-        doors_length: usize,
-        setting: u64,
-        x: f64,
-        y: f64,
-        given: *const u16,
-        given_length: usize,
-        door: usize,
-        shut: bool,
-        table: *mut u16,
-        table_length: usize,
-        reply: *mut u64,
-        reply_length: usize,
-    );
-
-    fn manopluea_change_offset(
-        corners: *const i32,
-        corners_length: usize,
-        cells: *const u16,
-        cells_length: usize,
-        doors: *const u16,
-        doors_length: usize,
-        setting: u64,
-        corner: u16,
-        dx: f64,
-        dy: f64,
-        given: *const u16,
-        given_length: usize,
-        door: usize,
-        shut: bool,
-        table: *mut u16,
-        table_length: usize,
-        reply: *mut u64,
-        reply_length: usize,
-    );
+/// Declares a function of the archive and calls it, from one list of typed
+/// arguments: a slice passes as its pointer and its length, `Lists` as its
+/// three slices, anything else as it is.
+///
+/// The call is safe because each pointer comes with the length of its own
+/// slice, a slice's pointer is never null, and memory that is written to is
+/// borrowed as mutable, so it overlaps nothing. The functions ask nothing else.
+macro_rules! call {
+    ($function:ident($($arguments:tt)*)) => {
+        call!(@ $function [] [] $($arguments)*)
+    };
+    (@ $function:ident [$($declared:tt)*] [$($passed:tt)*] $name:ident: Lists, $($rest:tt)*) => {
+        call!(@ $function
+            [$($declared)* _: *const i32, _: usize, _: *const u16, _: usize, _: *const u16, _: usize,]
+            [$($passed)*
+                $name.corners.as_ptr(), $name.corners.len(),
+                $name.cells.as_ptr(), $name.cells.len(),
+                $name.doors.as_ptr(), $name.doors.len(),]
+            $($rest)*)
+    };
+    (@ $function:ident [$($declared:tt)*] [$($passed:tt)*] $name:ident: &[$number:ty], $($rest:tt)*) => {
+        call!(@ $function
+            [$($declared)* _: *const $number, _: usize,]
+            [$($passed)* $name.as_ptr(), $name.len(),]
+            $($rest)*)
+    };
+    (@ $function:ident [$($declared:tt)*] [$($passed:tt)*] $name:ident: &mut [$number:ty], $($rest:tt)*) => {
+        call!(@ $function
+            [$($declared)* _: *mut $number, _: usize,]
+            [$($passed)* $name.as_mut_ptr(), $name.len(),]
+            $($rest)*)
+    };
+    (@ $function:ident [$($declared:tt)*] [$($passed:tt)*] $name:ident: $number:ty, $($rest:tt)*) => {
+        call!(@ $function [$($declared)* _: $number,] [$($passed)* $name,] $($rest)*)
+    };
+    (@ $function:ident [$($declared:tt)*] [$($passed:tt)*]) => {{
+        extern "C" {
+            fn $function($($declared)*);
+        }
+        // SAFETY: see above.
+        unsafe { $function($($passed)*) }
+    }};
 }
 
 pub fn check(lists: Lists<'_>, reply: &mut [u64]) {
-    // SAFETY: see above.
-    unsafe {
-        manopluea_check(
-            lists.corners.as_ptr(),
-            lists.corners.len(),
-            lists.cells.as_ptr(),
-            lists.cells.len(),
-            lists.doors.as_ptr(),
-            lists.doors.len(),
-            reply.as_mut_ptr(),
-            reply.len(),
-        )
-    }
+    call!(manopluea_check(lists: Lists, reply: &mut [u64],))
 }
 
 pub fn read(
@@ -170,168 +58,96 @@ pub fn read(
     doors: &mut [u16],
     reply: &mut [u64],
 ) {
-    // SAFETY: see above.
-    unsafe {
-        manopluea_read(
-            file.as_ptr(),
-            file.len(),
-            corners.as_mut_ptr(),
-            corners.len(),
-            cells.as_mut_ptr(),
-            cells.len(),
-            doors.as_mut_ptr(),
-            doors.len(),
-            reply.as_mut_ptr(),
-            reply.len(),
-        )
-    }
+    call!(manopluea_read(
+        file: &[u8],
+        corners: &mut [i32],
+        cells: &mut [u16],
+        doors: &mut [u16],
+        reply: &mut [u64],
+    ))
 }
 
 pub fn write(lists: Lists<'_>, file: &mut [u8], reply: &mut [u64]) {
-    // SAFETY: see above.
-    unsafe {
-        manopluea_write(
-            lists.corners.as_ptr(),
-            lists.corners.len(),
-            lists.cells.as_ptr(),
-            lists.cells.len(),
-            lists.doors.as_ptr(),
-            lists.doors.len(),
-            file.as_mut_ptr(),
-            file.len(),
-            reply.as_mut_ptr(),
-            reply.len(),
-        )
-    }
+    call!(manopluea_write(lists: Lists, file: &mut [u8], reply: &mut [u64],))
 }
 
 pub fn find(lists: Lists<'_>, stand: Stand, reply: &mut [u64]) {
-    // SAFETY: see above.
-    unsafe {
-        match stand {
-            Stand::Point(x, y) => manopluea_find_point(
-                lists.corners.as_ptr(),
-                lists.corners.len(),
-                lists.cells.as_ptr(),
-                lists.cells.len(),
-                lists.doors.as_ptr(),
-                lists.doors.len(),
-                x,
-                y,
-                reply.as_mut_ptr(),
-                reply.len(),
-            ),
-            Stand::Offset(corner, dx, dy) => manopluea_find_offset(
-                lists.corners.as_ptr(),
-                lists.corners.len(),
-                lists.cells.as_ptr(),
-                lists.cells.len(),
-                lists.doors.as_ptr(),
-                lists.doors.len(),
-                corner,
-                dx,
-                dy,
-                reply.as_mut_ptr(),
-                reply.len(),
-            ),
-        }
+    match stand {
+        Stand::Point(x, y) => call!(manopluea_find_point(
+            lists: Lists,
+            x: f64,
+            y: f64,
+            reply: &mut [u64],
+        )),
+        Stand::Offset(corner, dx, dy) => call!(manopluea_find_offset(
+            lists: Lists,
+            corner: u16,
+            dx: f64,
+            dy: f64,
+            reply: &mut [u64],
+        )),
     }
 }
 
 pub fn list(lists: Lists<'_>, setting: u64, stand: Stand, table: &mut [u16], reply: &mut [u64]) {
-    // SAFETY: see above.
-    unsafe {
-        match stand {
-            Stand::Point(x, y) => manopluea_list_point(
-                lists.corners.as_ptr(),
-                lists.corners.len(),
-                lists.cells.as_ptr(),
-                lists.cells.len(),
-                lists.doors.as_ptr(),
-                lists.doors.len(),
-                setting,
-                x,
-                y,
-                table.as_mut_ptr(),
-                table.len(),
-                reply.as_mut_ptr(),
-                reply.len(),
-            ),
-            Stand::Offset(corner, dx, dy) => manopluea_list_offset(
-                lists.corners.as_ptr(),
-                lists.corners.len(),
-                lists.cells.as_ptr(),
-                lists.cells.len(),
-                lists.doors.as_ptr(),
-                lists.doors.len(),
-                setting,
-                corner,
-                dx,
-                dy,
-                table.as_mut_ptr(),
-                table.len(),
-                reply.as_mut_ptr(),
-                reply.len(),
-            ),
-        }
+    match stand {
+        Stand::Point(x, y) => call!(manopluea_list_point(
+            lists: Lists,
+            setting: u64,
+            x: f64,
+            y: f64,
+            table: &mut [u16],
+            reply: &mut [u64],
+        )),
+        Stand::Offset(corner, dx, dy) => call!(manopluea_list_offset(
+            lists: Lists,
+            setting: u64,
+            corner: u16,
+            dx: f64,
+            dy: f64,
+            table: &mut [u16],
+            reply: &mut [u64],
+        )),
     }
 }
 
-#[allow(clippy::too_many_arguments)]
-pub fn change(
-    lists: Lists<'_>,
-    setting: u64,
-    stand: Stand,
-    given: &[u16],
-    door: usize,
-    shut: bool,
-    table: &mut [u16],
-    reply: &mut [u64],
-) {
-    // SAFETY: see above.
-    unsafe {
-        match stand {
-            Stand::Point(x, y) => manopluea_change_point(
-                lists.corners.as_ptr(),
-                lists.corners.len(),
-                lists.cells.as_ptr(),
-                lists.cells.len(),
-                lists.doors.as_ptr(),
-                lists.doors.len(),
-                setting,
-                x,
-                y,
-                given.as_ptr(),
-                given.len(),
-                door,
-                shut,
-                table.as_mut_ptr(),
-                table.len(),
-                reply.as_mut_ptr(),
-                reply.len(),
-            ),
-            Stand::Offset(corner, dx, dy) => manopluea_change_offset(
-                lists.corners.as_ptr(),
-                lists.corners.len(),
-                lists.cells.as_ptr(),
-                lists.cells.len(),
-                lists.doors.as_ptr(),
-                lists.doors.len(),
-                setting,
-                corner,
-                dx,
-                dy,
-                given.as_ptr(),
-                given.len(),
-                door,
-                shut,
-                table.as_mut_ptr(),
-                table.len(),
-                reply.as_mut_ptr(),
-                reply.len(),
-            ),
-        }
+pub fn change(lists: Lists<'_>, asked: DoorChange<'_>, table: &mut [u16], reply: &mut [u64]) {
+    let DoorChange {
+        setting,
+        stand,
+        given,
+        door,
+        shut,
+    } = asked;
+    match stand {
+        Stand::Point(x, y) => call!(manopluea_change_point(
+            lists: Lists,
+            setting: u64,
+            x: f64,
+            y: f64,
+            given: &[u16],
+            door: usize,
+            shut: bool,
+            table: &mut [u16],
+            reply: &mut [u64],
+        )),
+        Stand::Offset(corner, dx, dy) => call!(manopluea_change_offset(
+            lists: Lists,
+            setting: u64,
+            corner: u16,
+            dx: f64,
+            dy: f64,
+            given: &[u16],
+            door: usize,
+            shut: bool,
+            table: &mut [u16],
+            reply: &mut [u64],
+        )),
     }
+}
+
+pub fn print(input: &[u8], text: &mut [u8], reply: &mut [u64]) {
+    call!(manopluea_print(input: &[u8], text: &mut [u8], reply: &mut [u64],))
 }
 
 /// A listing on a stack of so many bytes.

@@ -2,7 +2,7 @@
 //! pointers and lengths: on a machine that the archive is not made for,
 //! `bridge/serve.c` is linked with it and runs under the kit's emulator.
 
-use crate::calls::{Lists, Reply, Stand};
+use crate::calls::{DoorChange, Lists, Reply, Stand};
 use std::io::{Read, Write};
 use std::process::{Child, ChildStdin, ChildStdout, Command, Stdio};
 use std::sync::{Mutex, PoisonError};
@@ -19,9 +19,10 @@ enum Function {
     ListOffset,
     ChangePoint,
     ChangeOffset,
+    Print,
 }
 
-/// A request: numbers, and the seven lists.
+/// A request: numbers, and the eight lists. The file of `Print` is its input.
 #[derive(Default)]
 struct Request<'a> {
     setting: u64,
@@ -37,9 +38,10 @@ struct Request<'a> {
     given: &'a [u16],
     table: &'a [u16],
     file: &'a [u8],
+    text: &'a [u8],
 }
 
-/// The seven lists after a call.
+/// The eight lists after a call.
 struct Answer {
     reply: Vec<u64>,
     corners: Vec<i32>,
@@ -48,6 +50,7 @@ struct Answer {
     given: Vec<u16>,
     table: Vec<u16>,
     file: Vec<u8>,
+    text: Vec<u8>,
 }
 
 struct Server {
@@ -83,6 +86,7 @@ impl Server {
             bytes_of(request.given, u16::to_le_bytes),
             bytes_of(request.table, u16::to_le_bytes),
             request.file.to_vec(),
+            request.text.to_vec(),
         ]
         .concat();
         let numbers = [
@@ -100,6 +104,7 @@ impl Server {
             request.given.len() as u64,
             request.table.len() as u64,
             request.file.len() as u64,
+            request.text.len() as u64,
         ];
         let mut asked = bytes_of(&numbers, u64::to_le_bytes);
         asked.extend_from_slice(&lists);
@@ -118,7 +123,8 @@ impl Server {
             doors: numbers_of(&mut rest, request.doors.len(), u16::from_le_bytes),
             given: numbers_of(&mut rest, request.given.len(), u16::from_le_bytes),
             table: numbers_of(&mut rest, request.table.len(), u16::from_le_bytes),
-            file: rest.to_vec(),
+            file: numbers_of(&mut rest, request.file.len(), u8::from_le_bytes),
+            text: rest.to_vec(),
         }
     }
 }
@@ -270,31 +276,34 @@ pub fn list(lists: Lists<'_>, setting: u64, stand: Stand, table: &mut [u16], rep
     list_by(ask, lists, setting, stand, table, reply);
 }
 
-#[allow(clippy::too_many_arguments)]
-pub fn change(
-    lists: Lists<'_>,
-    setting: u64,
-    stand: Stand,
-    given: &[u16],
-    door: usize,
-    shut: bool,
-    table: &mut [u16],
-    reply: &mut [u64],
-) {
+pub fn change(lists: Lists<'_>, asked: DoorChange<'_>, table: &mut [u16], reply: &mut [u64]) {
     let functions = [Function::ChangePoint, Function::ChangeOffset];
     let request = Request {
-        setting,
-        door,
-        shut,
-        given,
+        setting: asked.setting,
+        door: asked.door,
+        shut: asked.shut,
+        given: asked.given,
         table,
         ..of_lists(lists, reply)
     };
-    let (function, request) = with_stand(stand, functions, request);
+    let (function, request) = with_stand(asked.stand, functions, request);
     let answer = ask(function, &request);
     kept(lists, &answer);
-    assert_eq!(answer.given, given, "the given list is not lent");
+    assert_eq!(answer.given, asked.given, "the given list is not lent");
     table.copy_from_slice(&answer.table);
+    reply.copy_from_slice(&answer.reply);
+}
+
+pub fn print(input: &[u8], text: &mut [u8], reply: &mut [u64]) {
+    let request = Request {
+        file: input,
+        text,
+        reply,
+        ..Request::default()
+    };
+    let answer = ask(Function::Print, &request);
+    assert_eq!(answer.file, input, "the input is not lent");
+    text.copy_from_slice(&answer.text);
     reply.copy_from_slice(&answer.reply);
 }
 

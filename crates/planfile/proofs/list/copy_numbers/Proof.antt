@@ -9,13 +9,13 @@ use Rattle.planfile.proofs.list.copy_numbers.Statement.{statement}
 use Rattle.planfile.proofs.list.copy_numbers.Tie as tie
 
 abbrev Inv-loop : tie.InvT-loop
-Inv-loop from to₀ i₀ to i = Fills from to₀ to i
+Inv-loop from to₀ i₀ to i = Fills from to₀ 0 to i
 
 abbrev μ-loop : tie.MeasureT-loop
 μ-loop from to₀ i₀ to i = length from - i
 
 loop-holds : tie.Need-loop-holds Inv-loop μ-loop
-loop-holds c = fills-begin _
+loop-holds c = fills-begin _ 0
 
 mul-to : tie.Need-mul-to Inv-loop μ-loop
 mul-to c = search needs
@@ -36,7 +36,7 @@ loop-less : tie.Need-loop-less Inv-loop μ-loop
 loop-less c = omega arith
 
 loop-again : tie.Need-loop-again Inv-loop μ-loop
-loop-again c = fills-go-on (c .before .before .loop .inv) (c .before .loop-test .taken) 0 refl
+loop-again c = fills-go-on (c .before .before .loop .inv) (c .before .loop-test .taken) (omega arith) 0 refl
 
 same-length : tie.Need-same-length Inv-loop μ-loop
 same-length c = c .before .loop .inv .same-length

@@ -12,13 +12,13 @@ use Rattle.planfile.proofs.list.get_corners.Statement.{statement}
 use Rattle.planfile.proofs.list.get_corners.Tie as tie
 
 abbrev Inv-loop : tie.InvT-loop
-Inv-loop s at corners₀ i₀ corners i = Fills (map signed (numbers-at 4 s at (length corners₀))) corners₀ corners i
+Inv-loop s at corners₀ i₀ corners i = Fills (map signed (numbers-at 4 s at (length corners₀))) corners₀ 0 corners i
 
 abbrev μ-loop : tie.MeasureT-loop
 μ-loop s at corners₀ i₀ corners i = length corners₀ - i
 
 loop-holds : tie.Need-loop-holds Inv-loop μ-loop
-loop-holds c = fills-begin _
+loop-holds c = fills-begin _ 0
 
 mul-four : tie.Need-mul-four Inv-loop μ-loop
 mul-four c = omega arith

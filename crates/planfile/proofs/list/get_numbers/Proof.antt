@@ -9,13 +9,13 @@ use Rattle.planfile.proofs.list.get_numbers.Statement.{statement}
 use Rattle.planfile.proofs.list.get_numbers.Tie as tie
 
 abbrev Inv-loop : tie.InvT-loop
-Inv-loop s at numbers₀ i₀ numbers i = Fills (numbers-at 2 s at (length numbers₀)) numbers₀ numbers i
+Inv-loop s at numbers₀ i₀ numbers i = Fills (numbers-at 2 s at (length numbers₀)) numbers₀ 0 numbers i
 
 abbrev μ-loop : tie.MeasureT-loop
 μ-loop s at numbers₀ i₀ numbers i = length numbers₀ - i
 
 loop-holds : tie.Need-loop-holds Inv-loop μ-loop
-loop-holds c = fills-begin _
+loop-holds c = fills-begin _ 0
 
 mul-two : tie.Need-mul-two Inv-loop μ-loop
 mul-two c = omega arith

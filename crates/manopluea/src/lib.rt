@@ -1,0 +1,96 @@
+// Manopluea: the public calls, and all that a client needs to read (document 01).
+//
+// A plan is three lists of whole numbers: corners x, y, x, y, .. in millimetres; cells of three corner numbers and three neighbours (65535 is wall);
+// doors, a face number each. Face = 3·cell + side. In a door setting bit i is one while door i is shut.
+//
+// Every call takes every input and has no `requires`. Its promise is one equation: the reply, with what stands in the lent memory at exit, is a
+// definition of the input and of what stood there at entry. Where a call is refused, every lent table, list and file keeps its contents; on 0, what
+// lies beyond what was written does. `number` and `place` (crates/plan/specs/Reply.antt) give document 01's reply number and place of each refusal;
+// the lowest number that applies is the reply. docs/PROMISES.md says what determines each part, docs/THEOREMS.md what is proved of the definitions.
+ghost use mathlib.Core.Path.{_≡_};
+ghost use Rattle.plan.specs.Check.{checked};
+ghost use Rattle.planfile.specs.Calls.{written, read as Calls·read};
+ghost use Rattle.stand.specs.Find.{found};
+ghost use Rattle.sight.specs.Listing.{listed};
+ghost use Rattle.doors.specs.Change.{changed};
+pub use plan::Checked;
+pub use plan::Plan;
+pub use plan::Refusal;
+pub use sight::list::Listed;
+pub use stand::find::Found;
+pub use stand::spot::Stand;
+
+// The plan check. Accepted with the counts of corners, cells and doors; else FRAME, SIZE, CORNER, CELL, NEIGHBOUR or DOOR,
+// the lowest number that applies, at its least place.
+pub fn check(corners: &[i32], cells: &[u16], doors: &[u16]) -> Checked
+    ensures { λ r. ⌜ r ≡ checked (now (corners .entry)) (now (cells .entry)) (now (doors .entry)) ⌝ }
+{
+    plan::check(corners, cells, doors)
+}
+
+// The reader: the three lists of a plan file go into the lent lists, from their beginning. Accepted with the counts; else 1 to 6 as the check has
+// them, or ROOM where any list is shorter than its numbers.
+pub fn read(file: &[u8], corners: &mut [i32], cells: &mut [u16], doors: &mut [u16]) -> Checked
+    ensures { λ r. ⌜ (r, (now (corners .exit), (now (cells .exit), now (doors .exit)))) ≡ Calls·read (now (file .entry)) (now (corners .entry)) (now (cells .entry)) (now (doors .entry)) ⌝ }
+{
+    planfile::read(file, corners, cells, doors)
+}
+
+// The writer: the one file of three lists goes into the lent bytes, from their beginning. Accepted with the counts; else 1 to 6 as the check has
+// them, or ROOM where the bytes are shorter than the file. Reading what was written returns the lists, writing what was read the same bytes.
+pub fn write(corners: &[i32], cells: &[u16], doors: &[u16], file: &mut [u8]) -> Checked
+    ensures { λ r. ⌜ (r, now (file .exit)) ≡ written (now (corners .entry)) (now (cells .entry)) (now (doors .entry)) (now (file .entry)) ⌝ }
+{
+    planfile::write(corners, cells, doors, file)
+}
+
+// The stand's cell: the least-numbered cell that holds it strictly inside. Else 1 to 6 as the check has them, STAND where a number or corner is not
+// accepted, LINE where the stand is strictly inside no cell but on some cell's border, OUTSIDE where it is inside or on none.
+pub fn find(corners: &[i32], cells: &[u16], doors: &[u16], stand: Stand) -> Found
+    ensures { λ r. ⌜ r ≡ found (now (corners .entry)) (now (cells .entry)) (now (doors .entry)) stand ⌝ }
+{
+    stand::find::find(corners, cells, doors, stand)
+}
+
+// The listing: the walls seen from a stand under a door setting, three numbers a row (face on the side seen, right limit, left limit), in the order of
+// the triangular expansion. Replies row count and crossings; else 1 to 6, SETTING, STAND, LINE, OUTSIDE, or ROOM for a table below 3·corners numbers.
+pub fn list(
+    corners: &[i32],
+    cells: &[u16],
+    doors: &[u16],
+    setting: u64,
+    stand: Stand,
+    table: &mut [u16],
+) -> Listed
+    ensures { λ r. ⌜ (r, now (table .exit)) ≡ listed (now (corners .entry)) (now (cells .entry)) (now (doors .entry)) setting stand (now (table .entry)) ⌝ }
+{
+    sight::list::list(corners, cells, doors, setting, stand, table)
+}
+
+// The door change: from the true list under the old setting, the list and crossings with one door shut or opened. Refuses as the listing does;
+// then CHANGE where there is no such door or it is already in that state, and ROWS where the given list is not the true one.
+pub fn change(
+    corners: &[i32],
+    cells: &[u16],
+    doors: &[u16],
+    setting: u64,
+    stand: Stand,
+    given: &[u16],
+    door: usize,
+    shut: bool,
+    table: &mut [u16],
+) -> Listed
+    ensures { λ r. ⌜ (r, now (table .exit)) ≡ changed (now (corners .entry)) (now (cells .entry)) (now (doors .entry)) setting stand (now (given .entry)) door shut (now (table .entry)) ⌝ }
+{
+    doors::change(
+        corners,
+        cells,
+        doors,
+        setting,
+        stand,
+        given,
+        door,
+        shut,
+        table,
+    )
+}

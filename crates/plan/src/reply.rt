@@ -1,0 +1,44 @@
+// Document 01's number and place of each refusal ("Reply numbers").
+ghost use mathlib.Core.Path.{_≡_};
+ghost use Rattle.plan.specs.Reply.{number as Reply·number, place as Reply·place};
+use crate::Refusal;
+
+pub fn number(r: Refusal) -> u64
+    ensures { λ n. ⌜ n ≡ Reply·number r ⌝ }
+{
+    match r {
+        Refusal::Frame => 1,
+        Refusal::Size => 2,
+        Refusal::Corner(_) => 3,
+        Refusal::Cell(_) => 4,
+        Refusal::Neighbour(_) => 5,
+        Refusal::Door(_) => 6,
+        Refusal::Setting => 7,
+        Refusal::Stand => 8,
+        Refusal::Line => 9,
+        Refusal::Outside => 10,
+        Refusal::Room => 11,
+        Refusal::Change => 12,
+        Refusal::Rows => 13,
+    }
+}
+
+pub fn place(r: Refusal) -> u64
+    ensures { λ n. ⌜ n ≡ Reply·place r ⌝ }
+{
+    match r {
+        Refusal::Frame => 0,
+        Refusal::Size => 0,
+        Refusal::Corner(i) => i as u64,
+        Refusal::Cell(c) => c as u64,
+        Refusal::Neighbour(f) => f as u64,
+        Refusal::Door(i) => i as u64,
+        Refusal::Setting => 0,
+        Refusal::Stand => 0,
+        Refusal::Line => 0,
+        Refusal::Outside => 0,
+        Refusal::Room => 0,
+        Refusal::Change => 0,
+        Refusal::Rows => 0,
+    }
+}

@@ -1,0 +1,6 @@
+pub mod Decimals
+pub mod Texts
+pub mod Rows
+pub mod Files
+pub mod Listings
+pub mod Answers

@@ -1,0 +1,47 @@
+-- How much a listing prints: it has no more rows than the largest plan has corners, and they stand within the table.
+use mathlib.Core.Bool.{Bool, true, false}
+use mathlib.Core.List.{List}
+use mathlib.Core.Path.{_≡_, refl, sym, ap, _∙_}
+use Prim.Native.Nat.{ℕ, _*_, _≤_}
+use native.Mathlib.Omega.{arith}
+use lib.ListN.{length}
+use lib.IntN.{ℤ}
+use Rattle.plan.specs.Limits.{most-corners}
+use Rattle.plan.specs.declared.Refusal.the-variants as R
+use Rattle.plan.proofs.Plans.{counts}
+use Rattle.planfile.specs.File.{framed, corners-in, cells-in, doors-in}
+use Rattle.stand.specs.declared.spot.Stand.{Stand}
+use Rattle.stand.proofs.Located.{found-cell-holds-the-stand}
+use Rattle.sight.specs.Listing.{viewed, listing-row-count, listed-from, listed}
+use Rattle.sight.specs.declared.view.View.{View}
+use Rattle.sight.specs.declared.view.View.the-variants as O
+use Rattle.sight.specs.declared.list.Listed.{Listed}
+use Rattle.sight.specs.declared.list.Listed.the-variants as L
+use Rattle.sight.proofs.Sightings.{rows-never-outnumber-corners}
+use Rattle.sight.proofs.Views.{view-says}
+use Rattle.printing.specs.Print.{file-listed}
+use Rattle.printing.proofs.Files.{framed-is-listed, unframed-is-refused}
+
+pub few-rows : (cs : List ℤ) (ts ds : List ℕ) (w : ℕ) (s : Stand) (table : List ℕ) {n k : ℕ} → listed cs ts ds w s table .0 ≡ L.Rows n k → (n ≤ most-corners) × (3 * n ≤ length table)
+unfolding listed
+few-rows cs ts ds w s table {n} {k} e = by-view (viewed cs ts ds w s (length table)) refl e
+  where
+    by-view : (v : View) → viewed cs ts ds w s (length table) ≡ v → listed-from cs ts ds w table v .0 ≡ L.Rows n k → (n ≤ most-corners) × (3 * n ≤ length table)
+    by-view (O.From x y c) h p =
+        let says = view-says cs ts ds w s (length table) h in
+        let most = rows-never-outnumber-corners (says .sound) w (record { x = x; y = y }) c (found-cell-holds-the-stand cs ts (record { x = x; y = y }) (says .stand-cell)) in
+        let size = counts _ _ _ (says .sound .in-size) in
+        let same : listing-row-count cs ts ds w (record { x = x; y = y }) c ≡ n = cc in
+        (omega (arith, size .corners-at-most), omega (arith, says .has-room))
+    by-view (O.Refused r) h p = let z : _≡_ {A = ℕ} 0 1 = cc in absurd (omega arith)
+
+-- and so it is for a plan file
+pub few-rows-of-a-file : (file : List ℕ) (w : ℕ) (s : Stand) (table : List ℕ) {n k : ℕ} → file-listed file w s table .0 ≡ L.Rows n k → (n ≤ most-corners) × (3 * n ≤ length table)
+few-rows-of-a-file file w s table {n} {k} e = by-frame (framed file) refl
+  where
+    by-frame : (b : Bool) → framed file ≡ b → (n ≤ most-corners) × (3 * n ≤ length table)
+    by-frame true fr = few-rows (corners-in file) (cells-in file) (doors-in file) w s table (sym (ap (λ (q : Listed × List ℕ). q .0) (framed-is-listed file w s table fr)) ∙ e)
+    by-frame false fr =
+        let none : L.Refused R.Frame ≡ L.Rows n k = sym (ap (λ (q : Listed × List ℕ). q .0) (unframed-is-refused file w s table fr)) ∙ e in
+        let z : _≡_ {A = ℕ} 0 1 = cc in
+        absurd (omega arith)

@@ -1,0 +1,10 @@
+#!/usr/bin/env bash
+# The speed of the proved library, of the second program and of plain Rust, all in one program made for this machine.
+# docs/BENCHMARKS.md says how to read what it prints.
+set -eu
+cd "$(dirname "$0")/.."
+. rust/proved.sh
+make_native >&2
+cd rust
+# A folder of its own, so that the comparison's build is left as it is.
+MANOPLUEA_ARCHIVE=../$native_archive cargo run --quiet --release --jobs 1 --target-dir target/native -- bench
