@@ -17,6 +17,7 @@ pub mod Twice
 pub mod Views
 pub mod CellTree
 pub mod Marks
+pub mod Facing
 pub mod Lined
 pub mod Lister
 pub mod Cases

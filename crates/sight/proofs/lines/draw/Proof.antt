@@ -1,77 +1,126 @@
 -- `sight::lines::draw` meets its contract.
-use mathlib.Core.Path.{refl}
-use Prim.Native.Nat.{_≤_, _-_}
+use Prim.Native.Nat.{_+_, _*_, _≤_, _-_}
 use native.Mathlib.Omega.{arith}
-use lib.ListN.{length-set}
-use Rattle.plan.specs.Lists.{start}
-use Rattle.sight.proofs.Marks.{Drawn, drawn-begins, drawn-goes-on, drawn-ends}
-use borrow.Author.Needs.{needs}
+use Rattle.plan.proofs.Faces.{after-first, after-second, after-third}
+use Rattle.sight.proofs.Marks.{Drawn, drawn-begins, drawn-ends}
+use Rattle.sight.proofs.Facing.{wall-or-cell, drawn-side}
 use Rattle.sight.proofs.lines.draw.Statement.{statement}
 use Rattle.sight.proofs.lines.draw.Tie as tie
 
 abbrev Inv-loop : tie.InvT-loop
-Inv-loop cells lines₀ n f₀ lines f = (f ≤ n) × Drawn cells f lines
+Inv-loop cells lines₀ m c₀ lines c = (c ≤ m) × Drawn cells (3 * c) lines
 
 abbrev μ-loop : tie.MeasureT-loop
-μ-loop cells lines₀ n f₀ lines f = n - f
-
-mul-n : tie.Need-mul-n Inv-loop μ-loop
-mul-n c = omega arith
+μ-loop cells lines₀ m c₀ lines c = m - c
 
 loop-holds : tie.Need-loop-holds Inv-loop μ-loop
 loop-holds c = (omega arith, drawn-begins (c .before .before .pre .1 .1))
 
-mul-lines : tie.Need-mul-lines Inv-loop μ-loop
-mul-lines c = omega arith
+mul-at : tie.Need-mul-at Inv-loop μ-loop
+mul-at c = omega arith
 
-add-lines : tie.Need-add-lines Inv-loop μ-loop
-add-lines c = omega arith
+mul-f : tie.Need-mul-f Inv-loop μ-loop
+mul-f c = omega arith
 
-mul-lines-2 : tie.Need-mul-lines-2 Inv-loop μ-loop
-mul-lines-2 c = omega arith
+mul-first : tie.Need-mul-first Inv-loop μ-loop
+mul-first c = omega arith
 
-shared-slice-read-lines : tie.Need-shared-slice-read-lines Inv-loop μ-loop
-shared-slice-read-lines c = omega arith
+shared-slice-read-first : tie.Need-shared-slice-read-first Inv-loop μ-loop
+shared-slice-read-first c = omega arith
 
-mul-lines-3 : tie.Need-mul-lines-3 Inv-loop μ-loop
-mul-lines-3 c = omega arith
+add-second : tie.Need-add-second Inv-loop μ-loop
+add-second c = omega arith
 
-mul-lines-4 : tie.Need-mul-lines-4 Inv-loop μ-loop
-mul-lines-4 c = omega arith
+mul-second : tie.Need-mul-second Inv-loop μ-loop
+mul-second c = omega arith
 
-slice-write-lines : tie.Need-slice-write-lines Inv-loop μ-loop
-slice-write-lines c = omega (arith, c .before .before .loop .inv .1 .whole)
+shared-slice-read-second : tie.Need-shared-slice-read-second Inv-loop μ-loop
+shared-slice-read-second c = omega arith
 
-across-requires : tie.Need-across-requires Inv-loop μ-loop
-across-requires c κs = search needs
+add-third : tie.Need-add-third Inv-loop μ-loop
+add-third c = omega arith
 
-mul-lines-5 : tie.Need-mul-lines-5 Inv-loop μ-loop
-mul-lines-5 c = omega arith
+mul-third : tie.Need-mul-third Inv-loop μ-loop
+mul-third c = omega arith
 
-add-lines-2 : tie.Need-add-lines-2 Inv-loop μ-loop
-add-lines-2 c = omega arith
+shared-slice-read-third : tie.Need-shared-slice-read-third Inv-loop μ-loop
+shared-slice-read-third c = omega arith
 
-mul-lines-6 : tie.Need-mul-lines-6 Inv-loop μ-loop
-mul-lines-6 c = omega arith
+add-draw-side : tie.Need-add-draw-side Inv-loop μ-loop
+add-draw-side c = omega arith
 
-slice-write-lines-2 : tie.Need-slice-write-lines-2 Inv-loop μ-loop
-slice-write-lines-2 c = simp length-set (omega (arith, c .before .before .before .loop .inv .1 .whole))
+mul-draw-side : tie.Need-mul-draw-side Inv-loop μ-loop
+mul-draw-side c = omega arith
 
-add-f : tie.Need-add-f Inv-loop μ-loop
-add-f c = omega arith
+shared-slice-read-draw-side : tie.Need-shared-slice-read-draw-side Inv-loop μ-loop
+shared-slice-read-draw-side c = omega arith
+
+draw-side-requires : tie.Need-draw-side-requires Inv-loop μ-loop
+draw-side-requires c κs =
+    let s = c .before .before .before .before .before .before .before .before .before in
+    let l = c .before .before .before .before .before .before .loop in
+    let h = c .before .before .before .before .before .loop-test .taken in
+    (s .pre .1 .0, (wall-or-cell (3 * l .c) (6 * l .c + 3) (omega arith) (omega arith) (s .pre .0 .0), omega (arith, l .inv .1 .whole)))
+
+add-draw-side-2 : tie.Need-add-draw-side-2 Inv-loop μ-loop
+add-draw-side-2 c = omega arith
+
+add-draw-side-3 : tie.Need-add-draw-side-3 Inv-loop μ-loop
+add-draw-side-3 c = omega arith
+
+mul-draw-side-2 : tie.Need-mul-draw-side-2 Inv-loop μ-loop
+mul-draw-side-2 c = omega arith
+
+shared-slice-read-draw-side-2 : tie.Need-shared-slice-read-draw-side-2 Inv-loop μ-loop
+shared-slice-read-draw-side-2 c = omega arith
+
+draw-side-requires-2 : tie.Need-draw-side-requires-2 Inv-loop μ-loop
+draw-side-requires-2 c κs =
+    let s = c .before .before .before .before .before .before .before .before .before .before .before .before .before .before in
+    let l = c .before .before .before .before .before .before .before .before .before .before .before .loop in
+    let h = c .before .before .before .before .before .before .before .before .before .before .loop-test .taken in
+    (s .pre .1 .0, (wall-or-cell (3 * l .c + 1) (6 * l .c + 4) (omega arith) (omega arith) (s .pre .0 .0), omega (arith, l .inv .1 .whole, c .before .before .before .before .draw-side .kept .1 .0)))
+
+add-draw-side-4 : tie.Need-add-draw-side-4 Inv-loop μ-loop
+add-draw-side-4 c = omega arith
+
+add-draw-side-5 : tie.Need-add-draw-side-5 Inv-loop μ-loop
+add-draw-side-5 c = omega arith
+
+mul-draw-side-3 : tie.Need-mul-draw-side-3 Inv-loop μ-loop
+mul-draw-side-3 c = omega arith
+
+shared-slice-read-draw-side-3 : tie.Need-shared-slice-read-draw-side-3 Inv-loop μ-loop
+shared-slice-read-draw-side-3 c = omega arith
+
+draw-side-requires-3 : tie.Need-draw-side-requires-3 Inv-loop μ-loop
+draw-side-requires-3 c κs =
+    let s = c .before .before .before .before .before .before .before .before .before .before .before .before .before .before .before .before .before .before .before in
+    let l = c .before .before .before .before .before .before .before .before .before .before .before .before .before .before .before .before .loop in
+    let h = c .before .before .before .before .before .before .before .before .before .before .before .before .before .before .before .loop-test .taken in
+    (s .pre .1 .0, (wall-or-cell (3 * l .c + 2) (6 * l .c + 5) (omega arith) (omega arith) (s .pre .0 .0), omega (arith, l .inv .1 .whole, c .before .before .before .before .before .before .before .before .before .draw-side .kept .1 .0, c .before .before .before .before .draw-side2 .kept .1 .0)))
+
+add-c : tie.Need-add-c Inv-loop μ-loop
+add-c c = omega arith
 
 loop-less : tie.Need-loop-less Inv-loop μ-loop
 loop-less c = omega arith
 
 loop-again : tie.Need-loop-again Inv-loop μ-loop
-unfolding start
-loop-again c = (omega arith, drawn-goes-on (c .before .before .before .loop .inv .1) (c .before .before .loop-test .taken) refl (c .across .ensures))
+loop-again c =
+    let s = c .before .before .before .before .before .before .before .before .before .before .before .before .before .before .before .before .before .before .before .before .before .before in
+    let l = c .before .before .before .before .before .before .before .before .before .before .before .before .before .before .before .before .before .before .before .loop in
+    let h = c .before .before .before .before .before .before .before .before .before .before .before .before .before .before .before .before .before .before .loop-test .taken in
+    let first = drawn-side (3 * l .c) (6 * l .c + 3) (omega arith) (omega arith) (s .pre .0 .1) (6 * l .c) (6 * l .c + 1) (3 * l .c + 1) (omega arith) (let e = after-first (l .c) in omega arith) (omega arith) (l .inv .1) (c .before .before .before .before .before .before .before .before .before .before .before .before .draw-side .ensures) in
+    let second = drawn-side (3 * l .c + 1) (6 * l .c + 4) (omega arith) (omega arith) (s .pre .0 .1) (6 * l .c + 1) (6 * l .c + 2) (3 * l .c + 2) (omega arith) (let e = after-second (l .c) in omega arith) (omega arith) first (c .before .before .before .before .before .before .before .draw-side2 .ensures) in
+    let third = drawn-side (3 * l .c + 2) (6 * l .c + 5) (omega arith) (omega arith) (s .pre .0 .1) (6 * l .c + 2) (6 * l .c) (3 * (l .c + 1)) (omega arith) (let e = after-third (l .c) in omega arith) (omega arith) second (c .before .before .draw-side3 .ensures) in
+    (omega arith, third)
 
 same-length : tie.Need-same-length Inv-loop μ-loop
 same-length c = omega (arith, c .before .loop .inv .1 .whole)
 
 returns : tie.Need-returns Inv-loop μ-loop
-returns c = drawn-ends (c .before .loop .inv .1) (c .loop-test .left)
+returns c = drawn-ends (c .before .loop .inv .1) (omega (arith, c .loop-test .left))
 
 pub draw-spec : {M : Type 1} → statement M
 draw-spec =
@@ -79,21 +128,32 @@ draw-spec =
     (tie.spec
     Inv-loop
     μ-loop
-    mul-n
     loop-holds
-    mul-lines
-    add-lines
-    mul-lines-2
-    shared-slice-read-lines
-    mul-lines-3
-    mul-lines-4
-    slice-write-lines
-    across-requires
-    mul-lines-5
-    add-lines-2
-    mul-lines-6
-    slice-write-lines-2
-    add-f
+    mul-at
+    mul-f
+    mul-first
+    shared-slice-read-first
+    add-second
+    mul-second
+    shared-slice-read-second
+    add-third
+    mul-third
+    shared-slice-read-third
+    add-draw-side
+    mul-draw-side
+    shared-slice-read-draw-side
+    draw-side-requires
+    add-draw-side-2
+    add-draw-side-3
+    mul-draw-side-2
+    shared-slice-read-draw-side-2
+    draw-side-requires-2
+    add-draw-side-4
+    add-draw-side-5
+    mul-draw-side-3
+    shared-slice-read-draw-side-3
+    draw-side-requires-3
+    add-c
     loop-less
     loop-again
     same-length

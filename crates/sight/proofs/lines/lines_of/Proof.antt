@@ -1,5 +1,6 @@
 -- `sight::lines::lines_of` meets its contract.
 use Rattle.plan.proofs.Plans.{counts}
+use Rattle.sight.proofs.Facing.{faces-across}
 use borrow.Author.Needs.{needs}
 use Rattle.sight.proofs.lines.lines_of.Statement.{statement}
 use Rattle.sight.proofs.lines.lines_of.Tie as tie
@@ -7,7 +8,7 @@ use Rattle.sight.proofs.lines.lines_of.Tie as tie
 draw-requires : tie.Need-draw-requires
 draw-requires c κs =
     let start = c .before .before .before .before in
-    (start .pre .0 .sound .neighbours, (counts _ _ _ (start .pre .0 .sound .in-size) .cells-at-most, start .pre .1))
+    ((start .pre .0 .sound .neighbours, faces-across (start .pre .0 .sound)), (counts _ _ _ (start .pre .0 .sound .in-size) .cells-at-most, start .pre .1))
 
 shut-doors-requires : tie.Need-shut-doors-requires
 shut-doors-requires c κs = search needs
