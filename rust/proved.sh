@@ -5,6 +5,9 @@ is_current() { # FILE
     [ -f "$1" ] && [ -z "$(find crates.txt crates/*/src -newer "$1" -print -quit)" ]
 }
 
+# The folder of the Rattle kit: RATTLE_HOME, or where `rt` is.
+kit_home() { echo "${RATTLE_HOME:-$(dirname "$(dirname "$(readlink -f "$(command -v rt)")")")}"; }
+
 # The archive that is shipped, for x86-64.
 shipped_archive=target/staticlib/libexports.a
 make_shipped() { is_current "$shipped_archive" || rt staticlib exports; }
@@ -22,7 +25,7 @@ make_native() {
 # The kit's compiler makes one module of the proved library and has its clang compile it for x86-64. Here it is given a clang that compiles the same
 # module, with the same words otherwise, for the machine at hand.
 build_native() {
-    kit=${RATTLE_HOME:-$(dirname "$(dirname "$(readlink -f "$(command -v rt)")")")}
+    kit=$(kit_home)
     own=$kit/on/$machine
     toolchain=$PWD/target/native/toolchain
     needs=$(sed -n 's/^exports://p' crates.txt)

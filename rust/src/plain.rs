@@ -218,10 +218,12 @@ impl Plan<'_> {
     /// Of each face, the corner at which it starts and the face on its other
     /// side, or wall where sight ends.
     fn lines(&self, setting: u64) -> Vec<[u16; 2]> {
-        let across = |face| self.across(face).map_or(WALL, |other| other as u16);
-        let mut lines: Vec<[u16; 2]> = (0..3 * self.cells.len())
-            .map(|face| [self.cells[face / 3][face % 3], across(face)])
-            .collect();
+        let mut lines = Vec::with_capacity(3 * self.cells.len());
+        for &[a, b, c, first, second, third] in self.cells {
+            lines.push([a, self.facing(first, b)]);
+            lines.push([b, self.facing(second, c)]);
+            lines.push([c, self.facing(third, a)]);
+        }
         for (door, &face) in self.doors.iter().enumerate() {
             if setting >> door & 1 == 1 {
                 let [_, other] = lines[usize::from(face)];
@@ -230,6 +232,21 @@ impl Plan<'_> {
             }
         }
         lines
+    }
+
+    /// The face of a cell that starts at a corner, or wall. A cell's corners
+    /// differ, so there is one.
+    fn facing(&self, cell: u16, corner: u16) -> u16 {
+        if cell == WALL {
+            return WALL;
+        }
+        let [_, second, third, ..] = self.cells[usize::from(cell)];
+        let side = match corner {
+            _ if corner == second => 1,
+            _ if corner == third => 2,
+            _ => 0,
+        };
+        3 * cell + side
     }
 }
 

@@ -1,7 +1,7 @@
 -- The answer, way out by way out.
 use mathlib.Core.Bool.{true, false, _&&_}
 use mathlib.Core.List.{List}
-use mathlib.Core.Path.{_≡_, refl, ap₂, _∙_}
+use mathlib.Core.Path.{_≡_, refl, sym, ap₂, _∙_}
 use Prim.Native.Nat.{ℕ, _+_, _-_, _<_, _≤_}
 use native.Mathlib.Nat.{zero-add}
 use native.Mathlib.Omega.{arith}
@@ -18,6 +18,7 @@ use Rattle.stand.specs.declared.spot.Stand.the-variants.{Point, Offset}
 use Rattle.printing.specs.Text.{refusal-line}
 use Rattle.printing.specs.Print.{most-input, most-text, begins, double-at, file-listed, blank-table, lines, printed, answered}
 use Rattle.printing.specs.Wrote.{Wrote}
+use Rattle.printing.specs.declared.Printed.{Printed}
 use Rattle.printing.specs.declared.Printed.the-variants.{Text, Refused}
 
 module _ (s text : List ℕ) where
@@ -59,3 +60,7 @@ module _ (s : List ℕ) {text new : List ℕ} {end : ℕ} where
     pub no-query : begins s 4 24 ≡ false → begins s 5 26 ≡ false → Wrote text 0 (refusal-line R.Frame) new end → Wrote text 0 (printed s) new end
     unfolding printed
     no-query a b w = rw (le-ltb _ _ h, a, b, printed) w
+
+-- the promise leaves one answer and one text
+pub print-has-one-reply : (s text : List ℕ) {p q : Printed × List ℕ} → p ≡ answered s text → q ≡ answered s text → p ≡ q
+print-has-one-reply s text h k = h ∙ sym k

@@ -4,3 +4,4 @@ pub mod Rows
 pub mod Files
 pub mod Listings
 pub mod Answers
+pub mod Examples

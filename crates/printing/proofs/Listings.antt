@@ -36,12 +36,15 @@ few-rows cs ts ds w s table {n} {k} e = by-view (viewed cs ts ds w s (length tab
     by-view (O.Refused r) h p = let z : _≡_ {A = ℕ} 0 1 = cc in absurd (omega arith)
 
 -- and so it is for a plan file
-pub few-rows-of-a-file : (file : List ℕ) (w : ℕ) (s : Stand) (table : List ℕ) {n k : ℕ} → file-listed file w s table .0 ≡ L.Rows n k → (n ≤ most-corners) × (3 * n ≤ length table)
-few-rows-of-a-file file w s table {n} {k} e = by-frame (framed file) refl
+pub few-rows-of-a-file : (file : List ℕ) (w : ℕ) (s : Stand) (table : List ℕ) {reply : Listed} {left : List ℕ} → (reply, left) ≡ file-listed file w s table → {n k : ℕ} → reply ≡ L.Rows n k → (n ≤ most-corners) × (3 * n ≤ length table)
+few-rows-of-a-file file w s table {reply} done {n} {k} e = by-frame (framed file) refl
   where
+    said : {q : Listed × List ℕ} → file-listed file w s table ≡ q → reply ≡ q .0
+    said h = ap (λ (q : Listed × List ℕ). q .0) (done ∙ h)
+
     by-frame : (b : Bool) → framed file ≡ b → (n ≤ most-corners) × (3 * n ≤ length table)
-    by-frame true fr = few-rows (corners-in file) (cells-in file) (doors-in file) w s table (sym (ap (λ (q : Listed × List ℕ). q .0) (framed-is-listed file w s table fr)) ∙ e)
+    by-frame true fr = few-rows (corners-in file) (cells-in file) (doors-in file) w s table (sym (said (framed-is-listed file w s table fr)) ∙ e)
     by-frame false fr =
-        let none : L.Refused R.Frame ≡ L.Rows n k = sym (ap (λ (q : Listed × List ℕ). q .0) (unframed-is-refused file w s table fr)) ∙ e in
+        let none : L.Refused R.Frame ≡ L.Rows n k = sym (said (unframed-is-refused file w s table fr)) ∙ e in
         let z : _≡_ {A = ℕ} 0 1 = cc in
         absurd (omega arith)

@@ -1,10 +1,6 @@
 -- `printing::print_file` meets its contract.
-use mathlib.Core.List.{List}
-use mathlib.Core.Path.{sym, ap, _∙_}
-use Prim.Native.Nat.{ℕ}
 use native.Mathlib.Omega.{arith}
 use denote.Ref.{now}
-use Rattle.sight.specs.declared.list.Listed.{Listed}
 use Rattle.printing.specs.Print.{blank-table}
 use Rattle.printing.proofs.Listings.{few-rows-of-a-file}
 use borrow.Author.Needs.{needs}
@@ -32,7 +28,7 @@ slice-aggregate-put-listing c = search needs
 put-listing-requires : tie.Need-put-listing-requires
 put-listing-requires c κs =
     let s = c .before .before .before .before .before .before .before .before .before .before in
-    let few = few-rows-of-a-file (now (s .args .file)) (s .args .setting) (s .args .stand) blank-table (sym (ap (λ (q : Listed × List ℕ). q .0) (c .before .before .before .before .before .before .list-file .ensures)) ∙ c .before .before .before .n .given .1) in
+    let few = few-rows-of-a-file (now (s .args .file)) (s .args .setting) (s .args .stand) blank-table (c .before .before .before .before .before .before .list-file .ensures) (c .before .before .before .n .given .1) in
     let kept = c .before .before .before .before .before .before .list-file .kept .1 .1 .1 .0 in
     (omega (arith, few .0, s .pre), omega (arith, few .1, kept))
 

@@ -1,0 +1,50 @@
+-- What document 01 says is printed, computed ("Printing program").
+use mathlib.Core.List.{List, [], _∷_, _++_}
+use mathlib.Core.Path.{_≡_, refl}
+use Prim.Native.Nat.{ℕ, _<_}
+use borrow.Author.Tests.{lt-ltb}
+use lib.Ieee.{ofBits}
+use lib.ListN.{length}
+use Rattle.plane.specs.Side.{side}
+use Rattle.plane.specs.Tests.{by-sides}
+use Rattle.plan.specs.Limits.{sized}
+use Rattle.plan.specs.Least.{least}
+use Rattle.plan.specs.Lists.{next, start, neighbour, answers, back}
+use Rattle.plan.specs.Check.{outside, wrong-corner, wrong-cell, wrong-neighbour, names, wrong-door, checked}
+use Rattle.plan.specs.Setting.{shut, wrong-setting, bars, ends}
+use Rattle.planfile.specs.Bytes.{number-at, numbers-at, signed}
+use Rattle.planfile.specs.File.{end-of, is-record, framed, corners-in, cells-in, doors-in}
+use Rattle.planfile.proofs.PlanQ.{file}
+use Rattle.stand.specs.Whole.{whole}
+use Rattle.stand.specs.Spot.{whole-point, stood}
+use Rattle.stand.specs.Find.{against, located}
+use Rattle.stand.specs.Bits.{bits-at}
+use Rattle.sight.specs.Sight.{follow, numbers, row-count, crossings}
+use Rattle.sight.specs.Floor.{placed}
+use Rattle.sight.specs.Listing.{viewed, listing-numbers, listing-row-count, listing-crossings, listed}
+use Rattle.printing.specs.Word.{word}
+use Rattle.printing.specs.Text.{digits, decimal, refusal-line, count-line, row-line, row-lines}
+use Rattle.printing.specs.Print.{most-input, begins, file-listed, printed}
+
+-- the query of case a: kind 4, 24 bytes, setting 0, x 6.0, y 3.0
+abbrev query : List ℕ
+query =
+    (24 ∷ 0 ∷ 0 ∷ 0 ∷ 4 ∷ 0 ∷ [])
+    ++ (0 ∷ 0 ∷ 0 ∷ 0 ∷ 0 ∷ 0 ∷ 0 ∷ 0 ∷ [])
+    ++ (0 ∷ 0 ∷ 0 ∷ 0 ∷ 0 ∷ 0 ∷ 24 ∷ 64 ∷ [])
+    ++ (0 ∷ 0 ∷ 0 ∷ 0 ∷ 0 ∷ 0 ∷ 8 ∷ 64 ∷ [])
+
+-- query (6,3), setting 0, with plan Q prints exactly
+pub case-a-is-printed : printed (query ++ file) ≡ word "rows 4 crossings 1\n0 0 1\n1 1 2\n4 2 3\n5 3 0\n"
+unfolding ofBits side by-sides sized least next start neighbour answers back outside wrong-corner wrong-cell wrong-neighbour names wrong-door checked shut wrong-setting bars ends whole whole-point stood against located follow numbers row-count crossings placed viewed listing-numbers listing-row-count listing-crossings listed number-at numbers-at signed end-of is-record framed corners-in cells-in doors-in bits-at digits decimal refusal-line count-line row-line row-lines begins file-listed printed
+case-a-is-printed = refl
+
+-- a missing query
+pub nothing-asked : printed [] ≡ word "refused 1 0\n"
+unfolding number-at digits decimal refusal-line begins printed
+nothing-asked = refl
+
+-- input over 65,536 bytes, before all else
+pub longer-is-refused-first : (s : List ℕ) → most-input < length s → printed s ≡ word "refused 2 0\n"
+unfolding digits decimal refusal-line printed
+longer-is-refused-first s h = rw (lt-ltb _ _ h, printed) refl
