@@ -84,7 +84,7 @@ pub fn change(lists: Lists<'_>, asked: DoorChange<'_>, table: &mut [u16]) -> Rep
 }
 
 /// What is given back on 0: up to three values.
-type Values = [u64; 3];
+pub(crate) type Values = [u64; 3];
 
 fn read_checked(
     file: &[u8],
@@ -185,7 +185,7 @@ fn counts(lists: Lists<'_>) -> Values {
     ]
 }
 
-fn reply(result: Result<Values, Refusal>) -> Reply {
+pub(crate) fn reply(result: Result<Values, Refusal>) -> Reply {
     match result {
         Ok(values) => Reply {
             number: 0,

@@ -306,18 +306,7 @@ mod tests {
     use super::*;
     use crate::calls::Reply;
     use crate::generate::{self, Case};
-    use crate::paper;
-
-    fn reply(result: Result<[u64; 3], Refusal>) -> Reply {
-        match result {
-            Ok(values) => Reply {
-                number: 0,
-                place: 0,
-                values,
-            },
-            Err(refusal) => refusal.reply(),
-        }
-    }
+    use crate::paper::{self, reply};
 
     fn counts(result: Result<Counts, Refusal>) -> Reply {
         reply(result.map(|counts| [counts.rows as u64, counts.crossings, 0]))
