@@ -20,4 +20,3 @@ pub mod Examples
 pub mod Fresh
 pub mod Changes
 pub mod Changed
-pub mod ChangesOfQ

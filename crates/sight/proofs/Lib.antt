@@ -20,6 +20,4 @@ pub mod Marks
 pub mod Facing
 pub mod Lined
 pub mod Lister
-pub mod Cases
 pub mod Written
-pub mod ShutOut

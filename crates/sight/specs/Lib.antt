@@ -5,5 +5,4 @@ pub mod Apex
 pub mod Once
 pub mod Listing
 pub mod Lined
-pub mod Cases
 pub mod Written

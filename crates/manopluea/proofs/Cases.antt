@@ -12,10 +12,10 @@ use Rattle.plan.specs.Setting.{shut, wrong-setting, bars, ends}
 use Rattle.stand.specs.Whole.{whole}
 use Rattle.stand.specs.Spot.{whole-point, stood}
 use Rattle.stand.specs.Find.{against, located}
 use Rattle.sight.specs.Sight.{follow, numbers, row-count, crossings}
 use Rattle.sight.specs.Floor.{placed}
 use Rattle.sight.specs.Listing.{viewed, listing-numbers, listing-row-count, listing-crossings, listed}
-use Rattle.sight.specs.Cases.{cases, computed, stated}
+use Rattle.manopluea.specs.Cases.{cases, computed, stated}
 
 pub the-twelve-cases : map computed cases ≡ map stated cases
 unfolding ofBits side by-sides sized least next start neighbour answers back outside wrong-corner wrong-cell wrong-neighbour names wrong-door checked shut wrong-setting bars ends whole whole-point stood against located follow numbers row-count crossings placed viewed listing-numbers listing-row-count listing-crossings listed

@@ -19,9 +19,9 @@ use Rattle.stand.specs.declared.spot.Stand.the-variants.{Point}
 use Rattle.sight.specs.Sight.{follow, numbers, row-count, crossings}
 use Rattle.sight.specs.Floor.{placed}
 use Rattle.sight.specs.Listing.{viewed, listing-numbers, listing-row-count, listing-crossings}
-use Rattle.sight.specs.Cases.{corners-of-Q, cells-of-Q, doors-of-Q, six, three, old, untouched}
 use Rattle.sight.specs.declared.list.Listed.the-variants.{Rows, Refused}
 use Rattle.doors.specs.Change.{same-list, no-change, changed}
+use Rattle.manopluea.specs.Cases.{corners-of-Q, cells-of-Q, doors-of-Q, six, three, old, untouched}
 
 -- the list of case a, door open, and of case b, door shut
 abbrev list-a : List ℕ
