@@ -8,5 +8,5 @@ cd "$(dirname "$0")/.."
 make_shipped
 make_program
 cd rust
-cargo test --quiet --release --jobs 1 --lib --test named --test printed
-cargo run --quiet --release --jobs 1 -- compare "${1:-1}" "${2:-20000}"
+cargo test --quiet --release --lib --test named --test printed
+cargo run --quiet --release -- compare "${1:-1}" "${2:-20000}"

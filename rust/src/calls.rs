@@ -64,6 +64,85 @@ pub struct Reply {
     pub values: [u64; 3],
 }
 
+/// A refusal, with its place where it has one.
+#[derive(Clone, Copy, Debug, PartialEq, Eq)]
+pub enum Refusal {
+    Frame,
+    Size,
+    Corner(usize),
+    Cell(usize),
+    Neighbour(usize),
+    Door(usize),
+    Setting,
+    Stand,
+    Line,
+    Outside,
+    Room,
+    Change,
+    Rows,
+}
+
+impl Refusal {
+    pub fn reply(self) -> Reply {
+        let (number, place) = match self {
+            Refusal::Frame => (1, 0),
+            Refusal::Size => (2, 0),
+            Refusal::Corner(corner) => (3, corner),
+            Refusal::Cell(cell) => (4, cell),
+            Refusal::Neighbour(face) => (5, face),
+            Refusal::Door(door) => (6, door),
+            Refusal::Setting => (7, 0),
+            Refusal::Stand => (8, 0),
+            Refusal::Line => (9, 0),
+            Refusal::Outside => (10, 0),
+            Refusal::Room => (11, 0),
+            Refusal::Change => (12, 0),
+            Refusal::Rows => (13, 0),
+        };
+        Reply {
+            number,
+            // Limits keep every place below 9,000.
+            place: place as u32,
+            values: [0; 3],
+        }
+    }
+
+    /// The refusal with this number and place, if the number is one of 1 to 13.
+    fn numbered(number: u32, place: usize) -> Option<Refusal> {
+        Some(match number {
+            1 => Refusal::Frame,
+            2 => Refusal::Size,
+            3 => Refusal::Corner(place),
+            4 => Refusal::Cell(place),
+            5 => Refusal::Neighbour(place),
+            6 => Refusal::Door(place),
+            7 => Refusal::Setting,
+            8 => Refusal::Stand,
+            9 => Refusal::Line,
+            10 => Refusal::Outside,
+            11 => Refusal::Room,
+            12 => Refusal::Change,
+            13 => Refusal::Rows,
+            _ => return None,
+        })
+    }
+}
+
+impl Reply {
+    /// The values of reply 0, or the refusal.
+    ///
+    /// # Panics
+    ///
+    /// Where the number is beyond 13, which no call replies.
+    pub fn answer(self) -> Result<[u64; 3], Refusal> {
+        if self.number == 0 {
+            return Ok(self.values);
+        }
+        let refusal = Refusal::numbered(self.number, self.place as usize);
+        Err(refusal.expect("a reply's number is one of 0 to 13"))
+    }
+}
+
 /// One method for each public call.
 pub trait Calls {
     fn check(&self, lists: Lists<'_>) -> Reply;

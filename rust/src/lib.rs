@@ -13,6 +13,8 @@ pub mod compare;
 pub mod examples;
 pub mod generate;
 mod kit;
+#[cfg(proved)]
+pub mod library;
 pub mod paper;
 pub mod plain;
 pub mod program;

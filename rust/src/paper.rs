@@ -13,12 +13,12 @@ mod sight;
 mod stand;
 
 pub use file::{decode, encode};
-pub use plan::{Floor, Point, Refusal, CELLS, COORDINATES, CORNERS, DOORS, WALL};
+pub use plan::{Floor, Point, CELLS, COORDINATES, CORNERS, DOORS, WALL};
 pub use printing::{print, query, MOST_INPUT};
 pub use runs::change_by_runs;
 pub use sight::{Direction, Listing, Row, View, Walk};
 
-use crate::calls::{Calls, DoorChange, Lists, Reply, Stand};
+use crate::calls::{Calls, DoorChange, Lists, Refusal, Reply, Stand};
 
 /// The paper program as an implementor of the public calls.
 pub struct Paper;

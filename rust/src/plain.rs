@@ -3,8 +3,8 @@
 //! 64 bits wide, and a pair of functions that call each other. What they cost
 //! is what the benchmarks hold the proved library to.
 
-use crate::calls::{DoorChange, Lists, Stand};
-use crate::paper::{Refusal, CELLS, COORDINATES, CORNERS, DOORS, WALL};
+use crate::calls::{DoorChange, Lists, Refusal, Stand};
+use crate::paper::{CELLS, COORDINATES, CORNERS, DOORS, WALL};
 
 /// A plan that passed the check.
 #[derive(Clone, Copy)]

@@ -2,7 +2,7 @@
 //! their answers.
 
 use super::{Call, Tally};
-use crate::calls::{Calls, DoorChange, Plan, Reply};
+use crate::calls::{Calls, DoorChange, Plan, Refusal, Reply};
 use crate::generate::{Given, Room, Scene};
 use crate::paper::{self, Direction, Floor, Listing, Paper, Row, View};
 use std::fmt::Debug;
@@ -276,7 +276,7 @@ fn demand_2(scene: &Scene, directions: &[Direction], both: Both<'_>, tally: &mut
     Ok(())
 }
 
-fn wrongly_listed(refusal: paper::Refusal) -> String {
+fn wrongly_listed(refusal: Refusal) -> String {
     format!("listed, where the paper program has {refusal:?}")
 }
 

@@ -1,7 +1,6 @@
 //! "The plan file": records, the reader's framing and the writer's bytes.
 
-use super::plan::Refusal;
-use crate::calls::{Lists, Plan};
+use crate::calls::{Lists, Plan, Refusal};
 
 /// A record's length and kind, before its body.
 const HEAD: usize = 6;

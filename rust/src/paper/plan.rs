@@ -1,7 +1,7 @@
 //! "Side value and plan check": the limits, the refusals and the check, which
 //! turns the lists into a floor.
 
-use crate::calls::{Lists, Reply};
+use crate::calls::{Lists, Refusal};
 use std::ops::RangeInclusive;
 
 pub const CORNERS: RangeInclusive<usize> = 3..=2_048;
@@ -11,50 +11,6 @@ pub const COORDINATES: RangeInclusive<i64> = -(1 << 29)..=1 << 29;
 
 /// The neighbour number, and here also the opposite face, that means wall.
 pub const WALL: u16 = u16::MAX;
-
-/// A refusal, with its place where it has one.
-#[derive(Clone, Copy, Debug, PartialEq, Eq)]
-pub enum Refusal {
-    Frame,
-    Size,
-    Corner(usize),
-    Cell(usize),
-    Neighbour(usize),
-    Door(usize),
-    Setting,
-    Stand,
-    Line,
-    Outside,
-    Room,
-    Change,
-    Rows,
-}
-
-impl Refusal {
-    pub fn reply(self) -> Reply {
-        let (number, place) = match self {
-            Refusal::Frame => (1, 0),
-            Refusal::Size => (2, 0),
-            Refusal::Corner(corner) => (3, corner),
-            Refusal::Cell(cell) => (4, cell),
-            Refusal::Neighbour(face) => (5, face),
-            Refusal::Door(door) => (6, door),
-            Refusal::Setting => (7, 0),
-            Refusal::Stand => (8, 0),
-            Refusal::Line => (9, 0),
-            Refusal::Outside => (10, 0),
-            Refusal::Room => (11, 0),
-            Refusal::Change => (12, 0),
-            Refusal::Rows => (13, 0),
-        };
-        Reply {
-            number,
-            // Limits keep every place below 9,000.
-            place: place as u32,
-            values: [0; 3],
-        }
-    }
-}
 
 /// A point of the floor in whole millimetres.
 #[derive(Clone, Copy, Debug, PartialEq, Eq)]

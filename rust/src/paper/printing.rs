@@ -1,9 +1,9 @@
 //! "Printing program".
 
 use super::file::{decode, take_record};
-use super::plan::{Floor, Refusal};
+use super::plan::Floor;
 use super::sight::{Listing, View};
-use crate::calls::Stand;
+use crate::calls::{Refusal, Stand};
 use std::fmt::Write;
 
 /// Longer input is refused by SIZE, unread.

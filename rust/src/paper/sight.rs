@@ -1,8 +1,8 @@
 //! "Expansion" and "Walk": what is seen from a stand under a setting.
 
-use super::plan::{next, product, side_value, Floor, Point, Refusal, WALL};
+use super::plan::{next, product, side_value, Floor, Point, WALL};
 use super::stand;
-use crate::calls::Stand;
+use crate::calls::{Refusal, Stand};
 
 /// Face, right limit, left limit.
 pub type Row = [u16; 3];

@@ -1,7 +1,7 @@
 //! "The stand": from doubles to whole millimetres, and to the cell.
 
-use super::plan::{next, side_value, Floor, Point, Refusal, COORDINATES};
-use crate::calls::Stand;
+use super::plan::{next, side_value, Floor, Point, COORDINATES};
+use crate::calls::{Refusal, Stand};
 
 /// The stand in whole millimetres, within the coordinate limits.
 pub fn millimetres(floor: &Floor, stand: Stand) -> Result<Point, Refusal> {

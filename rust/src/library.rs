@@ -1,0 +1,160 @@
+//! The proved library for a Rust program: slices in, an enum out.
+//!
+//! `include/manopluea.h` has the promise of each call. A refusal leaves every
+//! lent list, table and file as it was.
+
+use crate::calls::{Calls, DoorChange, Lists, Refusal, Reply, Stand};
+use crate::proved::Proved;
+
+/// How many corners, cells and doors an accepted plan has.
+#[derive(Clone, Copy, Debug, PartialEq, Eq)]
+pub struct Counts {
+    pub corners: usize,
+    pub cells: usize,
+    pub doors: usize,
+}
+
+/// How many rows stand in the table, and how many free lines were crossed.
+#[derive(Clone, Copy, Debug, PartialEq, Eq)]
+pub struct Listed {
+    pub rows: usize,
+    pub crossings: u64,
+}
+
+fn counts(reply: Reply) -> Result<Counts, Refusal> {
+    let [corners, cells, doors] = reply.answer()?.map(|count| count as usize);
+    Ok(Counts {
+        corners,
+        cells,
+        doors,
+    })
+}
+
+fn listed(reply: Reply) -> Result<Listed, Refusal> {
+    let [rows, crossings, _] = reply.answer()?;
+    Ok(Listed {
+        rows: rows as usize,
+        crossings,
+    })
+}
+
+/// The plan check.
+pub fn check(lists: Lists<'_>) -> Result<Counts, Refusal> {
+    counts(Proved.check(lists))
+}
+
+/// The reader: the lists of a plan file, from the beginning of the lent ones.
+pub fn read(
+    file: &[u8],
+    corners: &mut [i32],
+    cells: &mut [u16],
+    doors: &mut [u16],
+) -> Result<Counts, Refusal> {
+    counts(Proved.read(file, corners, cells, doors))
+}
+
+/// The writer: the one file of three lists.
+pub fn write(lists: Lists<'_>, file: &mut [u8]) -> Result<Counts, Refusal> {
+    counts(Proved.write(lists, file))
+}
+
+/// The stand's cell.
+pub fn find(lists: Lists<'_>, stand: Stand) -> Result<usize, Refusal> {
+    let [cell, ..] = Proved.find(lists, stand).answer()?;
+    Ok(cell as usize)
+}
+
+/// The listing: three numbers a row, from the beginning of the table.
+pub fn list(
+    lists: Lists<'_>,
+    setting: u64,
+    stand: Stand,
+    table: &mut [u16],
+) -> Result<Listed, Refusal> {
+    listed(Proved.list(lists, setting, stand, table))
+}
+
+/// The door change: the list with one door shut or opened.
+pub fn change(
+    lists: Lists<'_>,
+    asked: DoorChange<'_>,
+    table: &mut [u16],
+) -> Result<Listed, Refusal> {
+    listed(Proved.change(lists, asked, table))
+}
+
+#[cfg(test)]
+mod tests {
+    use super::*;
+    use crate::examples::{self, plan_q, Expected};
+
+    #[test]
+    fn the_twelve_examples_are_listed_or_refused() {
+        for example in examples::all() {
+            let lists = example.plan.lists();
+            let mut table = vec![0; 3 * (lists.corners.len() / 2)];
+            let answer = list(lists, example.setting, example.stand, &mut table);
+            let found = match answer {
+                Ok(listed) => Expected::Listed {
+                    rows: table.as_chunks().0[..listed.rows].to_vec(),
+                    crossings: listed.crossings,
+                },
+                Err(refusal) => Expected::Refused(refusal.reply().number),
+            };
+            assert_eq!(found, example.expected, "{}", example.letter);
+        }
+    }
+
+    #[test]
+    fn a_written_plan_is_read_back() {
+        let plan = plan_q();
+        let all = Counts {
+            corners: 4,
+            cells: 2,
+            doors: 1,
+        };
+        let mut file = [0; 76];
+        assert_eq!(write(plan.lists(), &mut file), Ok(all));
+        let (mut corners, mut cells, mut doors) = ([0; 8], [0; 12], [0; 1]);
+        assert_eq!(read(&file, &mut corners, &mut cells, &mut doors), Ok(all));
+        assert_eq!(
+            (&corners[..], &cells[..], &doors[..]),
+            (&plan.corners[..], &plan.cells[..], &plan.doors[..])
+        );
+        let short = &mut file[..75];
+        assert_eq!(write(plan.lists(), short), Err(Refusal::Room));
+    }
+
+    #[test]
+    fn a_refusal_has_its_place() {
+        let mut plan = plan_q();
+        assert_eq!(find(plan.lists(), Stand::Point(6.0, 3.0)), Ok(0));
+        plan.doors.push(3);
+        assert_eq!(check(plan.lists()), Err(Refusal::Door(1)));
+        plan.cells[6..9].reverse();
+        assert_eq!(check(plan.lists()), Err(Refusal::Cell(1)));
+        plan.corners[5] = 536_870_913;
+        assert_eq!(check(plan.lists()), Err(Refusal::Corner(2)));
+    }
+
+    #[test]
+    fn a_door_is_shut_from_the_true_list_only() {
+        let plan = plan_q();
+        let mut asked = DoorChange {
+            setting: 0,
+            stand: Stand::Point(6.0, 3.0),
+            given: &[0, 0, 1, 1, 1, 2, 4, 2, 3, 5, 3, 0],
+            door: 0,
+            shut: true,
+        };
+        let mut table = [7; 12];
+        let shut = Listed {
+            rows: 3,
+            crossings: 0,
+        };
+        assert_eq!(change(plan.lists(), asked, &mut table), Ok(shut));
+        assert_eq!(table, [0, 0, 1, 1, 1, 2, 2, 2, 0, 7, 7, 7]);
+        asked.given = &[0, 0, 1];
+        assert_eq!(change(plan.lists(), asked, &mut table), Err(Refusal::Rows));
+    }
+}
