@@ -23,12 +23,12 @@ use Rattle.stand.specs.declared.spot.Stand.{Stand}
 use Rattle.stand.specs.declared.find.Found.the-variants as F
 use Rattle.stand.proofs.Finds.{as-read}
 use Rattle.stand.proofs.Located.{found-cell-holds-the-stand}
-use Rattle.sight.specs.Sight.{row-count}
+use Rattle.expand.specs.Sight.{row-count}
 use Rattle.sight.specs.Listing.{viewed, listing-numbers, listing-row-count, listing-crossings, listed-from}
 use Rattle.sight.specs.declared.view.View.the-variants as O
 use Rattle.sight.specs.declared.list.Listed.{Listed}
 use Rattle.sight.specs.declared.list.Listed.the-variants as L
-use Rattle.sight.proofs.Trees.{three-numbers-a-row}
+use Rattle.expand.proofs.Trees.{three-numbers-a-row}
 use Rattle.sight.proofs.Sightings.{rows-never-outnumber-corners}
 use Rattle.sight.proofs.Views.{view-says}
 use Rattle.doors.specs.PlanFloor.{sight-from}

@@ -3,8 +3,8 @@ use mathlib.Core.Bool.{Bool, true}
 use mathlib.Core.List.{map}
 use mathlib.Core.Path.{_≡_, sym, _∙_, ap}
 use Prim.Native.Nat.{ℕ, _+_, _<_}
-use Rattle.sight.specs.Sight.{Floor, Sight, follow, numbers, crossings, Whole}
-use Rattle.sight.specs.Sight.Sight.{both}
+use Rattle.expand.specs.Sight.{Floor, Sight, follow, numbers, crossings, Whole}
+use Rattle.expand.specs.Sight.Sight.{both}
 use Rattle.sight.specs.Once.{At}
 use Rattle.doors.specs.Route.{routed, row-numbers}
 use Rattle.doors.specs.Door.{same-to-door, on-door, untouched, those}

@@ -8,8 +8,8 @@ use Rattle.plan.specs.Lists.{start, next, neighbour, answers, back}
 use Rattle.plan.specs.Least.{least}
 use Rattle.plan.specs.Check.{names}
 use Rattle.plan.specs.Setting.{shut, bars, ends}
-use Rattle.sight.specs.Sight.{follow}
-use Rattle.sight.specs.Floor.{placed}
+use Rattle.expand.specs.Sight.{follow}
+use Rattle.expand.specs.Floor.{placed}
 use Rattle.doors.specs.Route.{Routed, routed}
 use Rattle.doors.specs.Door.{is-door, crosses, side-seen, before, same-to-door}
 use Rattle.doors.specs.Shutting.{last, joined, pieces, is-run, door-row, shut-piece, shut-rows}

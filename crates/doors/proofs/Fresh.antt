@@ -4,7 +4,7 @@ use mathlib.Core.Path.{_≡_, refl}
 use Prim.Native.Nat.{ℕ}
 use lib.IntN.{ℤ}
 use Rattle.plane.specs.Side.{Point}
-use Rattle.sight.specs.Sight.{rows, numbers, crossings}
+use Rattle.expand.specs.Sight.{rows, numbers, crossings}
 use Rattle.sight.specs.Listing.{listing-rows, listing-numbers, listing-crossings}
 use Rattle.doors.specs.PlanFloor.{sight-from}
 

@@ -5,8 +5,8 @@ use mathlib.Core.Path.{_≡_, refl, sym, _∙_, ap}
 use Prim.Native.Nat.{ℕ, suc, _-_, _<_}
 use native.Mathlib.Omega.{arith}
 use lib.ListN.{length}
-use Rattle.sight.specs.Sight.{Floor, Sight, follow}
-use Rattle.sight.specs.Sight.Sight.{row}
+use Rattle.expand.specs.Sight.{Floor, Sight, follow}
+use Rattle.expand.specs.Sight.Sight.{row}
 use Rattle.doors.specs.Route.{Routed, via, routed}
 use Rattle.doors.specs.Door.{is-door, on-door}
 use Rattle.doors.specs.Opening.{behind, run-of, open-rows}

@@ -13,7 +13,7 @@ use Rattle.plan.specs.Sound.{Sound}
 use Rattle.plan.proofs.Plans.{back-starts-at-the-finish, back-finishes-at-the-start, door-exists, door-is-free}
 use Rattle.plan.proofs.Settings.{opening-opens-the-door, opening-undoes-shutting, shutting-undoes-opening}
 use Rattle.stand.proofs.Located.{InCell}
-use Rattle.sight.specs.Sight.{Sight, numbers, crossings}
+use Rattle.expand.specs.Sight.{Sight, numbers, crossings}
 use Rattle.sight.specs.Once.{At}
 use Rattle.doors.specs.Route.{Routed, routed, way, row-numbers}
 use Rattle.doors.specs.Door.{is-door, same-to-door, on-door, untouched, those}

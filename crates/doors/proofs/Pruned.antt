@@ -3,9 +3,9 @@ use mathlib.Core.Bool.{Bool, true, false}
 use mathlib.Core.Path.{_≡_, refl}
 use Prim.Native.Nat.{ℕ, _+_}
 use native.Mathlib.Omega.{arith}
-use Rattle.sight.specs.Sight.{Sight, crossings, Whole}
-use Rattle.sight.specs.Sight.Sight.{row, pass, both, cut}
-use Rattle.sight.specs.Sight.Whole.{whole-row, whole-pass, whole-both}
+use Rattle.expand.specs.Sight.{Sight, crossings, Whole}
+use Rattle.expand.specs.Sight.Sight.{row, pass, both, cut}
+use Rattle.expand.specs.Sight.Whole.{whole-row, whole-pass, whole-both}
 use Rattle.doors.specs.Door.{is-door}
 use Rattle.doors.specs.Shutting.{prune, crossings-left, crossings-lost}
 

@@ -3,8 +3,8 @@ use mathlib.Core.List.{map, map-append, map-map}
 use mathlib.Core.Path.{_≡_, refl, ap, sym, _∙_}
 use Prim.Native.Nat.{zero, _+_}
 use lib.ListN.{length}
-use Rattle.sight.specs.Sight.{Sight, rows, numbers}
-use Rattle.sight.specs.Sight.Sight.{row, pass, both, cut}
+use Rattle.expand.specs.Sight.{Sight, rows, numbers}
+use Rattle.expand.specs.Sight.Sight.{row, pass, both, cut}
 use Rattle.sight.specs.Written.{written}
 use Rattle.sight.specs.Once.{At}
 use Rattle.sight.specs.Once.At.{first}

@@ -3,8 +3,8 @@ use mathlib.Core.Bool.{Bool, true, false}
 use mathlib.Core.List.{List, [], _∷_, _++_, map, head-eq-of-cons-eq}
 use mathlib.Core.Path.{_≡_, refl, sym, _∙_, ap}
 use Prim.Native.Nat.{ℕ}
-use Rattle.sight.specs.Sight.{Sight}
-use Rattle.sight.specs.Sight.Sight.{row, pass, both}
+use Rattle.expand.specs.Sight.{Sight}
+use Rattle.expand.specs.Sight.Sight.{row, pass, both}
 use Rattle.sight.specs.Once.{At}
 use Rattle.sight.proofs.Places.{either-list}
 use Rattle.doors.specs.Route.{Routed, via, routed, way}

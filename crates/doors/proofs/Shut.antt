@@ -2,10 +2,10 @@
 use mathlib.Core.Bool.{Bool, true, false}
 use mathlib.Core.Path.{_≡_, refl, sym, _∙_, ap}
 use Prim.Native.Nat.{ℕ, zero, suc, _<_}
-use Rattle.sight.specs.Sight.{Floor, Sight, follow, Whole}
-use Rattle.sight.specs.Sight.Sight.{row, pass, both, cut}
-use Rattle.sight.specs.Sight.Whole.{whole-pass, whole-both}
-use Rattle.sight.proofs.Trees.{follow-too-far, follow-across}
+use Rattle.expand.specs.Sight.{Floor, Sight, follow, Whole}
+use Rattle.expand.specs.Sight.Sight.{row, pass, both, cut}
+use Rattle.expand.specs.Sight.Whole.{whole-pass, whole-both}
+use Rattle.expand.proofs.Trees.{follow-too-far, follow-across}
 use Rattle.doors.specs.Door.{is-door}
 use Rattle.doors.specs.Shutting.{prune}
 use Rattle.doors.specs.Floors.{ending, Shuts, Faces}

@@ -3,10 +3,10 @@ use mathlib.Core.Bool.{Bool, true, false, true≢false}
 use mathlib.Core.Logic.{_⊎_, inl, inr}
 use mathlib.Core.Path.{_≡_, refl, sym, _∙_, ap}
 use Prim.Native.Nat.{ℕ, zero, suc, _<_}
-use Rattle.sight.specs.Sight.{Floor, Place, Sight, follow, hand-on}
-use Rattle.sight.specs.Sight.Place.{between, right-of-r, left-of-l}
-use Rattle.sight.specs.Sight.Sight.{row, pass, both, cut}
-use Rattle.sight.proofs.Trees.{follow-a-wall, follow-too-far, follow-across, hand-on-both, hand-on-the-left, hand-on-the-right}
+use Rattle.expand.specs.Sight.{Floor, Place, Sight, follow, hand-on}
+use Rattle.expand.specs.Sight.Place.{between, right-of-r, left-of-l}
+use Rattle.expand.specs.Sight.Sight.{row, pass, both, cut}
+use Rattle.expand.proofs.Trees.{follow-a-wall, follow-too-far, follow-across, hand-on-both, hand-on-the-left, hand-on-the-right}
 use Rattle.doors.specs.Door.{is-door}
 use Rattle.doors.specs.Floors.{ending, Shuts, Faces}
 use Rattle.doors.proofs.Doors.{door-is-one-of-its-faces, another-is-neither-face}

@@ -11,8 +11,8 @@ use Rattle.exact.proofs.Order.{𝟘, less-is-at-most}
 use Rattle.plane.specs.Side.{Point}
 use Rattle.plane.specs.Cone.{cross}
 use Rattle.plane.proofs.Found.{left-turned-is-right}
-use Rattle.sight.specs.Sight.{Floor, Sight, follow}
-use Rattle.sight.specs.Sight.Sight.{row, pass, both, cut}
+use Rattle.expand.specs.Sight.{Floor, Sight, follow}
+use Rattle.expand.specs.Sight.Sight.{row, pass, both, cut}
 use Rattle.sight.specs.Once.{At}
 use Rattle.sight.proofs.Geometry.{Geometry}
 use Rattle.sight.proofs.Places.{at-no-place, at-the-only-place, either-list, read-is-at}

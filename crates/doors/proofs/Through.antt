@@ -3,13 +3,13 @@ use mathlib.Core.Bool.{Bool, true, false}
 use mathlib.Core.List.{List, [], _∷_, _++_, map}
 use mathlib.Core.Path.{_≡_, refl, ap}
 use Prim.Native.Nat.{ℕ, zero, suc}
-use Rattle.sight.specs.Sight.{Floor, Place, Sight, follow, hand-on, Whole}
-use Rattle.sight.specs.Sight.Place.{between, right-of-r, left-of-l}
-use Rattle.sight.specs.Sight.Sight.{row, pass, both, cut}
-use Rattle.sight.specs.Sight.Whole.{whole-pass, whole-both}
+use Rattle.expand.specs.Sight.{Floor, Place, Sight, follow, hand-on, Whole}
+use Rattle.expand.specs.Sight.Place.{between, right-of-r, left-of-l}
+use Rattle.expand.specs.Sight.Sight.{row, pass, both, cut}
+use Rattle.expand.specs.Sight.Whole.{whole-pass, whole-both}
 use Rattle.sight.specs.Once.{At}
 use Rattle.sight.proofs.Places.{at-the-only-place, either-list}
-use Rattle.sight.proofs.Trees.{follow-a-wall, follow-too-far, follow-across, hand-on-both, hand-on-the-left, hand-on-the-right}
+use Rattle.expand.proofs.Trees.{follow-a-wall, follow-too-far, follow-across, hand-on-both, hand-on-the-left, hand-on-the-right}
 use Rattle.doors.specs.Route.{Routed, via, routed, way}
 use Rattle.doors.specs.Shutting.{last}
 use Rattle.doors.proofs.Lists.{at-mapped}

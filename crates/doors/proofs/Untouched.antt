@@ -3,8 +3,8 @@ use mathlib.Core.Bool.{Bool, true, false}
 use mathlib.Core.List.{List, [], map}
 use mathlib.Core.Path.{_≡_, refl, sym, _∙_, ap}
 use Prim.Native.Nat.{ℕ}
-use Rattle.sight.specs.Sight.{Sight}
-use Rattle.sight.specs.Sight.Sight.{row, pass, both, cut}
+use Rattle.expand.specs.Sight.{Sight}
+use Rattle.expand.specs.Sight.Sight.{row, pass, both, cut}
 use Rattle.doors.specs.Route.{Routed, via, routed}
 use Rattle.doors.specs.Door.{is-door, crosses, on-door, untouched, those}
 use Rattle.doors.specs.Shutting.{prune}

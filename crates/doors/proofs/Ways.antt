@@ -3,7 +3,7 @@ use mathlib.Core.Bool.{Bool, true, false}
 use mathlib.Core.List.{List, [], _∷_, _++_, map, head-eq-of-cons-eq, tail-eq-of-cons-eq}
 use mathlib.Core.Path.{_≡_, refl, sym, _∙_, ap}
 use Prim.Native.Nat.{ℕ, zero, suc}
-use Rattle.sight.specs.Sight.{Sight}
+use Rattle.expand.specs.Sight.{Sight}
 use Rattle.sight.specs.Once.{At}
 use Rattle.sight.specs.Once.At.{first, later}
 use Rattle.sight.proofs.Places.{at-no-place, either-list}

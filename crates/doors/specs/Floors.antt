@@ -3,8 +3,8 @@
 use mathlib.Core.Bool.{Bool, true, false}
 use mathlib.Core.Path.{_≡_}
 use Prim.Native.Nat.{ℕ, _<_}
-use Rattle.sight.specs.Sight.{Floor, Sight, follow}
-use Rattle.sight.specs.Sight.Sight.{both}
+use Rattle.expand.specs.Sight.{Floor, Sight, follow}
+use Rattle.expand.specs.Sight.Sight.{both}
 
 -- the same floor, where sight ends at other faces
 abbrev pub ending : Floor → (ℕ → Bool) → Floor

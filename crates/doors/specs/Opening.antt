@@ -3,7 +3,7 @@ use mathlib.Core.Bool.{true, false}
 use mathlib.Core.List.{List, [], _∷_, _++_, map}
 use Prim.Native.Nat.{ℕ, _-_}
 use lib.ListN.{length}
-use Rattle.sight.specs.Sight.{Floor, follow}
+use Rattle.expand.specs.Sight.{Floor, follow}
 use Rattle.doors.specs.Route.{Routed, routed}
 use Rattle.doors.specs.Door.{on-door}
 

@@ -4,7 +4,7 @@ use Prim.Native.Nat.{ℕ, _+_, _*_, _-_}
 use lib.IntN.{ℤ}
 use Rattle.plane.specs.Side.{Point}
 use Rattle.plan.specs.Lists.{cell-count, start}
-use Rattle.sight.specs.Sight.{Sight}
+use Rattle.expand.specs.Sight.{Sight}
 use Rattle.sight.specs.Listing as Listing
 use Rattle.doors.specs.Floors.{from-cell}
 pub use Rattle.sight.specs.Listing.{plan-floor, seen, finish}

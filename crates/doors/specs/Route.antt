@@ -1,8 +1,8 @@
 -- Rows with their routes (document 01, "Changing a door").
 use mathlib.Core.List.{List, [], _∷_, _++_, map}
 use Prim.Native.Nat.{ℕ}
-use Rattle.sight.specs.Sight.{Sight, Row}
-use Rattle.sight.specs.Sight.Sight.{row, pass, both, cut}
+use Rattle.expand.specs.Sight.{Sight, Row}
+use Rattle.expand.specs.Sight.Sight.{row, pass, both, cut}
 use Rattle.sight.specs.Written.{written}
 
 -- a row, and its route: the sequence of free lines crossed to reach it, each by its face on the side seen

@@ -2,8 +2,8 @@
 use mathlib.Core.Bool.{Bool, true, false}
 use mathlib.Core.List.{List, [], _∷_, map}
 use Prim.Native.Nat.{ℕ, _+_}
-use Rattle.sight.specs.Sight.{Sight, crossings}
-use Rattle.sight.specs.Sight.Sight.{row, pass, both, cut}
+use Rattle.expand.specs.Sight.{Sight, crossings}
+use Rattle.expand.specs.Sight.Sight.{row, pass, both, cut}
 use Rattle.doors.specs.Route.{Routed}
 use Rattle.doors.specs.Door.{is-door, crosses, side-seen, before, same-to-door, those}
 

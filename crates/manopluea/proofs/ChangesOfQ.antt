@@ -12,12 +12,12 @@ use Rattle.plan.specs.Lists.{next, start, neighbour, answers, back}
 use Rattle.plan.specs.Check.{outside, wrong-corner, wrong-cell, wrong-neighbour, names, wrong-door, checked}
 use Rattle.plan.specs.Setting.{shut, with-shut, with-open, wrong-setting, bars, ends}
 use Rattle.plan.specs.declared.Refusal.the-variants.{Change, Rows as Untrue}
-use Rattle.stand.specs.Whole.{whole}
+use Rattle.number.specs.Whole.{whole}
 use Rattle.stand.specs.Spot.{whole-point, stood}
 use Rattle.stand.specs.Find.{against, located}
 use Rattle.stand.specs.declared.spot.Stand.the-variants.{Point}
-use Rattle.sight.specs.Sight.{follow, numbers, row-count, crossings}
-use Rattle.sight.specs.Floor.{placed}
+use Rattle.expand.specs.Sight.{follow, numbers, row-count, crossings}
+use Rattle.expand.specs.Floor.{placed}
 use Rattle.sight.specs.Listing.{viewed, listing-numbers, listing-row-count, listing-crossings}
 use Rattle.sight.specs.declared.list.Listed.the-variants.{Rows, Refused}
 use Rattle.doors.specs.Change.{same-list, no-change, changed}

@@ -12,15 +12,15 @@ use Rattle.plan.specs.Least.{least}
 use Rattle.plan.specs.Lists.{next, start, neighbour, answers, back}
 use Rattle.plan.specs.Check.{outside, wrong-corner, wrong-cell, wrong-neighbour, names, wrong-door, checked}
 use Rattle.plan.specs.Setting.{shut, wrong-setting, bars, ends}
+use Rattle.number.specs.Whole.{whole}
 use Rattle.stand.specs.declared.spot.Stand.the-variants.{Point}
-use Rattle.stand.specs.Whole.{whole}
 use Rattle.stand.specs.Spot.{whole-point, stood}
 use Rattle.stand.specs.Find.{against, located}
 use Rattle.sight.specs.Listing.{listed, viewed}
 use Rattle.sight.specs.declared.list.Listed.{Listed}
 use Rattle.sight.specs.declared.list.Listed.the-variants.{Rows, Refused}
-use Rattle.sight.specs.Sight.{follow, numbers, row-count, crossings}
-use Rattle.sight.specs.Floor.{placed}
+use Rattle.expand.specs.Sight.{follow, numbers, row-count, crossings}
+use Rattle.expand.specs.Floor.{placed}
 use Rattle.manopluea.specs.Cases.{corners-of-Q, cells-of-Q, doors-of-Q, six, three, untouched}
 use Rattle.manopluea.specs.ShutOut.{sides-1-and-2-as-walls}
 use Rattle.manopluea.proofs.Cases.{the-twelve-cases}

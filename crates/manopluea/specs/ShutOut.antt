@@ -7,8 +7,8 @@ use lib.IntN.{ℤ}
 use Rattle.plane.specs.Side.{Point}
 use Rattle.plan.specs.Lists.{start}
 use Rattle.stand.specs.declared.spot.Stand.{Stand}
-use Rattle.sight.specs.Sight.{Sight, numbers, row-count, crossings}
-use Rattle.sight.specs.Sight.Sight.{row, both}
+use Rattle.expand.specs.Sight.{Sight, numbers, row-count, crossings}
+use Rattle.expand.specs.Sight.Sight.{row, both}
 use Rattle.sight.specs.Listing.{finish, through, viewed}
 use Rattle.sight.specs.declared.view.View.{View}
 use Rattle.sight.specs.declared.view.View.the-variants.{From, Refused}

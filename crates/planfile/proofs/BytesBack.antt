@@ -5,11 +5,12 @@ use mathlib.Core.Path.{_≡_, sym, ap, ap₂, _∙_}
 use Prim.Native.Nat.{ℕ, _+_, _*_, _/_}
 use native.Mathlib.Omega.{arith}
 use lib.ListN.{take, drop}
-use Rattle.planfile.specs.Bytes.{all-bytes}
-use Rattle.planfile.specs.File.{record-of, corner-record, cell-record, door-record, file-of, body-length, second, third, framed, corners-in, cells-in, doors-in, AllBytes}
-use Rattle.planfile.proofs.Places.{is-framed}
-use Rattle.planfile.proofs.Back.{all-bytes-back, complements-back}
-use Rattle.planfile.proofs.Records.{body-of, framed-is-three-records}
+use Rattle.records.specs.Bytes.{all-bytes, AllBytes}
+use Rattle.records.specs.Record.{record-of, corner-record, cell-record, door-record, body-length, second, third, framed}
+use Rattle.records.proofs.Frames.{is-framed}
+use Rattle.records.proofs.Back.{all-bytes-back, complements-back}
+use Rattle.records.proofs.Records.{body-of, framed-is-three-records}
+use Rattle.planfile.specs.File.{file-of, corners-in, cells-in, doors-in}
 
 module _ (s : List ℕ) (all : AllBytes s) (h : framed s ≡ true) where
   corners-back : corner-record (corners-in s) ≡ record-of 1 (body-of s 0)

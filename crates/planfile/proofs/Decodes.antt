@@ -14,10 +14,11 @@ use Rattle.plan.specs.declared.Refusal.the-variants.{Frame, Size}
 use Rattle.plan.specs.declared.Checked.{Checked}
 use Rattle.plan.specs.declared.Checked.the-variants.{Refused}
 use Rattle.plan.proofs.Checks.{out-of-size}
-use Rattle.planfile.specs.Bytes.{numbers-at, signed}
-use Rattle.planfile.specs.File.{framed, corners-in, cells-in, doors-in}
+use Rattle.records.specs.Bytes.{numbers-at, signed}
+use Rattle.records.specs.Record.{framed}
+use Rattle.records.proofs.Spelled.{length-numbers-at}
+use Rattle.planfile.specs.File.{corners-in, cells-in, doors-in}
 use Rattle.planfile.specs.Calls.{given-room, has-room, lists-reply, read-reply, handed-over, read}
-use Rattle.planfile.proofs.Spelled.{length-numbers-at}
 use Rattle.planfile.proofs.Accepts.{refused-stays}
 use Rattle.planfile.proofs.Places.{Places}
 

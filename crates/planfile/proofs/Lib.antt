@@ -1,16 +1,9 @@
-pub mod Signs
-pub mod Spelled
-pub mod Stores
-pub mod Frames
 pub mod Accepts
 pub mod Writes
 pub mod Hands
 pub mod Places
 pub mod Decodes
 pub mod Widths
-pub mod There
-pub mod Back
-pub mod Records
 pub mod ListsBack
 pub mod BytesBack
 pub mod RoundTrip

@@ -12,13 +12,14 @@ use Rattle.plan.specs.Sound.{Sound}
 use Rattle.plan.specs.declared.Plan.{Plan}
 use Rattle.plan.specs.declared.Checked.the-variants.{Accepted}
 use Rattle.plan.proofs.Accepted.{accepted-is-sound}
-use Rattle.planfile.specs.Bytes.{all-bytes, numbers-at, complement, signed}
-use Rattle.planfile.specs.File.{record-of, corner-record, cell-record, door-record, file-of, body-length, second, third, framed, corners-in, cells-in, doors-in}
-use Rattle.planfile.proofs.Spelled.{length-all-bytes}
+use Rattle.records.specs.Bytes.{all-bytes, numbers-at, complement, signed}
+use Rattle.records.specs.Record.{record-of, corner-record, cell-record, door-record, body-length, second, third, framed}
+use Rattle.records.proofs.Spelled.{length-all-bytes}
+use Rattle.records.proofs.There.{above, above-two, above-four, all-signed-complements}
+use Rattle.records.proofs.Records.{length-read, numbers-read, three, at-second, at-third, as-third, three-records-are-framed}
+use Rattle.planfile.specs.File.{file-of, corners-in, cells-in, doors-in}
 use Rattle.planfile.proofs.Accepts.{small}
 use Rattle.planfile.proofs.Widths.{coordinate-in-width, cell-in-width, door-in-width}
-use Rattle.planfile.proofs.There.{above, above-two, above-four, all-signed-complements}
-use Rattle.planfile.proofs.Records.{length-read, numbers-read, three, at-second, at-third, as-third, three-records-are-framed}
 
 complement-small : (z : ℤ) → mag z < 2 ^ 31 → complement z < 2 ^ 32
 complement-small (pos n) h = omega arith

@@ -1,47 +1,16 @@
 -- Where the records of a framed file lie, and how long its lists are.
 use mathlib.Core.Bool.{true}
 use mathlib.Core.List.{List, map}
-use mathlib.Core.Path.{_≡_, refl, sym, ap, _∙_}
+use mathlib.Core.Path.{_≡_, sym, ap, _∙_}
 use Prim.Native.Nat.{ℕ, _+_, _-_, _*_, _/_, _%_, _≤_}
 use native.Mathlib.Omega.{arith}
-use borrow.Author.Tests.{eqb-true}
 use lib.ListN.{length}
-use Rattle.exact.proofs.Truth.{both-true}
 use Rattle.plan.specs.Limits.{most-corners, most-cells, most-doors, sized}
 use Rattle.plan.proofs.Plans.{counts}
-use Rattle.planfile.specs.Bytes.{number-at, numbers-at, signed}
-use Rattle.planfile.specs.File.{body-length, end-of, second, third, is-record, framed, corners-in, cells-in, doors-in}
-
--- ---- a framed file
-
--- a record's body, of what its head says
-pub record Body (s : List ℕ) (at end kind size : ℕ) : Type 0 where
-  pub ends : end ≡ at + 6 + body-length s at
-  pub of-kind : number-at 2 s (at + 4) ≡ kind
-  pub multiple : body-length s at % size ≡ 0
-
-pub record Framed (s : List ℕ) : Type 0 where
-  pub corners : Body s 0 (second s) 1 8
-  pub cells : Body s (second s) (third s) 2 12
-  pub doors : Body s (third s) (length s) 3 2
-
-body : (s : List ℕ) (at end kind size : ℕ) → end ≡ end-of s at → is-record s at kind size ≡ true → Body s at end kind size
-unfolding end-of is-record
-body s at end kind size e h =
-    let two = both-true _ _ h in
-    record { ends = e; of-kind = eqb-true _ _ (two .0); multiple = eqb-true _ _ (two .1) }
-
-pub is-framed : (s : List ℕ) → framed s ≡ true → Framed s
-unfolding framed
-is-framed s h =
-    let c = both-true _ _ h in
-    let b = both-true _ _ (c .0) in
-    let a = both-true _ _ (b .0) in
-    record {
-      corners = body s 0 (second s) 1 8 refl (a .1);
-      cells = body s (second s) (third s) 2 12 refl (b .1);
-      doors = body s (third s) (length s) 3 2 (sym (eqb-true _ _ (a .0))) (c .1);
-    }
+use Rattle.records.specs.Bytes.{numbers-at, signed}
+use Rattle.records.specs.Record.{body-length, end-of, second, third, framed}
+use Rattle.records.proofs.Frames.{is-framed}
+use Rattle.planfile.specs.File.{corners-in, cells-in, doors-in}
 
 -- where the second record begins, and the third, as the code has them
 pub record Places (s : List ℕ) (b c : ℕ) : Type 0 where

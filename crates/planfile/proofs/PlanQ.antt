@@ -4,8 +4,9 @@ use mathlib.Core.List.{List, [], _∷_, _++_}
 use mathlib.Core.Path.{_≡_, refl}
 use Prim.Native.Nat.{ℕ}
 use lib.IntN.{ℤ, pos, negsuc}
-use Rattle.planfile.specs.Bytes.{bytes, number-at, all-bytes, numbers-at, complement, signed}
-use Rattle.planfile.specs.File.{record-of, corner-record, cell-record, door-record, file-of, end-of, is-record, framed, corners-in}
+use Rattle.records.specs.Bytes.{bytes, number-at, all-bytes, numbers-at, complement, signed}
+use Rattle.records.specs.Record.{record-of, corner-record, cell-record, door-record, end-of, is-record, framed}
+use Rattle.planfile.specs.File.{file-of, corners-in}
 
 abbrev corners : List ℤ
 corners = pos 0 ∷ pos 0 ∷ pos 10 ∷ pos 0 ∷ pos 10 ∷ pos 10 ∷ pos 0 ∷ pos 10 ∷ []

@@ -15,13 +15,14 @@ use Rattle.plan.specs.declared.Refusal.the-variants.{Frame}
 use Rattle.plan.specs.declared.Checked.{Checked}
 use Rattle.plan.specs.declared.Checked.the-variants.{Accepted}
 use Rattle.plan.proofs.Accepted.{passed}
-use Rattle.planfile.specs.Bytes.{complement}
-use Rattle.planfile.specs.File.{corner-record, cell-record, door-record, file-of, framed, corners-in, cells-in, doors-in, AllBytes}
+use Rattle.records.specs.Bytes.{complement, AllBytes}
+use Rattle.records.specs.Record.{corner-record, cell-record, door-record, framed}
+use Rattle.records.proofs.Back.{append-is-bytes, record-is-bytes, all-is-bytes}
+use Rattle.planfile.specs.File.{file-of, corners-in, cells-in, doors-in}
 use Rattle.planfile.specs.Calls.{given-room, written, has-room, lists-reply, read-reply, handed-over, read}
 use Rattle.planfile.proofs.Accepts.{roomed}
 use Rattle.planfile.proofs.Writes.{all-written}
 use Rattle.planfile.proofs.Decodes.{by-its-lists}
-use Rattle.planfile.proofs.Back.{append-is-bytes, record-is-bytes, all-is-bytes}
 use Rattle.planfile.proofs.ListsBack.{the-file-is-framed, corners-read-back, cells-read-back, doors-read-back}
 use Rattle.planfile.proofs.BytesBack.{the-same-bytes}
 

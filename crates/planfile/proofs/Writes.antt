@@ -1,11 +1,11 @@
 -- The writer, way out by way out: what was found, and the reply with the file that is left.
-use mathlib.Core.List.{List, _++_, append-assoc, map}
+use mathlib.Core.List.{List, _++_, append-assoc}
 use mathlib.Core.Path.{_≡_, refl, sym, ap, ap₂, _∙_}
 use Prim.Native.Nat.{ℕ, _+_, _*_, _<_, _≤_}
 use native.Mathlib.Omega.{arith}
 use borrow.Author.Tests.{le-leb, lt-leb}
 use lib.Dec.{leb}
-use lib.ListN.{length, length-append, length-map}
+use lib.ListN.{length, length-append}
 use lib.Seq.{sets}
 use lib.IntN.{ℤ}
 use Rattle.plan.specs.Check.{checked}
@@ -14,30 +14,15 @@ use Rattle.plan.specs.declared.Refusal.{Refusal}
 use Rattle.plan.specs.declared.Refusal.the-variants.{Room}
 use Rattle.plan.specs.declared.Checked.{Checked}
 use Rattle.plan.specs.declared.Checked.the-variants.{Accepted, Refused}
-use Rattle.planfile.specs.Bytes.{bytes, all-bytes, complement}
-use Rattle.planfile.specs.File.{record-of, corner-record, cell-record, door-record, file-of}
+use Rattle.records.specs.Bytes.{all-bytes}
+use Rattle.records.specs.Record.{record-of, corner-record, cell-record, door-record}
+use Rattle.records.proofs.Spelled.{length-corner-record, length-number-record}
+use Rattle.records.proofs.Stores.{sets-then}
+use Rattle.planfile.specs.File.{file-of}
 use Rattle.planfile.specs.Calls.{given-room, left-by, written-reply, written}
 use Rattle.planfile.proofs.Accepts.{refused-stays}
-use Rattle.planfile.proofs.Spelled.{length-bytes, length-all-bytes}
-use Rattle.planfile.proofs.Stores.{sets-then}
 
 -- ---- lengths
-
-pub length-record : (kind : ℕ) (body : List ℕ) → length (record-of kind body) ≡ 6 + length body
-unfolding record-of
-length-record kind body =
-    let a : length (bytes 4 (length body)) ≡ 4 = length-bytes 4 (length body) in
-    let b : length (bytes 2 kind) ≡ 2 = length-bytes 2 kind in
-    simp length-append (omega arith)
-
-pub length-corner-record : (cs : List ℤ) → length (corner-record cs) ≡ 6 + 4 * length cs
-unfolding corner-record
-length-corner-record cs =
-    length-record 1 (all-bytes 4 (map complement cs))
-    ∙ ap (λ (n : ℕ). 6 + n) (length-all-bytes 4 (map complement cs) ∙ ap (λ (n : ℕ). 4 * n) (length-map cs complement))
-
-pub length-number-record : (kind : ℕ) (ns : List ℕ) → length (record-of kind (all-bytes 2 ns)) ≡ 6 + 2 * length ns
-length-number-record kind ns = length-record kind (all-bytes 2 ns) ∙ ap (λ (n : ℕ). 6 + n) (length-all-bytes 2 ns)
 
 pub length-file : (cs : List ℤ) (ts ds : List ℕ) → length (file-of cs ts ds) ≡ 18 + 4 * length cs + 2 * length ts + 2 * length ds
 unfolding file-of cell-record door-record
@@ -46,27 +31,6 @@ length-file cs ts ds =
     let b : length (record-of 2 (all-bytes 2 ts)) ≡ 6 + 2 * length ts = length-number-record 2 ts in
     let c : length (record-of 3 (all-bytes 2 ds)) ≡ 6 + 2 * length ds = length-number-record 3 ds in
     simp length-append (omega arith)
-
--- ---- a record, by what was left by its head and its body
-
-module _ (l : List ℕ) (at kind n : ℕ) (body : List ℕ) (is-n : n ≡ length body) {l₁ l₂ : List ℕ} where
-  pub record-put : l₁ ≡ sets l at (bytes 4 n ++ bytes 2 kind) → l₂ ≡ sets l₁ (at + 6) body → l₂ ≡ sets l at (record-of kind body)
-  unfolding record-of
-  record-put e f =
-      let long : length (bytes 4 n ++ bytes 2 kind) ≡ 6 = length-append (bytes 4 n) (bytes 2 kind) ∙ ap₂ _+_ (length-bytes 4 n) (length-bytes 2 kind) in
-      f
-      ∙ ap (λ (m : List ℕ). sets m (at + 6) body) e
-      ∙ sets-then l at (at + 6) (bytes 4 n ++ bytes 2 kind) body (ap (λ (j : ℕ). at + j) long)
-      ∙ ap (sets l at) (append-assoc (bytes 4 n) (bytes 2 kind) body ∙ ap (λ (m : ℕ). bytes 4 m ++ (bytes 2 kind ++ body)) is-n)
-
-pub corner-record-put : (l : List ℕ) (cs : List ℤ) {l₁ l₂ : List ℕ} → l₁ ≡ sets l 0 (bytes 4 (4 * length cs) ++ bytes 2 1) → l₂ ≡ sets l₁ 6 (all-bytes 4 (map complement cs)) → l₂ ≡ sets l 0 (corner-record cs)
-unfolding corner-record
-corner-record-put l cs e f =
-    record-put l 0 1 (4 * length cs) (all-bytes 4 (map complement cs))
-    (sym (length-all-bytes 4 (map complement cs) ∙ ap (λ (n : ℕ). 4 * n) (length-map cs complement))) e f
-
-pub number-record-put : (l : List ℕ) (at kind : ℕ) (ns : List ℕ) {l₁ l₂ : List ℕ} → l₁ ≡ sets l at (bytes 4 (2 * length ns) ++ bytes 2 kind) → l₂ ≡ sets l₁ (at + 6) (all-bytes 2 ns) → l₂ ≡ sets l at (record-of kind (all-bytes 2 ns))
-number-record-put l at kind ns e f = record-put l at kind (2 * length ns) (all-bytes 2 ns) (sym (length-all-bytes 2 ns)) e f
 
 -- ---- the replies
 

@@ -10,7 +10,8 @@ use Rattle.plan.specs.Check.{checked, refuse-if}
 use Rattle.plan.specs.declared.Refusal.the-variants.{Frame, Room}
 use Rattle.plan.specs.declared.Checked.{Checked}
 use Rattle.plan.specs.declared.Checked.the-variants.{Accepted, Refused}
-use Rattle.planfile.specs.File.{file-of, framed, corners-in, cells-in, doors-in}
+use Rattle.records.specs.Record.{framed}
+use Rattle.planfile.specs.File.{file-of, corners-in, cells-in, doors-in}
 
 -- what was accepted is refused where there is no room for it
 abbrev pub given-room : Bool → Checked → Checked

@@ -4,15 +4,13 @@ ghost use mathlib.Core.Path.{_≡_};
 ghost use Prim.Native.Nat.{_*_, _≤_};
 ghost use lib.ListN.{length};
 ghost use Rattle.plan.specs.Limits.{most-corners, most-cells, most-doors};
-ghost use Rattle.planfile.specs.File.{framed};
+ghost use Rattle.records.specs.Record.{framed};
 ghost use Rattle.planfile.specs.Calls.{written, lists-reply, handed-over, read as Calls·read};
 use plan::Checked;
 use plan::Plan;
 use plan::Refusal;
-
-pub mod bytes;
-mod list;
-mod record;
+use records::list;
+use records::record;
 
 // Writes the one file of three lists.
 pub fn write(corners: &[i32], cells: &[u16], doors: &[u16], file: &mut [u8]) -> Checked

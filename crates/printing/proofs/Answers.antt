@@ -12,8 +12,8 @@ use lib.ListN.{length, take, drop, length-drop}
 use lib.Seq.{take-all}
 use Rattle.exact.proofs.Truth.{both-true}
 use Rattle.plan.specs.declared.Refusal.the-variants as R
-use Rattle.planfile.specs.Bytes.{number-at}
-use Rattle.stand.specs.Bits.{bits-at}
+use Rattle.records.specs.Bytes.{number-at}
+use Rattle.number.specs.Bits.{bits-at}
 use Rattle.stand.specs.declared.spot.Stand.the-variants.{Point, Offset}
 use Rattle.printing.specs.Text.{refusal-line}
 use Rattle.printing.specs.Print.{most-input, most-text, begins, double-at, file-listed, blank-table, lines, printed, answered}

@@ -12,15 +12,16 @@ use Rattle.plan.specs.Least.{least}
 use Rattle.plan.specs.Lists.{next, start, neighbour, answers, back}
 use Rattle.plan.specs.Check.{outside, wrong-corner, wrong-cell, wrong-neighbour, names, wrong-door, checked}
 use Rattle.plan.specs.Setting.{shut, wrong-setting, bars, ends}
-use Rattle.planfile.specs.Bytes.{number-at, numbers-at, signed}
-use Rattle.planfile.specs.File.{end-of, is-record, framed, corners-in, cells-in, doors-in}
+use Rattle.records.specs.Bytes.{number-at, numbers-at, signed}
+use Rattle.records.specs.Record.{end-of, is-record, framed}
+use Rattle.planfile.specs.File.{corners-in, cells-in, doors-in}
 use Rattle.planfile.proofs.PlanQ.{file}
-use Rattle.stand.specs.Whole.{whole}
+use Rattle.number.specs.Whole.{whole}
+use Rattle.number.specs.Bits.{bits-at}
 use Rattle.stand.specs.Spot.{whole-point, stood}
 use Rattle.stand.specs.Find.{against, located}
-use Rattle.stand.specs.Bits.{bits-at}
-use Rattle.sight.specs.Sight.{follow, numbers, row-count, crossings}
-use Rattle.sight.specs.Floor.{placed}
+use Rattle.expand.specs.Sight.{follow, numbers, row-count, crossings}
+use Rattle.expand.specs.Floor.{placed}
 use Rattle.sight.specs.Listing.{viewed, listing-numbers, listing-row-count, listing-crossings, listed}
 use Rattle.printing.specs.Word.{word}
 use Rattle.printing.specs.Text.{digits, decimal, refusal-line, count-line, row-line, row-lines}

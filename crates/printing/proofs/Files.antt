@@ -16,7 +16,8 @@ use Rattle.plan.specs.declared.Refusal.the-variants as R
 use Rattle.plan.specs.declared.Checked.{Checked}
 use Rattle.plan.specs.declared.Checked.the-variants.{Accepted, Refused}
 use Rattle.plan.proofs.Accepted.{accepted-is-sound}
-use Rattle.planfile.specs.File.{framed, corners-in, cells-in, doors-in}
+use Rattle.records.specs.Record.{framed}
+use Rattle.planfile.specs.File.{corners-in, cells-in, doors-in}
 use Rattle.planfile.specs.Calls.{given-room, has-room, read-reply, left-by, read}
 use Rattle.planfile.proofs.Accepts.{refused-stays, small}
 use Rattle.planfile.proofs.Decodes.{unframed, by-its-lists}

@@ -9,7 +9,8 @@ use lib.IntN.{ℤ}
 use Rattle.plan.specs.Limits.{most-corners}
 use Rattle.plan.specs.declared.Refusal.the-variants as R
 use Rattle.plan.proofs.Plans.{counts}
-use Rattle.planfile.specs.File.{framed, corners-in, cells-in, doors-in}
+use Rattle.records.specs.Record.{framed}
+use Rattle.planfile.specs.File.{corners-in, cells-in, doors-in}
 use Rattle.stand.specs.declared.spot.Stand.{Stand}
 use Rattle.stand.proofs.Located.{found-cell-holds-the-stand}
 use Rattle.sight.specs.Listing.{viewed, listing-row-count, listed-from, listed}

@@ -5,7 +5,7 @@ use Prim.Native.Nat.{ℕ, _+_, _/_, _%_, _≤_, _<_}
 use native.Mathlib.Omega.{arith}
 use lib.ListN.{length, set, length-append, length-set}
 use lib.Seq.{length-sets}
-use Rattle.planfile.proofs.Stores.{sets-append, Fills, fills-end}
+use Rattle.records.proofs.Stores.{sets-append, Fills, fills-end}
 use Rattle.printing.specs.Text.{decimal, number-then}
 use Rattle.printing.specs.Wrote.{Wrote}
 use Rattle.printing.proofs.Decimals.{decimal-of-a-digit, decimal-of-more}

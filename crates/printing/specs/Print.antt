@@ -8,11 +8,12 @@ use lib.ListN.{length, drop, replicate}
 use lib.Seq.{sets}
 use Rattle.plan.specs.Limits.{most-corners}
 use Rattle.plan.specs.declared.Refusal.the-variants as R
-use Rattle.planfile.specs.Bytes.{number-at}
-use Rattle.planfile.specs.File.{framed, corners-in, cells-in, doors-in}
+use Rattle.records.specs.Bytes.{number-at}
+use Rattle.records.specs.Record.{framed}
+use Rattle.planfile.specs.File.{corners-in, cells-in, doors-in}
+use Rattle.number.specs.Bits.{bits-at}
 use Rattle.stand.specs.declared.spot.Stand.{Stand}
 use Rattle.stand.specs.declared.spot.Stand.the-variants.{Point, Offset}
-use Rattle.stand.specs.Bits.{bits-at}
 use Rattle.sight.specs.Listing.{listed}
 use Rattle.sight.specs.declared.list.Listed.{Listed}
 use Rattle.sight.specs.declared.list.Listed.the-variants as L

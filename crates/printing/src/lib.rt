@@ -11,8 +11,8 @@ use manopluea::Listed;
 use manopluea::Plan;
 use manopluea::Refusal;
 use manopluea::Stand;
-use planfile::bytes;
-use stand::bits;
+use number::bits;
+use records::bytes;
 
 mod text;
 

@@ -7,10 +7,10 @@ use native.Mathlib.Omega.{arith}
 use lib.ListN.{length, getD}
 use lib.IntN.{ℤ}
 use Rattle.plan.specs.Lists.{corner-count}
-use Rattle.sight.specs.Floor.{Lines}
-use Rattle.sight.specs.Sight.{Sight, row-count, crossings, Whole}
-use Rattle.sight.specs.Sight.Sight.{both}
-use Rattle.sight.proofs.Expansion.{Room, Written, room-for-the-first, room-for-the-second, both-written}
+use Rattle.expand.specs.Floor.{Lines}
+use Rattle.expand.specs.Sight.{Sight, row-count, crossings, Whole}
+use Rattle.expand.specs.Sight.Sight.{both}
+use Rattle.expand.proofs.Expansion.{Room, Written, room-for-the-first, room-for-the-second, both-written}
 
 from-zero : (k n : ℕ) (t : Sight) → Room (0 + k) n t → Room k n t
 from-zero k n t h = subst (λ (i : ℕ). Room i n t) (zero-add k) h

@@ -10,8 +10,8 @@ use Rattle.plane.specs.Cone.{Holds, Meets}
 use Rattle.plane.specs.One.{OneOfTwo}
 use Rattle.plane.proofs.Found.{within-the-limits-is-within-the-line, right-half-is-inside, left-half-is-inside, halves-share-nothing}
 use Rattle.plane.proofs.Cones.{split-at-a-corner}
-use Rattle.sight.specs.Sight.{Floor, Sight, Row, follow, rows, Whole}
-use Rattle.sight.specs.Sight.Whole.{whole-row, whole-pass, whole-both}
+use Rattle.expand.specs.Sight.{Floor, Sight, Row, follow, rows, Whole}
+use Rattle.expand.specs.Sight.Whole.{whole-row, whole-pass, whole-both}
 use Rattle.sight.specs.Walk.{Leaves, Walks, RowHolds}
 use Rattle.sight.specs.Walk.Walks.{ended, crossed}
 use Rattle.sight.specs.Once.{At, NeverTwice}

@@ -8,7 +8,7 @@ use native.Mathlib.Decide.{ℕ-discrete}
 use Rattle.plane.specs.Side.{Point}
 use Rattle.plane.specs.Cone.{Holds, Earlier}
 use Rattle.plane.proofs.Found.{halves-share-nothing, left-later-by-the-right-line, left-later-by-the-left-line, no-line-is-earlier-than-itself}
-use Rattle.sight.specs.Sight.{Floor}
+use Rattle.expand.specs.Sight.{Floor}
 use Rattle.sight.proofs.Geometry.{Geometry, right-ends, left-ends}
 
 module _ (see : ℕ → Point) (from to : ℕ → ℕ) (d : Point) where

@@ -13,14 +13,15 @@ use Rattle.plane.specs.Side.{Point}
 use Rattle.plane.specs.Cone.{cross, Holds}
 use Rattle.plane.proofs.Found.{earlier-is-transitive}
 use Rattle.plane.proofs.Cones.{cone-is-never-empty}
-use Rattle.sight.specs.Sight.{Floor, follow, hand-on, crossings, row-count, Whole}
-use Rattle.sight.specs.Sight.Whole.{whole-row, whole-pass, whole-both}
+use Rattle.expand.specs.Sight.{Floor, follow, hand-on, crossings, row-count, Whole}
+use Rattle.expand.specs.Sight.Whole.{whole-row, whole-pass, whole-both}
 use Rattle.sight.proofs.Count.{some-below?, count, count-grows-by-one, count-misses-one}
 use Rattle.sight.proofs.Exit.{Exit, Before, later-exit-is-of-another-cell}
 use Rattle.sight.proofs.Geometry.{Geometry, Seen}
 use Rattle.sight.proofs.HandOn.{HandedOn, Hands, hands, seen-is-exit}
 use Rattle.sight.proofs.HandOn.Hands.{two, one}
-use Rattle.sight.proofs.Trees.{follow-a-wall, follow-across, crossings-at-most-rows-times-fuel}
+use Rattle.expand.proofs.Trees.{follow-a-wall, follow-across}
+use Rattle.sight.proofs.RowCounts.{crossings-at-most-rows-times-fuel}
 
 -- ---- the cells left later
 

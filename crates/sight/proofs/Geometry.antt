@@ -8,8 +8,8 @@ use Rattle.exact.proofs.Order.{𝟘}
 use Rattle.plane.specs.Side.{Point}
 use Rattle.plane.specs.Cone.{cross, Between, Cone, Beyond}
 use Rattle.plane.proofs.Found.{between-keeps-the-right-cone, between-keeps-the-left-cone, right-keeps-the-cone, left-keeps-the-cone}
-use Rattle.sight.specs.Sight.{Floor}
-use Rattle.sight.specs.Sight.Place.{between, right-of-r, left-of-l}
+use Rattle.expand.specs.Sight.{Floor}
+use Rattle.expand.specs.Sight.Place.{between, right-of-r, left-of-l}
 
 -- N faces of M cells; `see c` is corner c less the stand; face f runs from corner `from f` to corner `to f`
 pub record Geometry (F : Floor) (N M : ℕ) (see : ℕ → Point) (from to cell : ℕ → ℕ) : Type 0 where

@@ -7,12 +7,12 @@ use Prim.Native.Nat.{ℕ, _<_}
 use Rattle.plane.specs.Side.{Point}
 use Rattle.plane.specs.Cone.{Holds, Between}
 use Rattle.plane.proofs.Found.{right-half-is-inside, left-half-is-inside, within-the-limits-is-within-the-line}
-use Rattle.sight.specs.Sight.{Floor, Place, follow, hand-on}
-use Rattle.sight.specs.Sight.Place.{between, right-of-r, left-of-l}
-use Rattle.sight.specs.Sight.Sight.{both}
+use Rattle.expand.specs.Sight.{Floor, Place, follow, hand-on}
+use Rattle.expand.specs.Sight.Place.{between, right-of-r, left-of-l}
+use Rattle.expand.specs.Sight.Sight.{both}
 use Rattle.sight.proofs.Exit.{Exit, Before, Handed, handed-is-a-face, handed-is-later}
 use Rattle.sight.proofs.Geometry.{Geometry, Seen, seen-right-of-a-split, seen-left-of-a-split, seen-on-the-left, seen-on-the-right}
-use Rattle.sight.proofs.Trees.{hand-on-both, hand-on-the-left, hand-on-the-right}
+use Rattle.expand.proofs.Trees.{hand-on-both, hand-on-the-left, hand-on-the-right}
 
 module _ {F : Floor} {N M : ℕ} {see : ℕ → Point} {from to cell : ℕ → ℕ} (G : Geometry F N M see from to cell) where
   -- the line of f has the limits r and l; beyond it the line of e is handed on with the limits r′ and l′

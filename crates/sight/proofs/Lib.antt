@@ -1,7 +1,6 @@
 pub mod Count
 pub mod Demand2
 pub mod Exit
-pub mod Expansion
 pub mod Fuel
 pub mod Geometry
 pub mod HandOn
@@ -12,7 +11,6 @@ pub mod PlanFloor
 pub mod Rows
 pub mod Sightings
 pub mod Tree
-pub mod Trees
 pub mod Twice
 pub mod Views
 pub mod CellTree
@@ -21,3 +19,4 @@ pub mod Facing
 pub mod Lined
 pub mod Lister
 pub mod Written
+pub mod RowCounts

@@ -17,13 +17,13 @@ use Rattle.plan.proofs.Least.{not-both}
 use Rattle.plan.proofs.Faces.{next-below}
 use Rattle.plan.proofs.Plans.{counts, corner-exists, back-exists}
 use Rattle.plan.proofs.Settings.{sight-ends-at-a-wall}
-use Rattle.sight.specs.Sight.{Floor, Place, Sight, follow, hand-on}
-use Rattle.sight.specs.Sight.Place.{between, right-of-r, left-of-l}
-use Rattle.sight.specs.Sight.Sight.{pass, both}
-use Rattle.sight.specs.Floor.{floor-of, Lines}
+use Rattle.expand.specs.Sight.{Floor, Place, Sight, follow, hand-on}
+use Rattle.expand.specs.Sight.Place.{between, right-of-r, left-of-l}
+use Rattle.expand.specs.Sight.Sight.{pass, both}
+use Rattle.expand.specs.Floor.{floor-of, Lines}
 use Rattle.sight.specs.Listing.{plan-floor}
 use Rattle.sight.specs.Lined.{SoundCells, Lined}
-use Rattle.sight.proofs.Trees.{follow-a-wall, follow-too-far, follow-across, hand-on-both, hand-on-the-left, hand-on-the-right}
+use Rattle.expand.proofs.Trees.{follow-a-wall, follow-too-far, follow-across, hand-on-both, hand-on-the-left, hand-on-the-right}
 use Rattle.sight.proofs.Marks.{across-where-sight-ends, across-where-sight-passes}
 
 -- the cells and doors of an accepted plan

@@ -13,10 +13,10 @@ use Rattle.plan.specs.Sound.{Sound}
 use Rattle.plan.proofs.Faces.{after-first, after-second, after-third}
 use Rattle.plan.proofs.Plans.{counts}
 use Rattle.stand.proofs.Located.{InCell}
-use Rattle.sight.specs.Sight.{Sight, numbers, row-count, crossings, Whole}
-use Rattle.sight.specs.Sight.Sight.{both}
-use Rattle.sight.specs.Sight.Whole.{whole-both}
-use Rattle.sight.specs.Floor.{side-tree, cell-tree}
+use Rattle.expand.specs.Sight.{Sight, numbers, row-count, crossings, Whole}
+use Rattle.expand.specs.Sight.Sight.{both}
+use Rattle.expand.specs.Sight.Whole.{whole-both}
+use Rattle.sight.specs.CellTree.{side-tree, cell-tree}
 use Rattle.sight.specs.Lined.{Lined}
 use Rattle.sight.specs.Listing.{finish, through, listing-numbers, listing-row-count, listing-crossings}
 use Rattle.sight.proofs.Lined.{lined-floor-agrees}

@@ -11,7 +11,7 @@ use Rattle.plane.specs.Cone.{cross, Meets, Direction, Around}
 use Rattle.plane.specs.One.{OneOfThree, AtMostOne}
 use Rattle.plane.proofs.Found.{a-seen-line-is-a-cone}
 use Rattle.plane.proofs.Cones.{start-in-a-triangle, triangle-left-by-at-most-one-side}
-use Rattle.sight.specs.Sight.{Floor, Sight, Row, follow, rows, row-count, Whole}
+use Rattle.expand.specs.Sight.{Floor, Sight, Row, follow, rows, row-count, Whole}
 use Rattle.sight.specs.Walk.{Leaves, RowHolds, WalkEnds}
 use Rattle.sight.specs.Once.{At, NeverTwice, Only}
 use Rattle.sight.proofs.Geometry.{Geometry}

@@ -23,9 +23,9 @@ use Rattle.plan.proofs.Faces.{next-below, next-stays-in-the-cell, next-of-next-
 use Rattle.plan.proofs.Faces.Mate.{itself, after, last}
 use Rattle.plan.proofs.Plans.{back-exists, back-starts-at-the-finish, back-finishes-at-the-start, apex-lies-beyond}
 use Rattle.stand.proofs.Located.{InCell, the-cell-goes-around-the-stand}
-use Rattle.sight.specs.Sight.{Place}
-use Rattle.sight.specs.Sight.Place.{between, right-of-r, left-of-l}
-use Rattle.sight.specs.Floor.{placed}
+use Rattle.expand.specs.Sight.{Place}
+use Rattle.expand.specs.Sight.Place.{between, right-of-r, left-of-l}
+use Rattle.expand.specs.Floor.{placed}
 use Rattle.sight.specs.Listing.{plan-floor, seen, finish}
 use Rattle.sight.proofs.Geometry.{Geometry}
 use Rattle.sight.proofs.Listing.{Start}

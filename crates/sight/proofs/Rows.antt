@@ -12,7 +12,7 @@ use Rattle.exact.proofs.Truth.{both-true, one-true}
 use Rattle.plane.specs.Side.{Point}
 use Rattle.plane.specs.Cone.{cross, Holds, Between, Around}
 use Rattle.plane.proofs.Found.{right-half-is-inside, left-half-is-inside, halves-share-nothing, left-half-does-not-hold-v, right-half-does-not-hold-v, corner-is-not-opposite}
-use Rattle.sight.specs.Sight.{Floor, Sight, row-count, follow}
+use Rattle.expand.specs.Sight.{Floor, Sight, row-count, follow}
 use Rattle.sight.proofs.Geometry.{Geometry}
 use Rattle.sight.proofs.Parts.{count, parts-at-most-the-whole, number-is-counted, three-parts-at-most-all, or-first, or-second}
 use Rattle.sight.proofs.Tree.{InSight, Grown, grown}

@@ -11,7 +11,7 @@ use Rattle.plan.specs.Lists.{corner-count, cell-count, face-count, start}
 use Rattle.plan.specs.Sound.{Sound}
 use Rattle.plan.proofs.Plans.{corner-exists}
 use Rattle.stand.proofs.Located.{InCell}
-use Rattle.sight.specs.Sight.{Whole, Row}
+use Rattle.expand.specs.Sight.{Whole, Row}
 use Rattle.sight.specs.Walk.{RowHolds, WalkEnds}
 use Rattle.sight.specs.Once.{At, NeverTwice, Only}
 use Rattle.sight.specs.Listing.{plan-floor, seen, finish, through, listing-rows, listing-row-count, listing-crossings}

@@ -5,9 +5,9 @@ use mathlib.Core.Path.{_≡_, refl}
 use Prim.Native.Nat.{ℕ, zero, suc, _<_}
 use Rattle.plane.specs.Side.{Point}
 use Rattle.plane.specs.Cone.{Between}
-use Rattle.sight.specs.Sight.{Floor, Place, Sight, Row, follow, rows}
-use Rattle.sight.specs.Sight.Place.{between, right-of-r, left-of-l}
-use Rattle.sight.specs.Sight.Sight.{row, pass, both, cut}
+use Rattle.expand.specs.Sight.{Floor, Place, Sight, Row, follow, rows}
+use Rattle.expand.specs.Sight.Place.{between, right-of-r, left-of-l}
+use Rattle.expand.specs.Sight.Sight.{row, pass, both, cut}
 use Rattle.sight.specs.Once.{At}
 use Rattle.sight.proofs.Geometry.{Geometry, Seen, seen-right-of-a-split, seen-left-of-a-split, seen-on-the-left, seen-on-the-right}
 use Rattle.sight.proofs.Places.{at-no-place, at-the-only-place, either-list}

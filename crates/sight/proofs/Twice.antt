@@ -10,15 +10,15 @@ use Rattle.plane.specs.Side.{Point}
 use Rattle.plane.specs.Cone.{Holds}
 use Rattle.plane.proofs.Found.{earlier-is-transitive}
 use Rattle.plane.proofs.Cones.{cone-is-never-empty}
-use Rattle.sight.specs.Sight.{Floor, Sight, follow, hand-on}
-use Rattle.sight.specs.Sight.Sight.{row, pass, both, cut}
+use Rattle.expand.specs.Sight.{Floor, Sight, follow, hand-on}
+use Rattle.expand.specs.Sight.Sight.{row, pass, both, cut}
 use Rattle.sight.specs.Walk.{Walks}
 use Rattle.sight.specs.Walk.Walks.{ended, crossed}
 use Rattle.sight.proofs.Exit.{Exit, Before, later-exit-is-of-another-cell, handed-is-a-face, handed-is-later}
 use Rattle.sight.proofs.Geometry.{Geometry, Seen}
 use Rattle.sight.proofs.HandOn.{HandedOn, Hands, hands, seen-is-exit}
 use Rattle.sight.proofs.HandOn.Hands.{two, one}
-use Rattle.sight.proofs.Trees.{follow-a-wall, follow-too-far, follow-across}
+use Rattle.expand.proofs.Trees.{follow-a-wall, follow-too-far, follow-across}
 
 -- the cells of the faces of a list are all different
 abbrev pub AllDifferent : (ℕ → ℕ) → List ℕ → Type 0

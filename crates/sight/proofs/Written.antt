@@ -13,8 +13,8 @@ use Rattle.plan.specs.Sound.{Sound}
 use Rattle.plan.proofs.Plans.{corner-exists}
 use Rattle.stand.specs.declared.spot.Stand.{Stand}
 use Rattle.stand.proofs.Located.{InCell}
-use Rattle.sight.specs.Sight.{Floor, Sight, Row, rows, numbers, row-count}
-use Rattle.sight.specs.Sight.Sight.{row, pass, both, cut}
+use Rattle.expand.specs.Sight.{Floor, Sight, Row, rows, numbers, row-count}
+use Rattle.expand.specs.Sight.Sight.{row, pass, both, cut}
 use Rattle.sight.specs.Once.{At}
 use Rattle.sight.specs.Walk.{WalkEnds}
 use Rattle.sight.specs.Written.{written}
@@ -22,7 +22,7 @@ use Rattle.sight.specs.Listing.{plan-floor, seen, finish, through, viewe
 use Rattle.sight.specs.declared.view.View.the-variants as O
 use Rattle.sight.specs.declared.list.Listed.{Listed}
 use Rattle.sight.specs.declared.list.Listed.the-variants as L
-use Rattle.sight.proofs.Trees.{row-count-counts-the-rows, whole-has-a-row}
+use Rattle.sight.proofs.RowCounts.{row-count-counts-the-rows, whole-has-a-row}
 use Rattle.sight.proofs.Geometry.{Geometry}
 use Rattle.sight.proofs.Tree.{Grown, grown}
 use Rattle.sight.proofs.Tree.Grown.{ends, too-many, splits, keeps}

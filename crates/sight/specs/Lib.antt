@@ -1,7 +1,5 @@
-pub mod Sight
-pub mod Floor
+pub mod CellTree
 pub mod Walk
-pub mod Apex
 pub mod Once
 pub mod Listing
 pub mod Lined

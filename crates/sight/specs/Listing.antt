@@ -22,8 +22,8 @@ use Rattle.stand.specs.declared.spot.Spot.{Spot}
 use Rattle.stand.specs.declared.spot.Spot.the-variants as S
 use Rattle.stand.specs.declared.find.Found.{Found}
 use Rattle.stand.specs.declared.find.Found.the-variants as F
-use Rattle.sight.specs.Sight.{Floor, Sight, Row, follow, numbers, rows, row-count, crossings}
-use Rattle.sight.specs.Floor.{placed}
+use Rattle.expand.specs.Sight.{Floor, Sight, Row, follow, numbers, rows, row-count, crossings}
+use Rattle.expand.specs.Floor.{placed}
 use Rattle.sight.specs.declared.view.View.{View}
 use Rattle.sight.specs.declared.view.View.the-variants as O
 use Rattle.sight.specs.declared.list.Listed.{Listed}

@@ -5,7 +5,7 @@ use mathlib.Core.Path.{_≡_}
 use Prim.Native.Nat.{ℕ}
 use Rattle.plane.specs.Side.{Point}
 use Rattle.plane.specs.Cone.{Holds}
-use Rattle.sight.specs.Sight.{Floor, Row}
+use Rattle.expand.specs.Sight.{Floor, Row}
 
 -- `see c` is corner c less the stand; face f runs from its right end, corner `from f`, to its left end, corner `to f`
 module _ (F : Floor) (see : ℕ → Point) (from to : ℕ → ℕ) (d : Point) where

@@ -1,7 +1,7 @@
 -- Rows as the numbers of a table (document 01, "Reply"): face, right limit, left limit.
 use mathlib.Core.List.{List, [], _∷_}
 use Prim.Native.Nat.{ℕ}
-use Rattle.sight.specs.Sight.{Row}
+use Rattle.expand.specs.Sight.{Row}
 
 unfoldable pub written : List Row → List ℕ
 written [] = []

@@ -18,15 +18,15 @@ use Rattle.plane.specs.Side.{Point, limit, Near}
 use Rattle.plan.specs.Lists.{corner-count, corner-at}
 use Rattle.plan.specs.Check.{outside}
 use Rattle.plan.proofs.Checks.{not-outside}
-use Rattle.stand.specs.Whole.{whole}
+use Rattle.number.specs.Whole.{whole}
+use Rattle.number.specs.declared.Millimetres.{Millimetres}
+use Rattle.number.specs.declared.Millimetres.the-variants as M
+use Rattle.number.proofs.Whole.{accepted-is-within}
 use Rattle.stand.specs.Spot.{pair, whole-point, unless, within-limits, offset-by, stood}
-use Rattle.stand.specs.declared.number.Millimetres.{Millimetres}
-use Rattle.stand.specs.declared.number.Millimetres.the-variants as M
 use Rattle.stand.specs.declared.spot.Stand.{Stand}
 use Rattle.stand.specs.declared.spot.Stand.the-variants as S
 use Rattle.stand.specs.declared.spot.Spot.{Spot}
 use Rattle.stand.specs.declared.spot.Spot.the-variants.{At, Refused}
-use Rattle.stand.proofs.Whole.{accepted-is-within}
 
 -- ---- two doubles
 

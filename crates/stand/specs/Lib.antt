@@ -1,4 +1,2 @@
-pub mod Whole
-pub mod Bits
 pub mod Spot
 pub mod Find

@@ -6,9 +6,9 @@ use lib.IntN.{ℤ, _+ℤ_}
 use lib.Ieee.{Float}
 use Rattle.plan.specs.Lists.{corner-count, corner-at}
 use Rattle.plan.specs.Check.{outside}
-use Rattle.stand.specs.Whole.{whole}
-use Rattle.stand.specs.declared.number.Millimetres.{Millimetres}
-use Rattle.stand.specs.declared.number.Millimetres.the-variants as M
+use Rattle.number.specs.Whole.{whole}
+use Rattle.number.specs.declared.Millimetres.{Millimetres}
+use Rattle.number.specs.declared.Millimetres.the-variants as M
 use Rattle.stand.specs.declared.spot.Stand.{Stand}
 use Rattle.stand.specs.declared.spot.Stand.the-variants.{Point, Offset}
 use Rattle.stand.specs.declared.spot.Spot.{Spot}

@@ -1,5 +1,3 @@
 // Stands: whole millimetres, offsets, and the stand's cell (document 01, "The stand").
-pub mod bits;
 pub mod find;
-pub mod number;
 pub mod spot;

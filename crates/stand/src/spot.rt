@@ -3,8 +3,8 @@ ghost use mathlib.Core.Path.{_≡_};
 ghost use Rattle.stand.specs.declared.spot.Stand.the-variants.{Offset};
 ghost use Rattle.plan.specs.Sound.{CornersNear};
 ghost use Rattle.stand.specs.Spot.{whole-point, within-limits, stood};
-use crate::number::Millimetres;
-use crate::number::whole_millimetres;
+use number::Millimetres;
+use number::whole_millimetres;
 use plan::Plan;
 use plan::corner;
 

@@ -4,7 +4,7 @@ use Prim.Native.Nat.{_-_}
 use native.Mathlib.Omega.{arith}
 use borrow.Author.Needs.{needs}
 use lib.ListN.{length}
-use Rattle.planfile.proofs.Stores.{Fills, fills-begin, fills-go-on}
+use Rattle.records.proofs.Stores.{Fills, fills-begin, fills-go-on}
 use Rattle.printing.proofs.Texts.{copied}
 use Rattle.printing.proofs.text.put.Statement.{statement}
 use Rattle.printing.proofs.text.put.Tie as tie

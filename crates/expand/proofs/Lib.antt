@@ -1,0 +1,2 @@
+pub mod Trees
+pub mod Expansion

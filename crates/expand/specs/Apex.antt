@@ -1,0 +1,10 @@
+-- The code's answer for the place of an apex, as the expansion has it.
+use Rattle.expand.specs.Sight.{Place}
+use Rattle.expand.specs.Sight.Place.{between, right-of-r, left-of-l}
+use Rattle.expand.specs.declared.Apex.{Apex}
+use Rattle.expand.specs.declared.Apex.the-variants.{Between, RightOfR, LeftOfL}
+
+abbrev pub apex-place : Apex → Place
+apex-place Between = between
+apex-place RightOfR = right-of-r
+apex-place LeftOfL = left-of-l

@@ -1,0 +1,5 @@
+mod Size
+mod Limits
+mod Back
+pub mod Whole
+pub mod Examples
