@@ -144,7 +144,7 @@ impl Reply {
 }
 
 /// One method for each public call.
-pub trait Calls {
+pub trait Calls: Sync {
     fn check(&self, lists: Lists<'_>) -> Reply;
 
     fn read(&self, file: &[u8], corners: &mut [i32], cells: &mut [u16], doors: &mut [u16])

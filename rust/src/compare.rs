@@ -10,10 +10,13 @@ pub use trial::{Asked, AskedOfBytes, Both, Outcome, Trial};
 use crate::calls::Calls;
 use crate::generate::{self, Case};
 use std::fmt;
+use std::num::NonZero;
+use std::sync::atomic::{AtomicU64, Ordering};
+use std::thread;
 
 /// The printing program is a process for each input, so only one case in so
 /// many is put to it.
-const PROGRAM_EVERY: usize = 50;
+const PROGRAM_EVERY: u64 = 50;
 
 /// How often each reply number came up, for each call.
 #[derive(Clone, Debug, Default, PartialEq, Eq)]
@@ -50,6 +53,19 @@ impl Tally {
         if let Some(count) = self.replies[call as usize].get_mut(number as usize) {
             *count += 1;
         }
+    }
+
+    /// Both tallies as one.
+    fn with(mut self, other: &Tally) -> Tally {
+        let sums = self.replies.iter_mut().flatten();
+        sums.zip(other.replies.iter().flatten())
+            .for_each(|(sum, count)| *sum += count);
+        self.cases += other.cases;
+        self.directions += other.directions;
+        self.changes += other.changes;
+        self.rows += other.rows;
+        self.crossings += other.crossings;
+        self
     }
 
     /// How often a reply number came up in any call.
@@ -95,8 +111,8 @@ impl fmt::Display for Mismatch {
     }
 }
 
-/// Runs the cases of a seed through both implementors, and stops at the first
-/// mismatch.
+/// Runs the cases of a seed through both implementors. Where some do not
+/// match, the first of them is given back.
 pub fn compare(
     left: &dyn Calls,
     right: &dyn Calls,
@@ -104,24 +120,25 @@ pub fn compare(
     count: u64,
 ) -> Result<Tally, Box<Mismatch>> {
     let both = Both { left, right };
-    let mut tally = Tally::default();
-    for number in 0..count {
-        for trial in trials(generate::case(seed, number)) {
-            if trial.run(both, &mut tally).is_err() {
-                let run = |trial: &Trial| trial.run(both, &mut Tally::default());
-                return Err(mismatch(number, trial, run));
-            }
-        }
+    let (tallies, failed) = on_all_processors(count, 1, |number, tally: &mut Tally| {
+        let mut trials = trials(generate::case(seed, number)).into_iter();
+        let failed = trials.find(|trial| trial.run(both, tally).is_err());
         tally.cases += 1;
+        failed
+    });
+    match failed {
+        Some((number, trial)) => Err(mismatch(number, trial, |trial| {
+            trial.run(both, &mut Tally::default())
+        })),
+        None => Ok(tallies.iter().fold(Tally::default(), Tally::with)),
     }
-    Ok(tally)
 }
 
 /// Puts the inputs of some of a seed's cases to the printing program itself,
-/// and gives back of how many. It stops at the first mismatch with the paper
-/// program.
+/// and gives back of how many. Where some do not match the paper program, the
+/// first of them is given back.
 pub fn compare_program(
-    program: impl Fn(&[u8]) -> Vec<u8>,
+    program: impl Fn(&[u8]) -> Vec<u8> + Sync,
     seed: u64,
     count: u64,
 ) -> Result<u64, Box<Mismatch>> {
@@ -129,15 +146,49 @@ pub fn compare_program(
         Trial::Bytes(input, AskedOfBytes::Print) => trial::run_program(input, &program),
         _ => Ok(()),
     };
-    let mut inputs = 0;
-    for number in (0..count).step_by(PROGRAM_EVERY) {
+    let (inputs, failed) = on_all_processors(count, PROGRAM_EVERY, |number, inputs: &mut u64| {
         let trial = Trial::Bytes(generate::case(seed, number).input, AskedOfBytes::Print);
-        if run(&trial).is_err() {
-            return Err(mismatch(number, trial, run));
-        }
-        inputs += 1;
+        *inputs += 1;
+        run(&trial).is_err().then_some(trial)
+    });
+    match failed {
+        Some((number, trial)) => Err(mismatch(number, trial, run)),
+        None => Ok(inputs.iter().sum()),
     }
-    Ok(inputs)
+}
+
+/// Runs the cases 0, `every`, 2·`every`, .. below `count`, a thread for each
+/// processor. Gives back what each thread has counted, and the trial that failed
+/// in the least case, if any did, whichever thread met it.
+fn on_all_processors<T: Default + Send>(
+    count: u64,
+    every: u64,
+    run: impl Fn(u64, &mut T) -> Option<Trial> + Sync,
+) -> (Vec<T>, Option<(u64, Trial)>) {
+    let threads = thread::available_parallelism().map_or(1, NonZero::get) as u64;
+    let least = AtomicU64::new(u64::MAX);
+    let part = |first: u64| {
+        let mut counted = T::default();
+        let numbers = (first * every..count).step_by((threads * every) as usize);
+        for number in numbers.take_while(|&number| number < least.load(Ordering::Relaxed)) {
+            if let Some(trial) = run(number, &mut counted) {
+                least.fetch_min(number, Ordering::Relaxed);
+                return (counted, Some((number, trial)));
+            }
+        }
+        (counted, None)
+    };
+    let (counted, failed): (Vec<T>, Vec<_>) = thread::scope(|scope| {
+        let started: Vec<_> = (0..threads)
+            .map(|first| scope.spawn(move || part(first)))
+            .collect();
+        started
+            .into_iter()
+            .map(|thread| thread.join().expect("a trial does not panic"))
+            .unzip()
+    });
+    let failed = failed.into_iter().flatten();
+    (counted, failed.min_by_key(|&(number, _)| number))
 }
 
 fn mismatch(case: u64, trial: Trial, run: impl Fn(&Trial) -> Outcome) -> Box<Mismatch> {

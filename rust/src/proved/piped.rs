@@ -5,7 +5,7 @@
 use crate::calls::{DoorChange, Lists, Reply, Stand};
 use std::io::{Read, Write};
 use std::process::{Child, ChildStdin, ChildStdout, Command, Stdio};
-use std::sync::{Mutex, PoisonError};
+use std::sync::{Mutex, MutexGuard, PoisonError};
 
 /// The functions, as `bridge/serve.c` numbers them.
 #[derive(Clone, Copy)]
@@ -155,14 +155,19 @@ fn numbers_of<T, const N: usize>(
 /// As large as a program's own stack.
 const STACK: usize = 8 << 20;
 
-static SERVER: Mutex<Option<Server>> = Mutex::new(None);
+/// The servers that wait for a request: one for each thread that has asked.
+static IDLE: Mutex<Vec<Server>> = Mutex::new(Vec::new());
+
+fn idle() -> MutexGuard<'static, Vec<Server>> {
+    IDLE.lock().unwrap_or_else(PoisonError::into_inner)
+}
 
 fn ask(function: Function, request: &Request<'_>) -> Answer {
     // A server that fails is not put back, and the next call starts another.
-    let mut idle = SERVER.lock().unwrap_or_else(PoisonError::into_inner);
-    let mut server = idle.take().unwrap_or_else(|| Server::start(STACK));
+    let waiting = idle().pop();
+    let mut server = waiting.unwrap_or_else(|| Server::start(STACK));
     let answer = server.ask(function, request);
-    *idle = Some(server);
+    idle().push(server);
     answer
 }
 
