@@ -6,6 +6,7 @@ use lib.IntN.{ℤ, pos}
 use Rattle.plane.specs.Side.{Point, side}
 use Rattle.plan.specs.Lists.{start, next, neighbour, answers, back}
 use Rattle.plan.specs.Least.{least}
+use Rattle.plan.specs.PlanQ.{corners-of-Q, cells-of-Q, doors-of-Q}
 use Rattle.plan.specs.Check.{names}
 use Rattle.plan.specs.Setting.{shut, bars, ends}
 use Rattle.expand.specs.Sight.{follow}
@@ -24,18 +25,12 @@ pub adjacent-visits-stay-two-rows : shut-rows 5 9 (listed 7 1 2 (1 ∷ 5 ∷ [])
 unfolding is-door crosses side-seen before same-to-door last joined pieces is-run door-row shut-piece shut-rows
 adjacent-visits-stay-two-rows = refl
 
--- plan Q: its corners, its cells, its door and the stand (6,3) in cell 0
-abbrev corners : List ℤ
-corners = pos 0 ∷ pos 0 ∷ pos 10 ∷ pos 0 ∷ pos 10 ∷ pos 10 ∷ pos 0 ∷ pos 10 ∷ []
-
-abbrev cells : List ℕ
-cells = 0 ∷ 1 ∷ 2 ∷ 65535 ∷ 65535 ∷ 1 ∷ 0 ∷ 2 ∷ 3 ∷ 0 ∷ 65535 ∷ 65535 ∷ []
-
+-- plan Q, and the stand (6,3) in its cell 0
 abbrev q : Point
 q = record { x = pos 6; y = pos 3 }
 
 abbrev seen : ℕ → List Routed
-seen w = routed (sight-from corners cells (2 ∷ []) w q 0)
+seen w = routed (sight-from corners-of-Q cells-of-Q doors-of-Q w q 0)
 
 pub plan-Q-open : seen 0 ≡ listed 0 0 1 [] ∷ listed 1 1 2 [] ∷ listed 4 2 3 (2 ∷ []) ∷ listed 5 3 0 (2 ∷ []) ∷ []
 unfolding routed follow ends bars names shut least back answers neighbour start next placed side

@@ -21,7 +21,8 @@ use Rattle.expand.specs.Floor.{placed}
 use Rattle.sight.specs.Listing.{viewed, listing-numbers, listing-row-count, listing-crossings}
 use Rattle.sight.specs.declared.list.Listed.the-variants.{Rows, Refused}
 use Rattle.doors.specs.Change.{same-list, no-change, changed}
-use Rattle.manopluea.specs.Cases.{corners-of-Q, cells-of-Q, doors-of-Q, six, three, old, untouched}
+use Rattle.plan.specs.PlanQ.{corners-of-Q, cells-of-Q, doors-of-Q}
+use Rattle.manopluea.specs.Cases.{six, three, old, untouched}
 
 -- the list of case a, door open, and of case b, door shut
 abbrev list-a : List ℕ

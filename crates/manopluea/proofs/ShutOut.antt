@@ -21,7 +21,8 @@ use Rattle.sight.specs.declared.list.Listed.{Listed}
 use Rattle.sight.specs.declared.list.Listed.the-variants.{Rows, Refused}
 use Rattle.expand.specs.Sight.{follow, numbers, row-count, crossings}
 use Rattle.expand.specs.Floor.{placed}
-use Rattle.manopluea.specs.Cases.{corners-of-Q, cells-of-Q, doors-of-Q, six, three, untouched}
+use Rattle.plan.specs.PlanQ.{corners-of-Q, cells-of-Q, doors-of-Q}
+use Rattle.manopluea.specs.Cases.{six, three, untouched}
 use Rattle.manopluea.specs.ShutOut.{sides-1-and-2-as-walls}
 use Rattle.manopluea.proofs.Cases.{the-twelve-cases}
 

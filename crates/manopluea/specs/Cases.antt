@@ -5,6 +5,7 @@ use lib.Ieee.{Float, ofBits, binary64}
 use lib.ListN.{replicate}
 use lib.IntN.{ℤ, pos, negsuc}
 use Rattle.plan.specs.Lists.{corner-count}
+use Rattle.plan.specs.PlanQ.{corners-of-Q, cells-of-Q, doors-of-Q}
 use Rattle.plan.specs.declared.Refusal.the-variants.{Setting, Stand as NoStand, Line, Outside}
 use Rattle.stand.specs.declared.spot.Stand.{Stand}
 use Rattle.stand.specs.declared.spot.Stand.the-variants.{Point}
@@ -12,22 +13,12 @@ use Rattle.sight.specs.Listing.{listed}
 use Rattle.sight.specs.declared.list.Listed.{Listed}
 use Rattle.sight.specs.declared.list.Listed.the-variants.{Rows, Refused}
 
--- the plan Q of document 01
-abbrev pub corners-of-Q : List ℤ
-corners-of-Q = pos 0 ∷ pos 0 ∷ pos 10 ∷ pos 0 ∷ pos 10 ∷ pos 10 ∷ pos 0 ∷ pos 10 ∷ []
-
-abbrev pub cells-of-Q : List ℕ
-cells-of-Q = 0 ∷ 1 ∷ 2 ∷ 65535 ∷ 65535 ∷ 1 ∷ 0 ∷ 2 ∷ 3 ∷ 0 ∷ 65535 ∷ 65535 ∷ []
-
 -- Q+P: corner 4 at P, neighbour 1 of cell 1 set to 2, and cell 2 of corners 3, 2, 4
 abbrev pub corners-of-Q+ : ℤ → ℤ → List ℤ
 corners-of-Q+ x y = corners-of-Q ++ (x ∷ y ∷ [])
 
 abbrev pub cells-of-Q+ : List ℕ
 cells-of-Q+ = 0 ∷ 1 ∷ 2 ∷ 65535 ∷ 65535 ∷ 1 ∷ 0 ∷ 2 ∷ 3 ∷ 0 ∷ 2 ∷ 65535 ∷ 3 ∷ 2 ∷ 4 ∷ 1 ∷ 65535 ∷ 65535 ∷ []
-
-abbrev pub doors-of-Q : List ℕ
-doors-of-Q = 2 ∷ []
 
 pub record Case : Type 0 where
   pub corners : List ℤ

@@ -5,3 +5,4 @@ pub mod Reply
 pub mod Check
 pub mod Sound
 pub mod Setting
+pub mod PlanQ

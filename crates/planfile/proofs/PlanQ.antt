@@ -4,18 +4,10 @@ use mathlib.Core.List.{List, [], _∷_, _++_}
 use mathlib.Core.Path.{_≡_, refl}
 use Prim.Native.Nat.{ℕ}
 use lib.IntN.{ℤ, pos, negsuc}
+use Rattle.plan.specs.PlanQ.{corners-of-Q, cells-of-Q, doors-of-Q}
 use Rattle.records.specs.Bytes.{bytes, number-at, all-bytes, numbers-at, complement, signed}
 use Rattle.records.specs.Record.{record-of, corner-record, cell-record, door-record, end-of, is-record, framed}
 use Rattle.planfile.specs.File.{file-of, corners-in}
-
-abbrev corners : List ℤ
-corners = pos 0 ∷ pos 0 ∷ pos 10 ∷ pos 0 ∷ pos 10 ∷ pos 10 ∷ pos 0 ∷ pos 10 ∷ []
-
-abbrev cells : List ℕ
-cells = 0 ∷ 1 ∷ 2 ∷ 65535 ∷ 65535 ∷ 1 ∷ 0 ∷ 2 ∷ 3 ∷ 0 ∷ 65535 ∷ 65535 ∷ []
-
-abbrev doors : List ℕ
-doors = 2 ∷ []
 
 abbrev pub file : List ℕ
 file =
@@ -26,7 +18,7 @@ file =
     ++ (2 ∷ 0 ∷ 0 ∷ 0 ∷ 3 ∷ 0 ∷ [])
     ++ (2 ∷ 0 ∷ [])
 
-pub the-file-of-plan-Q : file-of corners cells doors ≡ file
+pub the-file-of-plan-Q : file-of corners-of-Q cells-of-Q doors-of-Q ≡ file
 unfolding file-of corner-record cell-record door-record record-of all-bytes bytes
 the-file-of-plan-Q = refl
 
@@ -34,7 +26,7 @@ pub the-frame-of-plan-Q : framed file ≡ true
 unfolding framed is-record end-of number-at
 the-frame-of-plan-Q = refl
 
-pub the-corners-of-plan-Q : corners-in file ≡ corners
+pub the-corners-of-plan-Q : corners-in file ≡ corners-of-Q
 unfolding corners-in numbers-at number-at signed
 the-corners-of-plan-Q = refl
 
