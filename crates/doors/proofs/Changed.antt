@@ -7,12 +7,12 @@ use borrow.Author.Tests.{lt-ltb, ltb-true, not-false}
 use lib.ListN.{length}
 use lib.IntN.{ℤ}
 use Rattle.plane.specs.Side.{Point}
-use Rattle.plan.specs.Setting.{wrong-setting}
+use Rattle.setting.specs.Setting.{wrong-setting}
 use Rattle.plan.specs.Check.{checked}
 use Rattle.plan.specs.declared.Refusal.the-variants as R
 use Rattle.plan.specs.declared.Checked.{Checked}
 use Rattle.plan.specs.declared.Checked.the-variants as C
-use Rattle.plan.proofs.Settings.{shutting-keeps-within, opening-keeps-within}
+use Rattle.setting.proofs.Settings.{shutting-keeps-within, opening-keeps-within}
 use Rattle.stand.specs.Spot.{stood}
 use Rattle.stand.specs.declared.spot.Stand.{Stand}
 use Rattle.sight.specs.Listing.{unless, view-of-spot, view-of-plan, viewed, listing-numbers, listed-from, listed}

@@ -2,13 +2,13 @@
 use mathlib.Core.List.{List, [], _∷_}
 use mathlib.Core.Path.{_≡_, refl}
 use Prim.Native.Nat.{ℕ}
-use lib.IntN.{ℤ, pos}
+use lib.IntN.{pos}
 use Rattle.plane.specs.Side.{Point, side}
 use Rattle.plan.specs.Lists.{start, next, neighbour, answers, back}
 use Rattle.plan.specs.Least.{least}
 use Rattle.plan.specs.PlanQ.{corners-of-Q, cells-of-Q, doors-of-Q}
 use Rattle.plan.specs.Check.{names}
-use Rattle.plan.specs.Setting.{shut, bars, ends}
+use Rattle.setting.specs.Setting.{shut, bars, ends}
 use Rattle.expand.specs.Sight.{follow}
 use Rattle.expand.specs.Floor.{placed}
 use Rattle.doors.specs.Route.{Routed, routed}

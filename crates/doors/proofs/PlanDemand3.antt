@@ -8,10 +8,10 @@ use lib.ListN.{length, getD}
 use lib.IntN.{ℤ}
 use Rattle.plane.specs.Side.{Point}
 use Rattle.plan.specs.Lists.{cell-count, face-count, start, back}
-use Rattle.plan.specs.Setting.{shut, with-shut, with-open, ends}
+use Rattle.setting.specs.Setting.{shut, with-shut, with-open, ends}
 use Rattle.plan.specs.Sound.{Sound}
 use Rattle.plan.proofs.Plans.{back-starts-at-the-finish, back-finishes-at-the-start, door-exists, door-is-free}
-use Rattle.plan.proofs.Settings.{opening-opens-the-door, opening-undoes-shutting, shutting-undoes-opening}
+use Rattle.setting.proofs.Settings.{opening-opens-the-door, opening-undoes-shutting, shutting-undoes-opening}
 use Rattle.stand.proofs.Located.{InCell}
 use Rattle.expand.specs.Sight.{Sight, numbers, crossings}
 use Rattle.sight.specs.Once.{At}

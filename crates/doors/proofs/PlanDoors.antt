@@ -10,11 +10,11 @@ use lib.IntN.{ℤ}
 use Rattle.plane.specs.Side.{Point}
 use Rattle.plan.specs.Limits.{wall}
 use Rattle.plan.specs.Lists.{cell-count, face-count, next, start, neighbour, back}
-use Rattle.plan.specs.Setting.{shut, with-shut, ends}
+use Rattle.setting.specs.Setting.{shut, with-shut, ends}
 use Rattle.plan.specs.Sound.{Sound}
 use Rattle.plan.proofs.Doors.{names-neither}
 use Rattle.plan.proofs.Plans.{back-is-free, back-of-back, door-exists, door-is-free, no-earlier-door-names-its-line}
-use Rattle.plan.proofs.Settings.{open-stays, shutting-changes-no-other-face, shutting-ends-sight-at-the-face, shutting-ends-sight-at-the-back, opening-frees-the-face}
+use Rattle.setting.proofs.Settings.{open-stays, shutting-changes-no-other-face, shutting-ends-sight-at-the-face, shutting-ends-sight-at-the-back, opening-frees-the-face}
 use Rattle.stand.proofs.Located.{InCell}
 use Rattle.sight.proofs.Geometry.{Geometry}
 use Rattle.doors.specs.Floors.{Shuts, Faces}

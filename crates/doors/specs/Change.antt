@@ -5,7 +5,7 @@ use Prim.Native.Nat.{ℕ}
 use lib.Dec.{eqb, ltb}
 use lib.ListN.{length}
 use lib.IntN.{ℤ}
-use Rattle.plan.specs.Setting.{shut, with-shut, with-open}
+use Rattle.setting.specs.Setting.{shut, with-shut, with-open}
 use Rattle.plan.specs.declared.Refusal.{Refusal}
 use Rattle.plan.specs.declared.Refusal.the-variants.{Change, Rows}
 use Rattle.stand.specs.declared.spot.Stand.{Stand}

@@ -12,7 +12,6 @@ ghost use Rattle.sight.specs.declared.view.View.the-variants.{From};
 ghost use Rattle.doors.specs.Change.{same-list, in-state, wished as Change·wished, changed, changed-from};
 use plan::Plan;
 use plan::Refusal;
-use plan::setting;
 use sight::list::Listed;
 use sight::list::list_from;
 use sight::view::View;

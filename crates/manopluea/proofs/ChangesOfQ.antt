@@ -10,7 +10,7 @@ use Rattle.plan.specs.Limits.{sized}
 use Rattle.plan.specs.Least.{least}
 use Rattle.plan.specs.Lists.{next, start, neighbour, answers, back}
 use Rattle.plan.specs.Check.{outside, wrong-corner, wrong-cell, wrong-neighbour, names, wrong-door, checked}
-use Rattle.plan.specs.Setting.{shut, with-shut, with-open, wrong-setting, bars, ends}
+use Rattle.setting.specs.Setting.{shut, with-shut, with-open, wrong-setting, bars, ends}
 use Rattle.plan.specs.declared.Refusal.the-variants.{Change, Rows as Untrue}
 use Rattle.number.specs.Whole.{whole}
 use Rattle.stand.specs.Spot.{whole-point, stood}

@@ -11,7 +11,7 @@ use Rattle.plan.specs.Limits.{sized}
 use Rattle.plan.specs.Least.{least}
 use Rattle.plan.specs.Lists.{next, start, neighbour, answers, back}
 use Rattle.plan.specs.Check.{outside, wrong-corner, wrong-cell, wrong-neighbour, names, wrong-door, checked}
-use Rattle.plan.specs.Setting.{shut, wrong-setting, bars, ends}
+use Rattle.setting.specs.Setting.{shut, wrong-setting, bars, ends}
 use Rattle.number.specs.Whole.{whole}
 use Rattle.stand.specs.declared.spot.Stand.the-variants.{Point}
 use Rattle.stand.specs.Spot.{whole-point, stood}

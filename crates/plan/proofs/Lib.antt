@@ -6,5 +6,4 @@ pub mod Doors
 pub mod Checks
 pub mod Accepted
 pub mod Plans
-pub mod Settings
 pub mod Unique

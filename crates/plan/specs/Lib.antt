@@ -4,5 +4,4 @@ pub mod Lists
 pub mod Reply
 pub mod Check
 pub mod Sound
-pub mod Setting
 pub mod PlanQ

@@ -1,4 +1,4 @@
-// Plans: the limits, the plan check and the door setting (document 01, "Side value and plan check").
+// Plans: the limits and the plan check (document 01, "Side value and plan check").
 ghost use mathlib.Core.Path.{_≡_};
 ghost use lib.ListN.{length};
 ghost use Rattle.plan.specs.Limits.{sized};
@@ -10,7 +10,6 @@ mod door;
 pub mod face;
 pub mod neighbour;
 pub mod reply;
-pub mod setting;
 
 // The counts of an accepted plan; its constants are the limits of every plan.
 pub struct Plan {

@@ -3,7 +3,7 @@ use mathlib.Core.Bool.{true}
 use mathlib.Core.List.{List, [], _∷_, _++_}
 use mathlib.Core.Path.{_≡_, refl}
 use Prim.Native.Nat.{ℕ}
-use lib.IntN.{ℤ, pos, negsuc}
+use lib.IntN.{negsuc}
 use Rattle.plan.specs.PlanQ.{corners-of-Q, cells-of-Q, doors-of-Q}
 use Rattle.records.specs.Bytes.{bytes, number-at, all-bytes, numbers-at, complement, signed}
 use Rattle.records.specs.Record.{record-of, corner-record, cell-record, door-record, end-of, is-record, framed}

@@ -11,7 +11,7 @@ use Rattle.plan.specs.Limits.{sized}
 use Rattle.plan.specs.Least.{least}
 use Rattle.plan.specs.Lists.{next, start, neighbour, answers, back}
 use Rattle.plan.specs.Check.{outside, wrong-corner, wrong-cell, wrong-neighbour, names, wrong-door, checked}
-use Rattle.plan.specs.Setting.{shut, wrong-setting, bars, ends}
+use Rattle.setting.specs.Setting.{shut, wrong-setting, bars, ends}
 use Rattle.records.specs.Bytes.{number-at, numbers-at, signed}
 use Rattle.records.specs.Record.{end-of, is-record, framed}
 use Rattle.planfile.specs.File.{corners-in, cells-in, doors-in}

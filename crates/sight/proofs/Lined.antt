@@ -11,12 +11,12 @@ use lib.IntN.{ℤ}
 use Rattle.plane.specs.Side.{Point}
 use Rattle.plan.specs.Limits.{wall}
 use Rattle.plan.specs.Lists.{corner-count, cell-count, face-count, next, back}
-use Rattle.plan.specs.Setting.{ends}
+use Rattle.setting.specs.Setting.{ends}
 use Rattle.plan.specs.Sound.{Sound}
 use Rattle.plan.proofs.Least.{not-both}
 use Rattle.plan.proofs.Faces.{next-below}
 use Rattle.plan.proofs.Plans.{counts, corner-exists, back-exists}
-use Rattle.plan.proofs.Settings.{sight-ends-at-a-wall}
+use Rattle.setting.proofs.Settings.{sight-ends-at-a-wall}
 use Rattle.expand.specs.Sight.{Floor, Place, Sight, follow, hand-on}
 use Rattle.expand.specs.Sight.Place.{between, right-of-r, left-of-l}
 use Rattle.expand.specs.Sight.Sight.{pass, both}

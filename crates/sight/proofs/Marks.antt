@@ -14,13 +14,13 @@ use Rattle.plan.specs.Limits.{wall}
 use Rattle.plan.specs.Least.{least}
 use Rattle.plan.specs.Lists.{cell-count, face-count, start, neighbour, back}
 use Rattle.plan.specs.Check.{names}
-use Rattle.plan.specs.Setting.{shut, bars, ends}
+use Rattle.setting.specs.Setting.{shut, bars, ends}
 use Rattle.plan.specs.Sound.{NeighboursRight, Sound}
 use Rattle.plan.proofs.Least.{not-both, holds-at-least, none-holds}
 use Rattle.plan.proofs.Neighbours.{or-true, right-and-free}
 use Rattle.plan.proofs.Doors.{names-the-face, names-the-back, names-neither}
 use Rattle.plan.proofs.Plans.{back-exists, back-of-back, door-exists, door-is-free}
-use Rattle.plan.proofs.Settings.{an-open-door-bars-nothing, a-door-elsewhere-bars-nothing, sight-ends-at-a-wall, sight-passes-elsewhere}
+use Rattle.setting.proofs.Settings.{an-open-door-bars-nothing, a-door-elsewhere-bars-nothing, sight-ends-at-a-wall, sight-passes-elsewhere}
 use Rattle.sight.specs.Lined.{across, Lined, shut-line}
 
 -- ---- what is across a face

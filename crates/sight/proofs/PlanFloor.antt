@@ -16,7 +16,7 @@ use Rattle.plane.proofs.Found.{side-from-the-stand, side-positive-is-beyond}
 use Rattle.plan.specs.Limits.{wall}
 use Rattle.plan.specs.Least.{least}
 use Rattle.plan.specs.Lists.{cell-count, face-count, corner-at, next, start, neighbour, back}
-use Rattle.plan.specs.Setting.{ends, bars}
+use Rattle.setting.specs.Setting.{ends, bars}
 use Rattle.plan.specs.Sound.{Sound}
 use Rattle.plan.proofs.Least.{not-both}
 use Rattle.plan.proofs.Faces.{next-below, next-stays-in-the-cell, next-of-next-of-next, Mate, mates, after-first, after-second, after-third}

@@ -14,7 +14,7 @@ use mir.Val.{toZ, ofZ}
 use Rattle.exact.proofs.Bounds.{coordinate}
 use Rattle.plane.specs.Side.{Point, point, Near}
 use Rattle.plan.specs.Lists.{corner-count}
-use Rattle.plan.specs.Setting.{wrong-setting}
+use Rattle.setting.specs.Setting.{wrong-setting}
 use Rattle.plan.specs.Check.{checked}
 use Rattle.plan.specs.Sound.{CornersNear, CornersExist, Sound}
 use Rattle.plan.specs.declared.Plan.{Plan}

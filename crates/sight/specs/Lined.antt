@@ -8,7 +8,7 @@ use lib.ListN.{length, getD, set}
 use lib.IntN.{ℤ}
 use Rattle.plan.specs.Limits.{wall}
 use Rattle.plan.specs.Lists.{cell-count, face-count, next, start, neighbour, back}
-use Rattle.plan.specs.Setting.{ends}
+use Rattle.setting.specs.Setting.{ends}
 use Rattle.plan.specs.Sound.{Sound}
 
 -- the cells and doors of an accepted plan, whatever its corners

@@ -9,7 +9,7 @@ use lib.IntN.{ℤ}
 use Rattle.plane.specs.Side.{Point}
 use Rattle.plane.specs.Cone.{minus}
 use Rattle.plan.specs.Lists.{corner-count, cell-count, corner-at, next, start, back}
-use Rattle.plan.specs.Setting.{ends, wrong-setting}
+use Rattle.setting.specs.Setting.{ends, wrong-setting}
 use Rattle.plan.specs.Check.{checked}
 use Rattle.plan.specs.declared.Refusal.{Refusal}
 use Rattle.plan.specs.declared.Refusal.the-variants as R

@@ -9,7 +9,6 @@ ghost use Rattle.plan.specs.Sound.{NeighboursRight};
 ghost use Rattle.sight.specs.Lined.{SoundCells, facing as Lined·facing, Facing, Lined, shut-line};
 use plan::Plan;
 use plan::neighbour;
-use plan::setting;
 
 // The face of cell o that starts at corner b, or wall where o is wall.
 fn facing(cells: &[u16], o: u16, b: u16) -> u16

@@ -5,7 +5,6 @@ ghost use Rattle.stand.specs.Spot.{stood};
 ghost use Rattle.sight.specs.Listing.{viewed, view-of-spot};
 use plan::Checked;
 use plan::Refusal;
-use plan::setting;
 use stand::find::Found;
 use stand::find::locate;
 use stand::spot::Spot;

@@ -1,9 +1,9 @@
--- `plan::setting::is_wrong` meets its contract.
+-- `setting::is_wrong` meets its contract.
 use mathlib.Core.Path.{sym}
-use Rattle.plan.proofs.Settings.{not-wrong-for-64, wrong-by-the-shift}
+use Rattle.setting.proofs.Settings.{not-wrong-for-64, wrong-by-the-shift}
 use borrow.Author.Needs.{needs}
-use Rattle.plan.proofs.setting.is_wrong.Statement.{statement}
-use Rattle.plan.proofs.setting.is_wrong.Tie as tie
+use Rattle.setting.proofs.is_wrong.Statement.{statement}
+use Rattle.setting.proofs.is_wrong.Tie as tie
 
 returns : tie.Need-returns
 returns c = sym (not-wrong-for-64 _ _ (c .if1 .taken) (search needs))

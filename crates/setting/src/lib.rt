@@ -1,7 +1,7 @@
-// The door setting: bit i is one while door i is shut.
+// The door setting: bit i is one while door i is shut (document 01, "Side value and plan check").
 ghost use Prim.Native.Nat.{_<_, _≤_};
 ghost use mathlib.Core.Path.{_≡_};
-ghost use Rattle.plan.specs.Setting.{shut as Setting·shut, with-shut, with-open, wrong-setting};
+ghost use Rattle.setting.specs.Setting.{shut as Setting·shut, with-shut, with-open, wrong-setting};
 
 // Is door i shut?
 pub fn is_shut(setting: u64, i: usize) -> bool

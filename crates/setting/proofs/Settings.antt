@@ -14,14 +14,14 @@ use lib.Bits.{bitAnd, bitOr, bitXor, and-high, or-add-and, xor-add-and, or-lt}
 use lib.Dec.{eqb, ltb, lit<}
 use lib.ListN.{length, getD}
 use lib.Pow.{pow-pos, pow-mono, pow-lt, shl-exact, shr-shr}
 use Rattle.plan.specs.Limits.{wall}
 use Rattle.plan.specs.Least.{least}
 use Rattle.plan.specs.Lists.{neighbour, back}
 use Rattle.plan.specs.Check.{names}
-use Rattle.plan.specs.Setting.{shut, with-shut, with-open, wrong-setting, bars, ends}
+use Rattle.setting.specs.Setting.{shut, with-shut, with-open, wrong-setting, bars, ends}
 use Rattle.plan.proofs.Least.{not-both, none-holds, least-is-none}
 use Rattle.plan.proofs.Neighbours.{or-true}
 use Rattle.plan.proofs.Doors.{names-the-face, names-the-back, names-neither}
 
 -- ---- bit by bit
 

@@ -1,8 +1,8 @@
--- `plan::setting::shut` meets its contract.
-use Rattle.plan.proofs.Settings.{or-shuts}
+-- `setting::shut` meets its contract.
+use Rattle.setting.proofs.Settings.{or-shuts}
 use borrow.Author.Needs.{needs}
-use Rattle.plan.proofs.setting.shut.Statement.{statement}
-use Rattle.plan.proofs.setting.shut.Tie as tie
+use Rattle.setting.proofs.shut.Statement.{statement}
+use Rattle.setting.proofs.shut.Tie as tie
 
 shl-result : tie.Need-shl-result
 shl-result c = search needs

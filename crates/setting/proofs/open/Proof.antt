@@ -1,10 +1,10 @@
--- `plan::setting::open` meets its contract.
+-- `setting::open` meets its contract.
 use mathlib.Core.Path.{sym, _∙_}
-use Rattle.plan.proofs.Settings.{open-stays, xor-opens}
+use Rattle.setting.proofs.Settings.{open-stays, xor-opens}
 use borrow.Author.Tests.{not-true, not-false}
 use borrow.Author.Needs.{needs}
-use Rattle.plan.proofs.setting.open.Statement.{statement}
-use Rattle.plan.proofs.setting.open.Tie as tie
+use Rattle.setting.proofs.open.Statement.{statement}
+use Rattle.setting.proofs.open.Tie as tie
 
 shl-bit : tie.Need-shl-bit
 shl-bit c = search needs

@@ -1,9 +1,9 @@
--- `plan::setting::is_shut` meets its contract.
+-- `setting::is_shut` meets its contract.
 use mathlib.Core.Path.{refl}
-use Rattle.plan.specs.Setting.{shut}
+use Rattle.setting.specs.Setting.{shut}
 use borrow.Author.Needs.{needs}
-use Rattle.plan.proofs.setting.is_shut.Statement.{statement}
-use Rattle.plan.proofs.setting.is_shut.Tie as tie
+use Rattle.setting.proofs.is_shut.Statement.{statement}
+use Rattle.setting.proofs.is_shut.Tie as tie
 
 shr-result : tie.Need-shr-result
 shr-result c = search needs
