@@ -99,12 +99,8 @@ impl Refusal {
             Refusal::Change => (12, 0),
             Refusal::Rows => (13, 0),
         };
-        Reply {
-            number,
-            // Limits keep every place below 9,000.
-            place: place as u32,
-            values: [0; 3],
-        }
+        // Limits keep every place below 9,000.
+        Reply::refused(number, place as u32)
     }
 
     /// The refusal with this number and place, if the number is one of 1 to 13.
@@ -129,6 +125,24 @@ impl Refusal {
 }
 
 impl Reply {
+    /// Reply 0, with what is given back.
+    pub fn done(values: [u64; 3]) -> Reply {
+        Reply {
+            number: 0,
+            place: 0,
+            values,
+        }
+    }
+
+    /// A refusal's number and place.
+    pub fn refused(number: u32, place: u32) -> Reply {
+        Reply {
+            number,
+            place,
+            values: [0; 3],
+        }
+    }
+
     /// The values of reply 0, or the refusal.
     ///
     /// # Panics

@@ -187,11 +187,7 @@ fn counts(lists: Lists<'_>) -> Values {
 
 pub(crate) fn reply(result: Result<Values, Refusal>) -> Reply {
     match result {
-        Ok(values) => Reply {
-            number: 0,
-            place: 0,
-            values,
-        },
+        Ok(values) => Reply::done(values),
         Err(refusal) => refusal.reply(),
     }
 }

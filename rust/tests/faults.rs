@@ -6,54 +6,59 @@ use manopluea_compare::calls::{Calls, DoorChange, Lists, Reply, Stand};
 use manopluea_compare::compare::{compare, compare_program, Mismatch, Trial};
 use manopluea_compare::paper::{self, Floor, Paper, Row, View, WALL};
 
-/// The enum of the faults, and the list of all of them.
+/// The enum of the faults, the list of all of them, and those in the expansion.
 macro_rules! faults {
-    ($($fault:ident,)*) => {
+    (expansion { $($slip:ident,)* } elsewhere { $($fault:ident,)* }) => {
         #[derive(Clone, Copy, Debug, PartialEq, Eq)]
         enum Fault {
+            $($slip,)*
             $($fault,)*
         }
 
-        const ALL: &[Fault] = &[$(Fault::$fault,)*];
+        const ALL: &[Fault] = &[$(Fault::$slip,)* $(Fault::$fault,)*];
+        const IN_EXPANSION: &[Fault] = &[$(Fault::$slip,)*];
     };
 }
 
 faults! {
-    // In the expansion.
-    CornerOnLimitIsBetween,
-    FartherCornerBecomesLimit,
-    LineEndsBecomeLimits,
-    OtherSidesAreWalls,
-    DoubleSideValues,
-    NarrowSideValues,
-    DoorIsWallFromOneFace,
-    // In what is handed back.
-    AdjacentRowsAreJoined,
-    NothingIsWritten,
-    CrossingsAreInvented,
-    RestOfTableIsCleared,
-    RefusalClearsTable,
-    RefusalCarriesValues,
-    RoomIsAskedForRowsOnly,
-    RoomComesBeforeStand,
-    // In the door change.
-    OldListIsCopied,
-    OneRunIsShut,
-    GivenListIsTrusted,
-    ChangeComesBeforeRoom,
-    // In the stand and the finding.
-    StandIsTruncated,
-    OffsetHasNoBound,
-    HighestCellIsFound,
-    LineIsOutside,
-    // In the files.
-    LengthHasASign,
-    ReaderWritesBeforeRoom,
-    WriterClearsTheRest,
-    PlaceOfNeighbourIsItsCell,
-    LineIsItsCorners,
-    InputLimitIsExclusive,
-    LastLineHasNoEnd,
+    expansion {
+        CornerOnLimitIsBetween,
+        FartherCornerBecomesLimit,
+        LineEndsBecomeLimits,
+        OtherSidesAreWalls,
+        DoubleSideValues,
+        NarrowSideValues,
+        DoorIsWallFromOneFace,
+    }
+    elsewhere {
+        // In what is handed back.
+        AdjacentRowsAreJoined,
+        NothingIsWritten,
+        CrossingsAreInvented,
+        RestOfTableIsCleared,
+        RefusalClearsTable,
+        RefusalCarriesValues,
+        RoomIsAskedForRowsOnly,
+        RoomComesBeforeStand,
+        // In the door change.
+        OldListIsCopied,
+        OneRunIsShut,
+        GivenListIsTrusted,
+        ChangeComesBeforeRoom,
+        // In the stand and the finding.
+        StandIsTruncated,
+        OffsetHasNoBound,
+        HighestCellIsFound,
+        LineIsOutside,
+        // In the files.
+        LengthHasASign,
+        ReaderWritesBeforeRoom,
+        WriterClearsTheRest,
+        PlaceOfNeighbourIsItsCell,
+        LineIsItsCorners,
+        InputLimitIsExclusive,
+        LastLineHasNoEnd,
+    }
 }
 
 use Fault::*;
@@ -293,16 +298,7 @@ fn first_run_shut(table: &[u16], count: usize, face: u16) -> Vec<Row> {
 /// An expansion with a slip in it, as a function that calls itself; none for
 /// faults that are elsewhere.
 fn expand(lists: Lists<'_>, setting: u64, stand: Stand, slip: Fault) -> Option<(Vec<Row>, u64)> {
-    let in_expansion = [
-        CornerOnLimitIsBetween,
-        FartherCornerBecomesLimit,
-        LineEndsBecomeLimits,
-        OtherSidesAreWalls,
-        DoubleSideValues,
-        NarrowSideValues,
-        DoorIsWallFromOneFace,
-    ];
-    if !in_expansion.contains(&slip) {
+    if !IN_EXPANSION.contains(&slip) {
         return None;
     }
     let floor = Floor::check(lists).ok()?;

@@ -12,22 +12,6 @@ const LIMIT: i32 = 536_870_912;
 
 const FILL: u8 = 0xa5;
 
-fn refused(number: u32, place: u32) -> Reply {
-    Reply {
-        number,
-        place,
-        values: [0; 3],
-    }
-}
-
-fn done(values: [u64; 3]) -> Reply {
-    Reply {
-        number: 0,
-        place: 0,
-        values,
-    }
-}
-
 /// What both implementors answer.
 fn both<T: PartialEq + std::fmt::Debug>(ask: impl Fn(&dyn Calls) -> T) -> T {
     let paper = ask(&Paper);
@@ -137,23 +121,23 @@ fn coordinates_at_the_limit_and_beyond() {
     for (at, corner) in [(2, 1), (4, 2), (5, 2), (7, 3)] {
         let mut plan = plan_q();
         plan.corners[at] = LIMIT;
-        assert_eq!(check(&plan), done([4, 2, 1]), "number {at}");
+        assert_eq!(check(&plan), Reply::done([4, 2, 1]), "number {at}");
         plan.corners[at] = LIMIT + 1;
-        assert_eq!(check(&plan), refused(3, corner), "number {at}");
+        assert_eq!(check(&plan), Reply::refused(3, corner), "number {at}");
     }
     for at in [0, 1] {
         let mut plan = plan_q();
         plan.corners[at] = -LIMIT;
-        assert_eq!(check(&plan), done([4, 2, 1]), "number {at}");
+        assert_eq!(check(&plan), Reply::done([4, 2, 1]), "number {at}");
         plan.corners[at] = -LIMIT - 1;
-        assert_eq!(check(&plan), refused(3, 0), "number {at}");
+        assert_eq!(check(&plan), Reply::refused(3, 0), "number {at}");
     }
     for beyond in [i32::MIN, i32::MAX] {
         let mut plan = plan_q();
         plan.corners[6] = beyond;
-        assert_eq!(check(&plan), refused(3, 3));
+        assert_eq!(check(&plan), Reply::refused(3, 3));
         plan.corners[3] = beyond;
-        assert_eq!(check(&plan), refused(3, 1));
+        assert_eq!(check(&plan), Reply::refused(3, 1));
     }
 }
 
@@ -168,7 +152,7 @@ fn cells_on_their_back_flat_or_of_missing_corners() {
     ] {
         let mut plan = plan_q();
         plan.cells[6 * cell..6 * cell + 3].copy_from_slice(&corners);
-        assert_eq!(check(&plan), refused(4, place), "{corners:?}");
+        assert_eq!(check(&plan), Reply::refused(4, place), "{corners:?}");
     }
 }
 
@@ -188,7 +172,7 @@ fn neighbours_that_do_not_answer() {
     ] {
         let mut plan = plan_q();
         plan.cells[at] = neighbour;
-        assert_eq!(check(&plan), refused(5, face), "{neighbour} at {at}");
+        assert_eq!(check(&plan), Reply::refused(5, face), "{neighbour} at {at}");
     }
 }
 
@@ -199,26 +183,26 @@ fn doors_that_are_wrong() {
         plan.doors = doors.to_vec();
         check(&plan)
     };
-    assert_eq!(reply(&[]), done([4, 2, 0]));
-    assert_eq!(reply(&[2]), done([4, 2, 1]));
-    assert_eq!(reply(&[3]), done([4, 2, 1]));
+    assert_eq!(reply(&[]), Reply::done([4, 2, 0]));
+    assert_eq!(reply(&[2]), Reply::done([4, 2, 1]));
+    assert_eq!(reply(&[3]), Reply::done([4, 2, 1]));
     // Named twice, from the other face, on a wall, beyond the faces.
-    assert_eq!(reply(&[2, 2]), refused(6, 1));
-    assert_eq!(reply(&[2, 3]), refused(6, 1));
-    assert_eq!(reply(&[3, 2]), refused(6, 1));
-    assert_eq!(reply(&[2, 0]), refused(6, 1));
-    assert_eq!(reply(&[0, 2, 3]), refused(6, 0));
-    assert_eq!(reply(&[6]), refused(6, 0));
-    assert_eq!(reply(&[WALL]), refused(6, 0));
+    assert_eq!(reply(&[2, 2]), Reply::refused(6, 1));
+    assert_eq!(reply(&[2, 3]), Reply::refused(6, 1));
+    assert_eq!(reply(&[3, 2]), Reply::refused(6, 1));
+    assert_eq!(reply(&[2, 0]), Reply::refused(6, 1));
+    assert_eq!(reply(&[0, 2, 3]), Reply::refused(6, 0));
+    assert_eq!(reply(&[6]), Reply::refused(6, 0));
+    assert_eq!(reply(&[WALL]), Reply::refused(6, 0));
 }
 
 #[test]
 fn counts_at_each_limit_and_beyond() {
     let reply = |corners, cells| check(&stack(corners, cells));
-    assert_eq!(reply(3, 1), done([3, 1, 0]));
-    assert_eq!(reply(2_048, 1), done([2_048, 1, 0]));
-    assert_eq!(reply(3, 3_000), done([3, 3_000, 0]));
-    assert_eq!(reply(2_048, 3_000), done([2_048, 3_000, 0]));
+    assert_eq!(reply(3, 1), Reply::done([3, 1, 0]));
+    assert_eq!(reply(2_048, 1), Reply::done([2_048, 1, 0]));
+    assert_eq!(reply(3, 3_000), Reply::done([3, 3_000, 0]));
+    assert_eq!(reply(2_048, 3_000), Reply::done([2_048, 3_000, 0]));
     for (corners, cells) in [
         (0, 1),
         (2, 1),
@@ -228,12 +212,16 @@ fn counts_at_each_limit_and_beyond() {
         (20_000, 9_000),
     ] {
         let reply = reply(corners, cells);
-        assert_eq!(reply, refused(2, 0), "{corners} corners, {cells} cells");
+        assert_eq!(
+            reply,
+            Reply::refused(2, 0),
+            "{corners} corners, {cells} cells"
+        );
     }
     let doors = |count| check(&strip(100, count));
-    assert_eq!(doors(0), done([102, 100, 0]));
-    assert_eq!(doors(64), done([102, 100, 64]));
-    assert_eq!(doors(65), refused(2, 0));
+    assert_eq!(doors(0), Reply::done([102, 100, 0]));
+    assert_eq!(doors(64), Reply::done([102, 100, 64]));
+    assert_eq!(doors(65), Reply::refused(2, 0));
 }
 
 #[test]
@@ -241,15 +229,15 @@ fn lists_that_are_no_multiples() {
     for cut in 1..6 {
         let mut plan = plan_q();
         plan.cells.truncate(12 - cut);
-        assert_eq!(check(&plan), refused(1, 0));
+        assert_eq!(check(&plan), Reply::refused(1, 0));
         // The frame comes before the size.
         plan.doors = vec![2; 65];
-        assert_eq!(check(&plan), refused(1, 0));
+        assert_eq!(check(&plan), Reply::refused(1, 0));
     }
     let mut plan = plan_q();
     plan.corners.pop();
-    assert_eq!(check(&plan), refused(1, 0));
-    assert_eq!(check(&Plan::default()), refused(2, 0));
+    assert_eq!(check(&plan), Reply::refused(1, 0));
+    assert_eq!(check(&Plan::default()), Reply::refused(2, 0));
 }
 
 #[test]
@@ -258,9 +246,9 @@ fn plan_q_cut_at_every_length() {
     assert_eq!(file.len(), 76);
     for end in 0..file.len() {
         let (reply, _) = read(&file[..end], [8, 12, 1]);
-        assert_eq!(reply, refused(1, 0), "cut at {end}");
+        assert_eq!(reply, Reply::refused(1, 0), "cut at {end}");
     }
-    assert_eq!(read(&file, [8, 12, 1]), (done([4, 2, 1]), plan_q()));
+    assert_eq!(read(&file, [8, 12, 1]), (Reply::done([4, 2, 1]), plan_q()));
 }
 
 #[test]
@@ -302,12 +290,20 @@ fn files_with_wrong_frames() {
         for length in [u32::MAX, u32::MAX - 5, 0x8000_0000, 0x7fff_ffff] {
             let mut other = file.clone();
             other[at..at + 4].copy_from_slice(&length.to_le_bytes());
-            assert_eq!(read(&other, room).0, refused(1, 0), "{length} at {at}");
+            assert_eq!(
+                read(&other, room).0,
+                Reply::refused(1, 0),
+                "{length} at {at}"
+            );
         }
     }
     for extra in [1, 2, 6, 8] {
         let longer = [file.clone(), vec![0; extra]].concat();
-        assert_eq!(read(&longer, room).0, refused(1, 0), "{extra} too many");
+        assert_eq!(
+            read(&longer, room).0,
+            Reply::refused(1, 0),
+            "{extra} too many"
+        );
     }
     for order in [
         vec![0, 2, 1],
@@ -321,42 +317,45 @@ fn files_with_wrong_frames() {
         vec![],
     ] {
         let other: Vec<u8> = order.iter().flat_map(|&i| records[i]).copied().collect();
-        assert_eq!(read(&other, room).0, refused(1, 0), "{order:?}");
+        assert_eq!(read(&other, room).0, Reply::refused(1, 0), "{order:?}");
     }
     // Bodies that are no multiples of 8, 12 and 2.
     for (at, body, by) in [(0, 32, 4), (38, 24, 6), (68, 2, 1)] {
         let mut other = file.clone();
         other.splice(at + 6..at + 6 + by, []);
         other[at] = (body - by) as u8;
-        assert_eq!(read(&other, room).0, refused(1, 0), "body at {at}");
+        assert_eq!(read(&other, room).0, Reply::refused(1, 0), "body at {at}");
     }
     // Bodies of no bytes: no doors are right, no corners are too few.
     let no_doors = [records[0], records[1], &[0, 0, 0, 0, 3, 0]].concat();
-    assert_eq!(read(&no_doors, room).0, done([4, 2, 0]));
+    assert_eq!(read(&no_doors, room).0, Reply::done([4, 2, 0]));
     let no_corners = [&[0, 0, 0, 0, 1, 0], records[1], records[2]].concat();
-    assert_eq!(read(&no_corners, room).0, refused(2, 0));
+    assert_eq!(read(&no_corners, room).0, Reply::refused(2, 0));
 }
 
 #[test]
 fn room_for_the_reader_the_writer_and_the_listing() {
     let file = encode(plan_q().lists());
     for room in [[7, 12, 1], [8, 11, 1], [8, 12, 0], [0, 0, 0]] {
-        assert_eq!(read(&file, room).0, refused(11, 0), "{room:?}");
+        assert_eq!(read(&file, room).0, Reply::refused(11, 0), "{room:?}");
     }
-    assert_eq!(read(&file, [9, 14, 3]).0, done([4, 2, 1]));
+    assert_eq!(read(&file, [9, 14, 3]).0, Reply::done([4, 2, 1]));
     for room in [0, 1, 75] {
-        assert_eq!(write(&plan_q(), room).0, refused(11, 0), "{room}");
+        assert_eq!(write(&plan_q(), room).0, Reply::refused(11, 0), "{room}");
     }
     let (reply, longer) = write(&plan_q(), 80);
-    assert_eq!(reply, done([4, 2, 1]));
+    assert_eq!(reply, Reply::done([4, 2, 1]));
     assert_eq!(longer, [file, vec![FILL; 4]].concat());
     let beside = Stand::Point(6.0, 3.0);
     for room in [0, 9, 11] {
         let fill = vec![u16::from(FILL); room];
-        assert_eq!(list(&plan_q(), 1, beside, room), (refused(11, 0), fill));
+        assert_eq!(
+            list(&plan_q(), 1, beside, room),
+            (Reply::refused(11, 0), fill)
+        );
     }
     let (reply, table) = list(&plan_q(), 1, beside, 13);
-    assert_eq!(reply, done([3, 0, 0]));
+    assert_eq!(reply, Reply::done([3, 0, 0]));
     let fill = u16::from(FILL);
     assert_eq!(table, [0, 0, 1, 1, 1, 2, 2, 2, 0, fill, fill, fill, fill]);
 }
@@ -367,17 +366,33 @@ fn settings_with_high_bits() {
     let bit = 1 << 63;
     // The door on line 63 is shut, and nothing is seen behind it.
     let (reply, _) = list(&strip(100, 64), bit, beside, 306);
-    assert_eq!(reply, done([66, 63, 0]));
-    assert_eq!(list(&strip(100, 64), 0, beside, 306).0, done([102, 99, 0]));
-    assert_eq!(list(&strip(100, 64), !0, beside, 306).0, done([3, 0, 0]));
+    assert_eq!(reply, Reply::done([66, 63, 0]));
+    assert_eq!(
+        list(&strip(100, 64), 0, beside, 306).0,
+        Reply::done([102, 99, 0])
+    );
+    assert_eq!(
+        list(&strip(100, 64), !0, beside, 306).0,
+        Reply::done([3, 0, 0])
+    );
     for (doors, setting) in [(63, bit), (63, !0), (0, 1), (0, bit), (1, 2), (62, 1 << 62)] {
         let (reply, _) = list(&strip(100, doors), setting, beside, 306);
-        assert_eq!(reply, refused(7, 0), "{doors} doors, setting {setting:#x}");
+        assert_eq!(
+            reply,
+            Reply::refused(7, 0),
+            "{doors} doors, setting {setting:#x}"
+        );
     }
     // The setting comes before the stand, and after the plan.
     let nowhere = Stand::Point(f64::NAN, 0.5);
-    assert_eq!(list(&strip(100, 63), bit, nowhere, 0).0, refused(7, 0));
-    assert_eq!(list(&strip(100, 65), bit, nowhere, 0).0, refused(2, 0));
+    assert_eq!(
+        list(&strip(100, 63), bit, nowhere, 0).0,
+        Reply::refused(7, 0)
+    );
+    assert_eq!(
+        list(&strip(100, 65), bit, nowhere, 0).0,
+        Reply::refused(2, 0)
+    );
 }
 
 /// Numbers, and whether each is accepted as millimetres.
@@ -449,8 +464,8 @@ fn numbers_of_a_stand() {
         }
     }
     // Minus zero reads as 0; both are on the wall below.
-    assert_eq!(find(&plan, Stand::Point(6.0, -0.0)), refused(9, 0));
-    assert_eq!(find(&plan, Stand::Point(6.0, 0.0)), refused(9, 0));
+    assert_eq!(find(&plan, Stand::Point(6.0, -0.0)), Reply::refused(9, 0));
+    assert_eq!(find(&plan, Stand::Point(6.0, 0.0)), Reply::refused(9, 0));
 }
 
 /// A square of two cells from one end of the coordinates to the other.
@@ -465,25 +480,25 @@ fn offsets() {
     let limit = f64::from(LIMIT);
     let plan = widest();
     let reply = |corner, dx, dy| find(&plan, Stand::Offset(corner, dx, dy));
-    assert_eq!(reply(2, -1.0, -2.0), done([0, 0, 0]));
-    assert_eq!(reply(2, -2.0, -1.0), done([1, 0, 0]));
+    assert_eq!(reply(2, -1.0, -2.0), Reply::done([0, 0, 0]));
+    assert_eq!(reply(2, -2.0, -1.0), Reply::done([1, 0, 0]));
     // The sum passes a limit by one; the offset alone does.
-    assert_eq!(reply(2, 1.0, -2.0), refused(8, 0));
-    assert_eq!(reply(2, -2.0, 1.0), refused(8, 0));
-    assert_eq!(reply(0, -1.0, 2.0), refused(8, 0));
-    assert_eq!(reply(0, 2.0, -1.0), refused(8, 0));
-    assert_eq!(reply(0, limit + 1.0, 5.0), refused(8, 0));
-    assert_eq!(reply(2, -limit - 1.0, -5.0), refused(8, 0));
+    assert_eq!(reply(2, 1.0, -2.0), Reply::refused(8, 0));
+    assert_eq!(reply(2, -2.0, 1.0), Reply::refused(8, 0));
+    assert_eq!(reply(0, -1.0, 2.0), Reply::refused(8, 0));
+    assert_eq!(reply(0, 2.0, -1.0), Reply::refused(8, 0));
+    assert_eq!(reply(0, limit + 1.0, 5.0), Reply::refused(8, 0));
+    assert_eq!(reply(2, -limit - 1.0, -5.0), Reply::refused(8, 0));
     // At the limits themselves.
-    assert_eq!(reply(0, limit, limit), refused(9, 0));
-    assert_eq!(reply(2, -limit, -limit + 1.0), done([1, 0, 0]));
-    assert_eq!(reply(0, 0.0, -0.0), refused(9, 0));
+    assert_eq!(reply(0, limit, limit), Reply::refused(9, 0));
+    assert_eq!(reply(2, -limit, -limit + 1.0), Reply::done([1, 0, 0]));
+    assert_eq!(reply(0, 0.0, -0.0), Reply::refused(9, 0));
     // The corner is the count, or 65,535.
-    assert_eq!(reply(3, 1.0, -2.0), done([1, 0, 0]));
-    assert_eq!(reply(4, 1.0, -2.0), refused(8, 0));
-    assert_eq!(reply(65_535, 1.0, -2.0), refused(8, 0));
+    assert_eq!(reply(3, 1.0, -2.0), Reply::done([1, 0, 0]));
+    assert_eq!(reply(4, 1.0, -2.0), Reply::refused(8, 0));
+    assert_eq!(reply(65_535, 1.0, -2.0), Reply::refused(8, 0));
     let (listed, table) = list(&plan_q(), 0, Stand::Offset(2, -4.0, -7.0), 12);
-    assert_eq!(listed, done([4, 1, 0]));
+    assert_eq!(listed, Reply::done([4, 1, 0]));
     assert_eq!(table, [0, 0, 1, 1, 1, 2, 4, 2, 3, 5, 3, 0]);
 }
 
@@ -502,7 +517,7 @@ fn stands_on_corners_and_lines_and_beside_them() {
         [5, 5],
         [1, 1],
     ] {
-        assert_eq!(at(x, y), refused(9, 0), "({x}, {y})");
+        assert_eq!(at(x, y), Reply::refused(9, 0), "({x}, {y})");
     }
     // A millimetre off them.
     for [x, y] in [
@@ -516,19 +531,22 @@ fn stands_on_corners_and_lines_and_beside_them() {
         [11, 5],
         [-1, 5],
     ] {
-        assert_eq!(at(x, y), refused(10, 0), "({x}, {y})");
+        assert_eq!(at(x, y), Reply::refused(10, 0), "({x}, {y})");
     }
     for [x, y] in [[2, 1], [9, 8], [9, 1], [5, 1], [9, 5], [6, 5], [5, 4]] {
-        assert_eq!(at(x, y), done([0, 0, 0]), "({x}, {y})");
+        assert_eq!(at(x, y), Reply::done([0, 0, 0]), "({x}, {y})");
     }
     for [x, y] in [[1, 2], [8, 9], [1, 9], [1, 5], [5, 9], [5, 6], [4, 5]] {
-        assert_eq!(at(x, y), done([1, 0, 0]), "({x}, {y})");
+        assert_eq!(at(x, y), Reply::done([1, 0, 0]), "({x}, {y})");
     }
 }
 
 #[test]
 fn the_least_of_cells_on_top_of_each_other() {
-    assert_eq!(find(&stack(3, 5), Stand::Point(2.0, 2.0)), done([0, 0, 0]));
+    assert_eq!(
+        find(&stack(3, 5), Stand::Point(2.0, 2.0)),
+        Reply::done([0, 0, 0])
+    );
     // A cell elsewhere, one that has the stand on its border, then two that hold it.
     let plan = Plan {
         corners: vec![90, 90, 99, 90, 90, 99, 2, 0, 9, 2, 2, 9, 0, 0, 9, 0, 0, 9],
@@ -538,9 +556,9 @@ fn the_least_of_cells_on_top_of_each_other() {
             .collect(),
         doors: vec![],
     };
-    assert_eq!(find(&plan, Stand::Point(2.0, 2.0)), done([2, 0, 0]));
-    assert_eq!(find(&plan, Stand::Point(0.0, 0.0)), refused(9, 0));
-    assert_eq!(find(&plan, Stand::Point(50.0, 50.0)), refused(10, 0));
+    assert_eq!(find(&plan, Stand::Point(2.0, 2.0)), Reply::done([2, 0, 0]));
+    assert_eq!(find(&plan, Stand::Point(0.0, 0.0)), Reply::refused(9, 0));
+    assert_eq!(find(&plan, Stand::Point(50.0, 50.0)), Reply::refused(10, 0));
 }
 
 #[test]
@@ -559,7 +577,10 @@ fn the_deepest_strip_on_small_stacks() {
         let plan = strip(cells, 64);
         let corners = usize::from(cells) + 2;
         let (reply, table) = list(&plan, 0, beside, 3 * corners);
-        assert_eq!(reply, done([corners as u64, u64::from(cells) - 1, 0]));
+        assert_eq!(
+            reply,
+            Reply::done([corners as u64, u64::from(cells) - 1, 0])
+        );
         for stack in [2 << 20, 8 << 20] {
             let mut small = vec![0; 3 * corners];
             let again = list_on_stack(stack, plan.lists(), 0, beside, &mut small);
@@ -675,7 +696,7 @@ fn changes_that_are_refused() {
     };
     let untrue = |given: &[u16]| {
         let asked = DoorChange { given, ..shutting };
-        assert_eq!(change(&plan, asked).0, refused(13, 0));
+        assert_eq!(change(&plan, asked).0, Reply::refused(13, 0));
     };
     for place in 0..truth.len() {
         for number in [truth[place].wrapping_sub(1), truth[place] + 1] {
@@ -700,16 +721,16 @@ fn changes_that_are_refused() {
             door,
             shut,
         };
-        assert_eq!(change(&plan, asked).0, refused(12, 0));
+        assert_eq!(change(&plan, asked).0, Reply::refused(12, 0));
     }
     let no_door = DoorChange {
         door: usize::MAX,
         ..shutting
     };
-    assert_eq!(change(&plan, no_door).0, refused(12, 0));
+    assert_eq!(change(&plan, no_door).0, Reply::refused(12, 0));
     let no_such_bit = DoorChange {
         setting: 8,
         ..shutting
     };
-    assert_eq!(change(&plan, no_such_bit).0, refused(7, 0));
+    assert_eq!(change(&plan, no_such_bit).0, Reply::refused(7, 0));
 }

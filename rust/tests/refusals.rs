@@ -8,22 +8,6 @@ use manopluea_compare::paper::{self, WALL};
 
 const BESIDE: Stand = Stand::Point(6.0, 3.0);
 
-fn refused(number: u32, place: u32) -> Reply {
-    Reply {
-        number,
-        place,
-        values: [0; 3],
-    }
-}
-
-fn done(values: [u64; 3]) -> Reply {
-    Reply {
-        number: 0,
-        place: 0,
-        values,
-    }
-}
-
 /// So many cells between walls, all on one place, and so many corners.
 fn stack(corners: usize, cells: usize) -> Plan {
     let mut plan = Plan {
@@ -38,29 +22,29 @@ fn stack(corners: usize, cells: usize) -> Plan {
 #[test]
 fn counts_at_the_limits_and_beyond() {
     let reply = |corners, cells| paper::check(stack(corners, cells).lists());
-    assert_eq!(reply(3, 1), done([3, 1, 0]));
-    assert_eq!(reply(2_048, 3_000), done([2_048, 3_000, 0]));
-    assert_eq!(reply(2_049, 1), refused(2, 0));
-    assert_eq!(reply(3, 3_001), refused(2, 0));
-    assert_eq!(reply(2, 1), refused(2, 0));
-    assert_eq!(reply(3, 0), refused(2, 0));
+    assert_eq!(reply(3, 1), Reply::done([3, 1, 0]));
+    assert_eq!(reply(2_048, 3_000), Reply::done([2_048, 3_000, 0]));
+    assert_eq!(reply(2_049, 1), Reply::refused(2, 0));
+    assert_eq!(reply(3, 3_001), Reply::refused(2, 0));
+    assert_eq!(reply(2, 1), Reply::refused(2, 0));
+    assert_eq!(reply(3, 0), Reply::refused(2, 0));
     let mut doors = plan_q();
     doors.doors = vec![2; 65];
-    assert_eq!(paper::check(doors.lists()), refused(2, 0));
+    assert_eq!(paper::check(doors.lists()), Reply::refused(2, 0));
     doors.doors = vec![2; 64];
-    assert_eq!(paper::check(doors.lists()), refused(6, 1));
+    assert_eq!(paper::check(doors.lists()), Reply::refused(6, 1));
 }
 
 #[test]
 fn lists_that_are_not_whole() {
     let mut plan = plan_q();
     plan.corners.pop();
-    assert_eq!(paper::check(plan.lists()), refused(1, 0));
+    assert_eq!(paper::check(plan.lists()), Reply::refused(1, 0));
     let mut plan = plan_q();
     plan.cells.pop();
     plan.doors = vec![0; 65];
-    assert_eq!(paper::check(plan.lists()), refused(1, 0));
-    assert_eq!(paper::find(plan.lists(), BESIDE), refused(1, 0));
+    assert_eq!(paper::check(plan.lists()), Reply::refused(1, 0));
+    assert_eq!(paper::find(plan.lists(), BESIDE), Reply::refused(1, 0));
 }
 
 #[test]
@@ -70,12 +54,12 @@ fn wrong_neighbours() {
         plan.cells[at] = neighbour;
         paper::check(plan.lists())
     };
-    assert_eq!(reply(5, 2), refused(5, 2));
-    assert_eq!(reply(5, 0), refused(5, 2));
-    assert_eq!(reply(5, WALL - 1), refused(5, 2));
+    assert_eq!(reply(5, 2), Reply::refused(5, 2));
+    assert_eq!(reply(5, 0), Reply::refused(5, 2));
+    assert_eq!(reply(5, WALL - 1), Reply::refused(5, 2));
     // A wall is right from its own side; the other side misses its answer.
-    assert_eq!(reply(5, WALL), refused(5, 3));
-    assert_eq!(reply(3, 1), refused(5, 0));
+    assert_eq!(reply(5, WALL), Reply::refused(5, 3));
+    assert_eq!(reply(3, 1), Reply::refused(5, 0));
 }
 
 #[test]
@@ -85,13 +69,13 @@ fn wrong_doors() {
         plan.doors = doors.to_vec();
         paper::check(plan.lists())
     };
-    assert_eq!(reply(&[2]), done([4, 2, 1]));
-    assert_eq!(reply(&[3]), done([4, 2, 1]));
-    assert_eq!(reply(&[2, 2]), refused(6, 1));
-    assert_eq!(reply(&[2, 3]), refused(6, 1));
-    assert_eq!(reply(&[0, 2, 3]), refused(6, 0));
-    assert_eq!(reply(&[6]), refused(6, 0));
-    assert_eq!(reply(&[65_535]), refused(6, 0));
+    assert_eq!(reply(&[2]), Reply::done([4, 2, 1]));
+    assert_eq!(reply(&[3]), Reply::done([4, 2, 1]));
+    assert_eq!(reply(&[2, 2]), Reply::refused(6, 1));
+    assert_eq!(reply(&[2, 3]), Reply::refused(6, 1));
+    assert_eq!(reply(&[0, 2, 3]), Reply::refused(6, 0));
+    assert_eq!(reply(&[6]), Reply::refused(6, 0));
+    assert_eq!(reply(&[65_535]), Reply::refused(6, 0));
 }
 
 #[test]
@@ -101,14 +85,17 @@ fn offsets_obey_the_bound_and_so_do_their_sums() {
     // A corner in no cell, at the edge.
     plan.corners.extend([-536_870_912, 0]);
     let find = |stand| paper::find(plan.lists(), stand);
-    assert_eq!(find(Stand::Offset(4, edge, 1.0)), refused(9, 0));
-    assert_eq!(find(Stand::Offset(4, edge + 1.0, 1.0)), refused(8, 0));
-    assert_eq!(find(Stand::Offset(4, -1.0, 1.0)), refused(8, 0));
-    assert_eq!(find(Stand::Offset(4, -0.0, 1.0)), refused(10, 0));
-    assert_eq!(find(Stand::Offset(5, 1.0, 1.0)), refused(8, 0));
-    assert_eq!(find(Stand::Offset(0, 6.0, 3.0)), done([0, 0, 0]));
-    assert_eq!(find(Stand::Point(edge, edge)), refused(10, 0));
-    assert_eq!(find(Stand::Point(edge, edge + 1.0)), refused(8, 0));
+    assert_eq!(find(Stand::Offset(4, edge, 1.0)), Reply::refused(9, 0));
+    assert_eq!(
+        find(Stand::Offset(4, edge + 1.0, 1.0)),
+        Reply::refused(8, 0)
+    );
+    assert_eq!(find(Stand::Offset(4, -1.0, 1.0)), Reply::refused(8, 0));
+    assert_eq!(find(Stand::Offset(4, -0.0, 1.0)), Reply::refused(10, 0));
+    assert_eq!(find(Stand::Offset(5, 1.0, 1.0)), Reply::refused(8, 0));
+    assert_eq!(find(Stand::Offset(0, 6.0, 3.0)), Reply::done([0, 0, 0]));
+    assert_eq!(find(Stand::Point(edge, edge)), Reply::refused(10, 0));
+    assert_eq!(find(Stand::Point(edge, edge + 1.0)), Reply::refused(8, 0));
 }
 
 #[test]
@@ -117,19 +104,25 @@ fn the_table_keeps_what_is_not_written() {
     let mut table = [7; 14];
     assert_eq!(
         paper::list(q.lists(), 1, BESIDE, &mut table),
-        done([3, 0, 0])
+        Reply::done([3, 0, 0])
     );
     assert_eq!(table, [0, 0, 1, 1, 1, 2, 2, 2, 0, 7, 7, 7, 7, 7]);
     let mut short = [7; 11];
     assert_eq!(
         paper::list(q.lists(), 1, BESIDE, &mut short),
-        refused(11, 0)
+        Reply::refused(11, 0)
     );
     assert_eq!(short, [7; 11]);
     // The stand comes before the room, and the setting before the stand.
     let corner = Stand::Point(0.0, 0.0);
-    assert_eq!(paper::list(q.lists(), 1, corner, &mut short), refused(9, 0));
-    assert_eq!(paper::list(q.lists(), 2, corner, &mut short), refused(7, 0));
+    assert_eq!(
+        paper::list(q.lists(), 1, corner, &mut short),
+        Reply::refused(9, 0)
+    );
+    assert_eq!(
+        paper::list(q.lists(), 2, corner, &mut short),
+        Reply::refused(7, 0)
+    );
 }
 
 #[test]
@@ -148,23 +141,26 @@ fn the_door_change_refuses_in_order() {
         (paper::change(q.lists(), asked, &mut table), table)
     };
     let untouched = [7; 12];
-    assert_eq!(change(&true_rows, 1, false), (refused(12, 0), untouched));
+    assert_eq!(
+        change(&true_rows, 1, false),
+        (Reply::refused(12, 0), untouched)
+    );
     assert_eq!(
         change(&true_rows, usize::MAX, false),
-        (refused(12, 0), untouched)
+        (Reply::refused(12, 0), untouched)
     );
-    assert_eq!(change(&[], 0, true), (refused(12, 0), untouched));
+    assert_eq!(change(&[], 0, true), (Reply::refused(12, 0), untouched));
     assert_eq!(
         change(&true_rows[..8], 0, false),
-        (refused(13, 0), untouched)
+        (Reply::refused(13, 0), untouched)
     );
     assert_eq!(
         change(&[0, 0, 1, 1, 1, 2, 2, 2, 1], 0, false),
-        (refused(13, 0), untouched)
+        (Reply::refused(13, 0), untouched)
     );
     assert_eq!(
         change(&true_rows, 0, false),
-        (done([4, 1, 0]), [0, 0, 1, 1, 1, 2, 4, 2, 3, 5, 3, 0])
+        (Reply::done([4, 1, 0]), [0, 0, 1, 1, 1, 2, 4, 2, 3, 5, 3, 0])
     );
 }
 
