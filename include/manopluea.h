@@ -1,41 +1,38 @@
 /* The proved library: the public calls of document 01 for C and every language that speaks its calling convention.
  *
- * `rt staticlib exports` writes target/staticlib/libexports.a, for x86-64 Linux. It needs memcpy and memset, and nothing else.
+ * `rt staticlib exports` writes target/staticlib/libexports.a, for x86-64 Linux. It needs memcpy and memset, and
+ * nothing else. Its code is position-independent: a shared object can be linked from it. examples/ has a client in C
+ * and one in Python.
  *
- * Lists. A list passes as a pointer and a length in numbers, not bytes. The pointer is not null, also where the length is 0, and is
- * aligned for its type. Memory that a call may write to (no `const`) overlaps nothing else that is passed to the call. This is all that a
- * caller has to keep: no list, number or setting is wrong input, and every call returns.
+ * What a caller keeps:
+ *
+ *   Lists. A list passes as a pointer and a length in numbers, not bytes. The pointer is aligned for its type, and may
+ *   be null where the length is 0: nothing is read or written through it then. Memory that a call may write to (no
+ *   `const`) overlaps nothing else that is passed to it, and nobody else writes to any of it until the call returns.
+ *
+ *   Stack. A call needs at most MANOPLUEA_STACK bytes. With less, the process may be ended by a signal at the guard
+ *   page below its stack. Sight goes through no more than 2999 lines, one call within the other; on a floor as deep as
+ *   that a listing was measured at 700 KiB, a door change at 712 and printing, which takes the most, at 760. The other
+ *   calls need 60 KiB. The number stated is rounded up from that, with a quarter of it to spare.
+ *
+ * There is nothing else to keep: no list, number or setting is wrong input, and every call returns. A call is
+ * reentrant and keeps no state: several threads may make calls at once.
  *
  *   corners  two numbers a corner: x, y, in millimetres
- *   cells    six numbers a cell: three corner numbers, then three neighbours; 65535 means wall
+ *   cells    six numbers a cell: three corner numbers, then three neighbours or MANOPLUEA_WALL
  *   doors    one number a door: a face, which is 3*cell + side
  *
- * Reply. Five numbers: reply[0] number, reply[1] place, reply[2..4] up to three values; those that a call has no use for are 0. On a
- * refusal the three values are 0. Numbers beyond the five keep their values. Where reply_length is below 5, the call does nothing at
- * all: no lent memory is touched, the reply neither.
+ * Reply. Five numbers: reply[0] number, reply[1] place, reply[2..4] up to three values; those that a call has no use
+ * for are 0. On a refusal the three values are 0. Numbers beyond the five keep their values. Where reply_length is
+ * below 5, the call does nothing at all: no lent memory is touched, the reply neither.
  *
- *    number       when                                                                                            place
- *    0            done                                                                                            0
- *    1 FRAME      not the three records, or a body not a multiple of 8, 12, 2; lists not multiples of 2, 6, 1      0
- *    2 SIZE       a count outside the limits: 3 to 2048 corners, 1 to 3000 cells, 0 to 64 doors                    0
- *    3 CORNER     a coordinate outside -536870912 to 536870912                                                    least corner
- *    4 CELL       a wrong cell: a corner number that does not exist, or a side value that is not positive          least cell
- *    5 NEIGHBOUR  a wrong neighbour: neither wall, nor a cell with a side that answers                             least face
- *    6 DOOR       a wrong door: its face does not exist or is wall, or an earlier door names the same line         least door
- *    7 SETTING    a bit at or above the door count                                                                0
- *    8 STAND      number or corner not accepted                                                                   0
- *    9 LINE       strictly inside no cell, on some cell's border                                                  0
- *   10 OUTSIDE    inside or on no cell                                                                            0
- *   11 ROOM       table shorter than 3*corners numbers (listing, door change); bytes shorter than the file (writer);
- *                 any list shorter than its numbers (reader); text shorter than MANOPLUEA_TEXT bytes (printing)    0
- *   12 CHANGE     no such door, or already in that state                                                          0
- *   13 ROWS       the given list differs from the true one, in length or any number                               0
+ * The lowest number that applies is the reply. A refusal returns its number and place only, and every lent table, list
+ * and file keeps its contents. On 0, numbers and bytes beyond those written keep their old values. Each call checks
+ * its plan anew.
  *
- * The lowest number that applies is the reply. A refusal returns its number and place only, and every lent table, list and file keeps its
- * contents. On 0, numbers and bytes beyond those written keep their old values. Each call checks its plan anew.
- *
- * Each promise below is proved: crates/exports/specs/Reply.antt defines what a call leaves in the lent memory and in the reply as a
- * function of its input, and the call's contract says that it leaves exactly that.
+ * Each promise below is proved: crates/exports/specs/Reply.antt defines what a call leaves in the lent memory and in
+ * the reply as a function of its input, and the call's contract says that it leaves exactly that. The stack is not
+ * proved but measured: rust/tests/header.rs runs every function on the deepest floor with no more than is stated.
  */
 #ifndef MANOPLUEA_H
 #define MANOPLUEA_H
@@ -48,39 +45,85 @@
 extern "C" {
 #endif
 
-/* The numbers of a reply. */
-#define MANOPLUEA_REPLY 5
+/* Counts up where a function, a number or a promise of this header changes. */
+#define MANOPLUEA_VERSION 1
+
+/* The limits of a plan. A coordinate lies between -MANOPLUEA_MOST_COORDINATE and MANOPLUEA_MOST_COORDINATE. */
+#define MANOPLUEA_LEAST_CORNERS 3
+#define MANOPLUEA_MOST_CORNERS 2048
+#define MANOPLUEA_LEAST_CELLS 1
+#define MANOPLUEA_MOST_CELLS 3000
+#define MANOPLUEA_MOST_DOORS 64
+#define MANOPLUEA_MOST_COORDINATE 536870912
+
+/* The neighbour that means wall. */
+#define MANOPLUEA_WALL 65535
+
+/* The bytes of the largest plan file. */
+#define MANOPLUEA_MOST_FILE 52530
+
+/* The bytes of the longest input of printing: a longer one is refused, in print. */
+#define MANOPLUEA_MOST_INPUT 65536
 
 /* A text of so many bytes has room for all that the printing program can print. */
 #define MANOPLUEA_TEXT 36928
 
-/* The plan check. Replies 0 to 6. On 0 the values are the counts of corners, cells and doors. Writes to the reply only. */
+/* The numbers of a reply. */
+#define MANOPLUEA_REPLY 5
+
+/* The bytes of stack that a call needs at most. */
+#define MANOPLUEA_STACK 1048576
+
+/* What reply[0] is, and where reply[1] is a place other than 0. */
+enum manopluea_number {
+    MANOPLUEA_DONE = 0,
+    MANOPLUEA_FRAME = 1,     /* not the three records, or a body not a multiple of 8, 12, 2; lists not of 2, 6, 1 */
+    MANOPLUEA_SIZE = 2,      /* a count outside the limits */
+    MANOPLUEA_CORNER = 3,    /* a coordinate outside the limits; place: the least such corner */
+    MANOPLUEA_CELL = 4,      /* a corner number that does not exist, or a side value that is not positive; least cell */
+    MANOPLUEA_NEIGHBOUR = 5, /* neither wall, nor a cell with a side that answers; least face */
+    MANOPLUEA_DOOR = 6,      /* its face does not exist or is wall, or an earlier door names the line; least door */
+    MANOPLUEA_SETTING = 7,   /* a bit at or above the door count */
+    MANOPLUEA_STAND = 8,     /* number or corner not accepted */
+    MANOPLUEA_LINE = 9,      /* strictly inside no cell, on some cell's border */
+    MANOPLUEA_OUTSIDE = 10,  /* inside or on no cell */
+    MANOPLUEA_ROOM = 11,     /* a table below 3*corners numbers, a file or a list below what is written, a text below
+                                MANOPLUEA_TEXT */
+    MANOPLUEA_CHANGE = 12,   /* no such door, or already in that state */
+    MANOPLUEA_ROWS = 13      /* the given list differs from the true one, in length or any number */
+};
+
+/* The plan check. Replies 0 to 6. On 0 the values are the counts of corners, cells and doors. Writes to the reply
+ * only. */
 void manopluea_check(const int32_t *corners, size_t corners_length,
                      const uint16_t *cells, size_t cells_length,
                      const uint16_t *doors, size_t doors_length,
                      uint64_t *reply, size_t reply_length);
 
-/* The reader. Replies 0 to 6 and 11. On 0 the values are the counts of corners, cells and doors, and the three lists hold the numbers of
- * the file from their beginnings on: 2*corners, 6*cells and doors of them. Writing them again gives the same bytes. */
+/* The reader. Replies 0 to 6 and 11. On 0 the values are the counts of corners, cells and doors, and the three lists
+ * hold the numbers of the file from their beginnings on: 2*corners, 6*cells and doors of them. Writing them again
+ * gives the same bytes. */
 void manopluea_read(const uint8_t *file, size_t file_length,
                     int32_t *corners, size_t corners_length,
                     uint16_t *cells, size_t cells_length,
                     uint16_t *doors, size_t doors_length,
                     uint64_t *reply, size_t reply_length);
 
-/* The writer. Replies 0 to 6 and 11. On 0 the values are the counts of corners, cells and doors, and the file holds the one file of the
- * three lists from its beginning on: 18 + 8*corners + 12*cells + 2*doors bytes. Reading it returns those lists. */
+/* The writer. Replies 0 to 6 and 11. On 0 the values are the counts of corners, cells and doors, and the file holds
+ * the one file of the three lists from its beginning on: 18 + 8*corners + 12*cells + 2*doors bytes. Reading it
+ * returns those lists. */
 void manopluea_write(const int32_t *corners, size_t corners_length,
                      const uint16_t *cells, size_t cells_length,
                      const uint16_t *doors, size_t doors_length,
                      uint8_t *file, size_t file_length,
                      uint64_t *reply, size_t reply_length);
 
-/* Finding. Replies 0 to 6 and 8 to 10. On 0 the first value is the stand's cell: the least-numbered cell that holds it strictly inside.
- * Writes to the reply only.
+/* Finding. Replies 0 to 6 and 8 to 10. On 0 the first value is the stand's cell: the least-numbered cell that holds
+ * it strictly inside. Writes to the reply only.
  *
- * The stand is a point, or an offset from a corner, in millimetres. A number is accepted exactly when it is a whole number of millimetres
- * within the coordinate limits; minus zero reads as 0. For an offset the corner must exist, and the sums must also lie within the limits. */
+ * The stand is a point, or an offset from a corner, in millimetres. A number is accepted exactly when it is a whole
+ * number of millimetres within the coordinate limits; minus zero reads as 0. For an offset the corner must exist, and
+ * the sums must also lie within the limits. */
 void manopluea_find_point(const int32_t *corners, size_t corners_length,
                           const uint16_t *cells, size_t cells_length,
                           const uint16_t *doors, size_t doors_length,
@@ -93,10 +136,12 @@ void manopluea_find_offset(const int32_t *corners, size_t corners_length,
                            uint16_t corner, double dx, double dy,
                            uint64_t *reply, size_t reply_length);
 
-/* The listing. Replies 0 to 11. On 0 the first two values are row count and crossings, and the table holds three numbers a row from its
- * beginning on: face (on the side seen), right limit, left limit. Rows never outnumber corners.
+/* The listing. Replies 0 to 11. On 0 the first two values are row count and crossings, and the table holds three
+ * numbers a row from its beginning on: face (on the side seen), right limit, left limit. Rows never outnumber
+ * corners.
  *
- * Bit i of the setting is one while door i is shut; both faces of a shut door count as wall. The stand is as for finding. */
+ * Bit i of the setting is one while door i is shut; both faces of a shut door count as wall. The stand is as for
+ * finding. */
 void manopluea_list_point(const int32_t *corners, size_t corners_length,
                           const uint16_t *cells, size_t cells_length,
                           const uint16_t *doors, size_t doors_length,
@@ -111,9 +156,10 @@ void manopluea_list_offset(const int32_t *corners, size_t corners_length,
                            uint16_t *table, size_t table_length,
                            uint64_t *reply, size_t reply_length);
 
-/* The door change. Replies 0 to 13. The given list is the one that is true under the setting, three numbers a row; a list that differs from it in
- * length or any number is refused with 13, and a door that does not exist or is already as wished with 12. On 0 the values and the table are
- * those of the listing with that door shut or open as wished. The given list and the table do not overlap. */
+/* The door change. Replies 0 to 13. The given list is the one that is true under the setting, three numbers a row; a
+ * list that differs from it in length or any number is refused with 13, and a door that does not exist or is already
+ * as wished with 12. On 0 the values and the table are those of the listing with that door shut or open as wished.
+ * The given list and the table do not overlap. */
 void manopluea_change_point(const int32_t *corners, size_t corners_length,
                             const uint16_t *cells, size_t cells_length,
                             const uint16_t *doors, size_t doors_length,
@@ -132,8 +178,9 @@ void manopluea_change_offset(const int32_t *corners, size_t corners_length,
                              uint16_t *table, size_t table_length,
                              uint64_t *reply, size_t reply_length);
 
-/* What the printing program prints for an input: a query record (kind 4 or 5), then a plan. Replies 0 and 11. On 0 the first value is the number of
- * bytes printed, which stand in the text from its beginning; a refused query or plan is printed too, as `refused`, its number and place. */
+/* What the printing program prints for an input: a query record (kind 4 or 5), then a plan. Replies 0 and 11. On 0
+ * the first value is the number of bytes printed, which stand in the text from its beginning; a refused query or plan
+ * is printed too, as `refused`, its number and place. */
 void manopluea_print(const uint8_t *input, size_t input_length,
                      uint8_t *text, size_t text_length,
                      uint64_t *reply, size_t reply_length);

@@ -5,6 +5,7 @@ set -eu
 cd "$(dirname "$0")/.."
 . rust/proved.sh
 make_native >&2
+renew_for_cargo "$native_archive" rust/target/native
 cd rust
 # A folder of its own, so that the comparison's build is left as it is.
 MANOPLUEA_ARCHIVE=../$native_archive cargo run --quiet --release --jobs 1 --target-dir target/native -- bench

@@ -1,5 +1,5 @@
-//! Links the proved library where its archive is there, and leaves the module
-//! `proved` out, with a message, where it is not.
+//! Links the proved library. Where its archive is not there, the build fails:
+//! tests that were left out would say that nothing is wrong.
 //!
 //! The archive that `rt staticlib exports` makes is for x86-64. For another
 //! machine it is linked with `bridge/serve.c` by the kit's compiler, into a
@@ -15,7 +15,6 @@ use std::path::{Path, PathBuf};
 use std::process::Command;
 
 fn main() {
-    println!("cargo::rustc-check-cfg=cfg(proved)");
     println!("cargo::rustc-check-cfg=cfg(linked)");
     println!("cargo::rerun-if-changed=build.rs");
     println!("cargo::rerun-if-changed=src/kit.rs");
@@ -23,9 +22,8 @@ fn main() {
     println!("cargo::rerun-if-changed=../include/manopluea.h");
     println!("cargo::rerun-if-env-changed=RATTLE_HOME");
     println!("cargo::rerun-if-env-changed=MANOPLUEA_ARCHIVE");
-    match link() {
-        Ok(()) => println!("cargo::rustc-cfg=proved"),
-        Err(why) => println!("cargo::warning=the proved library is left out: {why}"),
+    if let Err(why) = link() {
+        println!("cargo::error=the proved library cannot be linked: {why}");
     }
 }
 
@@ -53,7 +51,7 @@ fn present(archive: PathBuf) -> Result<PathBuf, String> {
     }
     let archive = archive.display();
     Err(format!(
-        "{archive} is not there; `rt staticlib exports` makes the one for x86-64"
+        "{archive} is not there; rust/compare.sh has the kit make it, and then runs these tests"
     ))
 }
 

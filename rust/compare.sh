@@ -1,12 +1,15 @@
 #!/usr/bin/env bash
-# The paper program against the proved library and the printing program: compare.sh [SEED COUNT], which are 1 20000 where none are given.
-# Makes what is missing or older than the code, asks the named cases and the stored runs, then compares the random ones.
+# The paper program against the proved library and the printing program: compare.sh [SEED COUNT].
+# Has rt prove and make what is not there, runs every Rust test, then compares COUNT random cases. Where none are given,
+# the seed is 1, and as many are compared as take about half a minute: a tenth of them where an emulator is needed.
 # Ends with an exit status other than 0 at the first mismatch, which it prints as small as it could be made.
 set -eu
 cd "$(dirname "$0")/.."
 . rust/proved.sh
 make_shipped
 make_program
+renew_for_cargo "$shipped_archive" rust/target
+if [ "$machine" = x86_64 ]; then count=200000; else count=20000; fi
 cd rust
-cargo test --quiet --release --lib --test named --test printed
-cargo run --quiet --release -- compare "${1:-1}" "${2:-20000}"
+cargo test --quiet --release
+cargo run --quiet --release -- compare "${1:-1}" "${2:-$count}"

@@ -1,36 +1,79 @@
-# Makes the archives of the proved library and the printing program, where they are missing or older than the code. To be sourced, at the top of the
-# repository.
+# shellcheck shell=bash
+# Makes the archives of the proved library and the printing program. To be sourced by bash, at the top of the
+# repository, by a script that then works there: it holds the lock until it ends.
 
-is_current() { # FILE
-    [ -f "$1" ] && [ -z "$(find crates.txt crates/*/src -newer "$1" -print -quit)" ]
+if ! command -v rt >/dev/null; then
+    echo "$0: rt is not there: it belongs to the Rattle kit, which proves and builds all that is made here" >&2
+    exit 2
+fi
+
+# One script at a time: two would write the same files, and the gate removes them. The lock is on the folder itself,
+# and the scripts that this one starts have it too.
+if ! [ /dev/fd/9 -ef . ]; then
+    exec 9<.
+    if ! command -v flock >/dev/null; then
+        echo "$0: flock is not there, so nothing keeps a second run from working here at the same time" >&2
+    elif ! flock -n 9; then
+        echo "$0: another run is at work in this folder; waiting until it ends" >&2
+        flock 9
+    fi
+fi
+
+# Asks rt, which knows by content what is proved already. What it says goes to a log, and is shown where it fails.
+ask_rt() { # WORDS..
+    mkdir -p target
+    echo "rt $*" >&2
+    if ! rt "$@" </dev/null >target/rt.log 2>&1; then
+        cat target/rt.log >&2
+        echo "$0: rt $* failed; what it said stands above, and in target/rt.log" >&2
+        return 1
+    fi
 }
 
 # The folder of the Rattle kit: RATTLE_HOME, or where `rt` is.
 kit_home() { echo "${RATTLE_HOME:-$(dirname "$(dirname "$(readlink -f "$(command -v rt)")")")}"; }
 
+# The printing program, for x86-64.
+make_program() { ask_rt check print; }
+
 # The archive that is shipped, for x86-64.
 shipped_archive=target/staticlib/libexports.a
-make_shipped() { is_current "$shipped_archive" || rt staticlib exports; }
-
-# The printing program, for x86-64.
-make_program() { is_current target/bin/print || rt check print; }
+make_shipped() { make_archive "$shipped_archive" ask_rt staticlib exports; }
 
 # The archive for the machine at hand.
 machine=$(uname -m)
 if [ "$machine" = x86_64 ]; then native_archive=$shipped_archive; else native_archive=target/native/libexports.a; fi
 make_native() {
-    if [ "$machine" = x86_64 ]; then make_shipped; else is_current "$native_archive" || build_native; fi
+    if [ "$machine" = x86_64 ]; then make_shipped; else make_archive "$native_archive" build_native; fi
 }
 
-# The kit's compiler makes one module of the proved library and has its clang compile it for x86-64. Here it is given a clang that compiles the same
-# module, with the same words otherwise, for the machine at hand.
+# rt makes an archive anew each time it is asked, which takes half a minute. So it is asked to check the crate, which it
+# does by content, and the archive is made where rt's sum of the crate, with all that it leans on, or the archive itself
+# is not what it was when it was made.
+make_archive() { # ARCHIVE COMMAND..
+    archive=$1
+    shift
+    ask_rt check exports || return
+    sha256sum --check --status "$archive.of" 2>/dev/null && return
+    "$@" || return
+    sha256sum target/stamp/exports "$archive" >"$archive.of" || rm "$archive.of"
+}
+
+# Cargo goes by times: an archive other than the one that was linked last is given a new one.
+renew_for_cargo() { # ARCHIVE FOLDER
+    mkdir -p "$2"
+    sha256sum --check --status "$2/linked.of" 2>/dev/null && return
+    touch "$1"
+    sha256sum "$1" >"$2/linked.of"
+}
+
+# The kit's compiler makes one module of the proved library and has its clang compile it for x86-64. Here it is given a
+# clang that compiles the same module, with the same words otherwise, for the machine at hand.
 build_native() {
     kit=$(kit_home)
     own=$kit/on/$machine
     toolchain=$PWD/target/native/toolchain
     needs=$(sed -n 's/^exports://p' crates.txt)
-    # shellcheck disable=SC2086
-    rt check $needs
     externs=()
     for name in $needs; do externs+=(--extern "$name=target/rlib/$name.rlib"); done
     write_toolchain

@@ -16,10 +16,10 @@ A FACT is EXPR < EXPR, EXPR <= EXPR or EXPR = EXPR. An EXPR has numbers, + - *, 
 `dot V V` and `side V V V`.
 A V is a vector, `(minus V V)` or `(plus V V)`.
 
-A certificate is a sum of products of the facts given, of the goal's negation, of squares and of positive numbers, that is strictly
-positive by its signs and zero as a polynomial (exact.proofs.Certificate). The multipliers come from a linear system over the
-rationals, solved exactly. Where no certificate of the kinds tried exists, the law is not printed, a line on standard error
-says so, and the exit status is 1.
+A certificate is a sum of products of the facts given, of the goal's negation, of squares and of positive numbers, that
+is strictly positive by its signs and zero as a polynomial (exact.proofs.Certificate). The multipliers come from a
+linear system over the rationals, solved exactly. Where no certificate of the kinds tried exists, the law is not
+printed, a line on standard error says so, and the exit status is 1.
 """
 import itertools
 import re
@@ -27,7 +27,7 @@ import sys
 from fractions import Fraction
 from math import gcd
 
-# ---- polynomials: a monomial is a sorted tuple of variable numbers, a polynomial a dict from monomials to whole numbers
+# ---- polynomials: a monomial is a sorted tuple of variable numbers, a polynomial a dict from those to whole numbers
 
 
 def put(p, m, c):
@@ -200,7 +200,9 @@ class Fact:
 
 
 def feasible(columns, strict):
-    """Multipliers λ ≥ 0 with Σ λₖ·columnₖ = 0 and Σ over the strict λₖ = 1, or None. Phase one of the simplex method, over the rationals."""
+    """Multipliers λ ≥ 0 with Σ λₖ·columnₖ = 0 and Σ over the strict λₖ = 1, or None.
+
+    Phase one of the simplex method, over the rationals."""
     rows = {}
     for k, p in enumerate(columns):
         for m, c in p.items():
@@ -356,7 +358,7 @@ def proof(goal, given, vectors):
 
 
 def expand(line, records, vectors, name):
-    """What a line of a law stands for: the type's text, its facts with the term that each one is, and the record's fields."""
+    """What a line of a law stands for: the type's text, its facts, each with its term, and the record's fields."""
     head = line.split()[0]
     if head not in records:
         f = Fact(line, vectors)

@@ -1,5 +1,8 @@
 #!/usr/bin/env python3
-"""Prints what the program `plane_test` must write, from document 01 alone: crates/plane_test/stdout is its output."""
+"""Prints what the program `plane_test` must write, from document 01 alone.
+
+    python3 tools/plane_expected.py > crates/plane_test/stdout
+"""
 
 FAR = 536870912
 
@@ -22,11 +25,16 @@ def containment(cell, q):
     return "inside" if least > 0 else "border" if least == 0 else "outside"
 
 
-for n in range(64):
-    value = side(far(n % 4), far(n // 4 % 4), far(n // 16))
-    print(value, "right" if value > 0 else "wrong")
-for n in range(256):
-    print(containment([far(n % 4), far(n // 4 % 4), far(n // 16 % 4)], far(n // 64)))
-for n in range(25):
-    print(containment([small(0), small(4), small(20)], small(n)))
-    print(containment([small(0), small(23), small(4)], small(n)))
+def lines():
+    for n in range(64):
+        value = side(far(n % 4), far(n // 4 % 4), far(n // 16))
+        yield f"{value} {'right' if value > 0 else 'wrong'}"
+    for n in range(256):
+        yield containment([far(n % 4), far(n // 4 % 4), far(n // 16 % 4)], far(n // 64))
+    for n in range(25):
+        yield containment([small(0), small(4), small(20)], small(n))
+        yield containment([small(0), small(23), small(4)], small(n))
+
+
+if __name__ == "__main__":
+    print(*lines(), sep="\n")

@@ -2,7 +2,8 @@
 
     python3 tools/queries.py        writes crates/print/stdin and crates/print/runs/*.in
 
-What the program has to print for each stands beside it, in crates/print/stdout and crates/print/runs/*.out; those were written by hand.
+What the program has to print for each stands beside it, in crates/print/stdout and crates/print/runs/*.out; those were
+written by hand.
 """
 
 import pathlib

@@ -1,13 +1,15 @@
 #!/usr/bin/env python3
-"""Drops what a proof file no longer needs: names on `use` lines that it does not mention, the printed lines that end `as reads`, `as lts`
-or `-reads`, and the comments that name a place of the source.
+"""Drops what a proof file no longer needs: names on `use` lines that it does not mention, the printed lines that end
+`as reads`, `as lts` or `-reads`, and the comments that name a place of the source.
 
-    python3 tools/tidy.py [--check]     every .antt file under crates/; --check only says which files would change, and exits 1 if any would
+    python3 tools/tidy.py [--check]     every .antt file under crates/; --check only says which files would change,
+                                        and exits 1 if any would
 """
 import pathlib
 import re
 import sys
 
+CRATES = pathlib.Path(__file__).resolve().parent.parent / "crates"
 WORD = r"[^\s(){}.;,@\"]+"
 
 
@@ -23,7 +25,7 @@ def tidied(text):
     mentioned = set(re.findall(WORD, body))
     out = []
     for line in lines:
-        m = re.match(r"use (\S+) as (\S+)$", line)
+        m = re.match(r"use ([^\s{]+) as (\S+)$", line)
         if m and m.group(2) not in mentioned:
             continue
         m = re.match(r"use ([^{]+)\.\{(.*)\}$", line)
@@ -40,9 +42,12 @@ def tidied(text):
     return "\n".join(out)
 
 
-def main(argv):
+def main(argv, crates=CRATES):
     check, changed = "--check" in argv[1:], 0
-    for path in sorted(pathlib.Path("crates").rglob("*.antt")):
+    paths = sorted(crates.rglob("*.antt"))
+    if not paths:
+        sys.exit(f"tidy.py: there is no .antt file under {crates}")
+    for path in paths:
         old = path.read_text(encoding="utf-8")
         new = tidied(old)
         if new != old:

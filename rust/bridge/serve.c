@@ -1,9 +1,10 @@
-/* The proved library behind a pipe, for machines that its archive is not made for: built for x86-64 and run under the kit's emulator.
+/* The proved library behind a pipe, for machines that its archive is not made for: built for x86-64 and run under the
+ * kit's emulator.
  * It reads requests from standard input and writes what each call leaves to standard output, until the input ends.
  *
- * A request is fifteen numbers of eight bytes, call, setting, corner, x, y, door, shut and the lengths of reply, corners, cells, doors, given,
- * table, file and text, then the contents of those eight lists, back to back. The answer is the eight lists after the call. The file of PRINT is
- * its input. */
+ * A request is fifteen numbers of eight bytes, call, setting, corner, x, y, door, shut and the lengths of reply,
+ * corners, cells, doors, given, table, file and text, then the contents of those eight lists, back to back. The answer is
+ * the eight lists after the call. The file of PRINT is its input. */
 #include "../../include/manopluea.h"
 
 enum { CHECK, READ, WRITE, FIND_POINT, FIND_OFFSET, LIST_POINT, LIST_OFFSET, CHANGE_POINT, CHANGE_OFFSET, PRINT };

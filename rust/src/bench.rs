@@ -286,14 +286,10 @@ mod tests {
             let counts = counts.expect("a floor can be listed");
             assert_eq!(counts.crossings, floor.crossings, "{}", floor.name);
             assert_eq!(plain[..3 * counts.rows], floor.given, "{}", floor.name);
-            #[cfg(proved)]
-            {
-                let mut proved = table(&floor.plan);
-                let reply =
-                    crate::proved::Proved.list(floor.plan.lists(), 0, floor.stand, &mut proved);
-                assert_eq!(reply.values, [counts.rows as u64, counts.crossings, 0]);
-                assert_eq!(proved, plain, "{}", floor.name);
-            }
+            let mut proved = table(&floor.plan);
+            let reply = crate::proved::Proved.list(floor.plan.lists(), 0, floor.stand, &mut proved);
+            assert_eq!(reply.values, [counts.rows as u64, counts.crossings, 0]);
+            assert_eq!(proved, plain, "{}", floor.name);
         }
     }
 }

@@ -8,7 +8,7 @@ mod mesh;
 mod stands;
 
 pub use dice::Dice;
-pub use floors::{cathedral, corridor, fence, largest};
+pub use floors::{cathedral, corridor, deepest, fence, largest};
 pub use mesh::{Mesh, Spot};
 pub use stands::inside;
 

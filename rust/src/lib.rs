@@ -3,8 +3,8 @@
 //! public calls, and benchmarks.
 //!
 //! The other implementor, the proved library behind its C interface, is the
-//! module `proved`. It is there where the build found the library's archive:
-//! `../target/staticlib/libexports.a`, which `rt staticlib exports` makes, or
+//! module `proved`. The build links the library's archive:
+//! `../target/staticlib/libexports.a`, which `compare.sh` has the kit make, or
 //! the one that `MANOPLUEA_ARCHIVE` names.
 
 pub mod bench;
@@ -13,10 +13,9 @@ pub mod compare;
 pub mod examples;
 pub mod generate;
 mod kit;
-#[cfg(proved)]
 pub mod library;
 pub mod paper;
 pub mod plain;
 pub mod program;
-#[cfg(proved)]
 pub mod proved;
+pub mod stack;

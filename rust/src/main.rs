@@ -1,11 +1,13 @@
-//! The commands: `compare SEED COUNT`, `self SEED COUNT`, `case LETTER`, `bench`.
+//! The commands: `compare SEED COUNT`, `self SEED COUNT`, `case LETTER`, `stack BYTES`, `bench`.
 
 use manopluea_compare::paper::Paper;
-use manopluea_compare::{compare, examples};
+use manopluea_compare::program::Program;
+use manopluea_compare::proved::Proved;
+use manopluea_compare::{compare, examples, stack};
 use std::process::ExitCode;
 
 const USAGE: &str =
-    "usage: manopluea-compare compare SEED COUNT | self SEED COUNT | case a..l | bench";
+    "usage: manopluea-compare compare SEED COUNT | self SEED COUNT | case a..l | stack BYTES | bench";
 
 fn main() -> ExitCode {
     let arguments: Vec<String> = std::env::args().skip(1).collect();
@@ -14,6 +16,7 @@ fn main() -> ExitCode {
         ["compare", seed, count] => run(seed, count, compare_with_proved),
         ["self", seed, count] => run(seed, count, compare_with_itself),
         ["case", letter] => show_example(letter),
+        ["stack", bytes] => ask_on_stack(bytes),
         ["bench"] => bench_proved(),
         _ => Err(USAGE.to_string()),
     };
@@ -28,15 +31,14 @@ fn main() -> ExitCode {
 
 fn run(seed: &str, count: &str, compare: fn(u64, u64) -> Result<(), String>) -> Result<(), String> {
     match (seed.parse(), count.parse()) {
+        (Ok(_), Ok(0)) => Err("with no case there is nothing to compare".to_string()),
         (Ok(seed), Ok(count)) => compare(seed, count),
         _ => Err(USAGE.to_string()),
     }
 }
 
 /// Puts the paper program against the proved library and the printing program.
-#[cfg(proved)]
 fn compare_with_proved(seed: u64, count: u64) -> Result<(), String> {
-    use manopluea_compare::{program::Program, proved::Proved};
     let program = Program::find()?;
     let begin = std::time::Instant::now();
     let tally =
@@ -49,17 +51,10 @@ fn compare_with_proved(seed: u64, count: u64) -> Result<(), String> {
     Ok(())
 }
 
-#[cfg(not(proved))]
-fn compare_with_proved(_seed: u64, _count: u64) -> Result<(), String> {
-    Err("the proved library was left out of this build: run `rt staticlib exports`, then build again"
-        .to_string())
-}
-
 /// Times the proved library, where it is part of this program.
 #[cfg(linked)]
 fn bench_proved() -> Result<(), String> {
-    use manopluea_compare::{bench, proved::Proved};
-    print!("{}", bench::report(&Proved));
+    print!("{}", manopluea_compare::bench::report(&Proved));
     Ok(())
 }
 
@@ -74,6 +69,12 @@ fn compare_with_itself(seed: u64, count: u64) -> Result<(), String> {
     let tally = compare::compare(&Paper, &Paper, seed, count).map_err(|fault| fault.to_string())?;
     print!("{tally}");
     Ok(())
+}
+
+/// Puts every function of the proved library to the deepest floor, on a stack
+/// of so many bytes.
+fn ask_on_stack(bytes: &str) -> Result<(), String> {
+    stack::ask_every_function(bytes.parse().map_err(|_| USAGE)?)
 }
 
 fn show_example(letter: &str) -> Result<(), String> {

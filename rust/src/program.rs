@@ -1,7 +1,8 @@
-//! The printing program itself, as a process. It is made for x86-64 and runs
-//! under the kit's loader, and on another machine under its emulator too.
+//! The printing program itself, as a process. It is made for x86-64; on another
+//! machine it runs under the kit's emulator and loader.
 
 use crate::kit;
+use std::env::consts::ARCH;
 use std::ffi::OsString;
 use std::io::{ErrorKind, Write};
 use std::path::Path;
@@ -20,18 +21,15 @@ impl Program {
             let program = program.display();
             return Err(format!("{program} is not there; `rt check print` makes it"));
         }
-        let tools = kit::toolchain()?;
-        let emulator = tools.join("bin/qemu-x86_64");
-        let libraries = tools.join("lib");
-        let mut words = vec![
-            libraries.join("ld-linux-x86-64.so.2").into(),
-            "--library-path".into(),
-            libraries.into(),
-            program.into(),
-        ];
-        if emulator.is_file() {
-            words.insert(0, emulator.into());
+        let mut words = Vec::new();
+        if ARCH != "x86_64" {
+            let tools = kit::toolchain()?;
+            let libraries = tools.join("lib");
+            words.push(tools.join("bin/qemu-x86_64").into());
+            words.push(libraries.join("ld-linux-x86-64.so.2").into());
+            words.extend(["--library-path".into(), libraries.into()]);
         }
+        words.push(program.into());
         Ok(Program { words })
     }
 

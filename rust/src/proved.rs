@@ -10,16 +10,16 @@ mod c;
 #[path = "proved/piped.rs"]
 mod c;
 
-pub use c::list_on_stack;
+pub use c::on_stack;
 
 use crate::calls::{Calls, DoorChange, Lists, Reply, Stand};
-use crate::paper::CORNERS;
 
 /// The proved library.
 pub struct Proved;
 
-/// A text of so many bytes has room for everything that is printed.
-const MOST_TEXT: usize = 64 + 18 * *CORNERS.end();
+/// A text of so many bytes has room for everything that is printed: the
+/// header's MANOPLUEA_TEXT.
+pub const MOST_TEXT: usize = 36_928;
 
 /// What a text holds before a call: no byte that is ever printed.
 const UNPRINTED: u8 = 0xa5;

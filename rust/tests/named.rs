@@ -1,11 +1,11 @@
 //! The named cases: each reply is the one document 01 gives, of the paper
 //! program and of the proved library, and both leave the same lent memory.
-#![cfg(proved)]
 
 use manopluea_compare::calls::{Calls, DoorChange, Plan, Reply, Stand};
 use manopluea_compare::examples::{all, plan_q};
+use manopluea_compare::generate::query_record;
 use manopluea_compare::paper::{encode, Paper, WALL};
-use manopluea_compare::proved::{list_on_stack, Proved};
+use manopluea_compare::proved::Proved;
 
 /// The end of the coordinate range.
 const LIMIT: i32 = 536_870_912;
@@ -358,6 +358,9 @@ fn room_for_the_reader_the_writer_and_the_listing() {
     assert_eq!(reply, Reply::done([3, 0, 0]));
     let fill = u16::from(FILL);
     assert_eq!(table, [0, 0, 1, 1, 1, 2, 2, 2, 0, fill, fill, fill, fill]);
+    // The stand comes before the room.
+    let corner = Stand::Point(0.0, 0.0);
+    assert_eq!(list(&plan_q(), 1, corner, 11).0, Reply::refused(9, 0));
 }
 
 #[test]
@@ -497,6 +500,14 @@ fn offsets() {
     assert_eq!(reply(3, 1.0, -2.0), Reply::done([1, 0, 0]));
     assert_eq!(reply(4, 1.0, -2.0), Reply::refused(8, 0));
     assert_eq!(reply(65_535, 1.0, -2.0), Reply::refused(8, 0));
+    // A corner in no cell, at the edge.
+    let mut plan = plan_q();
+    plan.corners.extend([-LIMIT, 0]);
+    let reply = |dx, dy| find(&plan, Stand::Offset(4, dx, dy));
+    assert_eq!(reply(limit, 1.0), Reply::refused(9, 0));
+    assert_eq!(reply(limit + 1.0, 1.0), Reply::refused(8, 0));
+    assert_eq!(reply(-1.0, 1.0), Reply::refused(8, 0));
+    assert_eq!(reply(-0.0, 1.0), Reply::refused(10, 0));
     let (listed, table) = list(&plan_q(), 0, Stand::Offset(2, -4.0, -7.0), 12);
     assert_eq!(listed, Reply::done([4, 1, 0]));
     assert_eq!(table, [0, 0, 1, 1, 1, 2, 4, 2, 3, 5, 3, 0]);
@@ -569,28 +580,32 @@ fn the_twelve_examples() {
     }
 }
 
-/// The strip is crossed from end to end, each call within the one before it.
+/// The strip is crossed from end to end, and every corner gives a row.
 #[test]
-fn the_deepest_strip_on_small_stacks() {
+fn the_longest_strip() {
     let beside = Stand::Point(10.0, 1.0);
-    for cells in [2_000, 2_046] {
-        let plan = strip(cells, 64);
-        let corners = usize::from(cells) + 2;
-        let (reply, table) = list(&plan, 0, beside, 3 * corners);
-        assert_eq!(
-            reply,
-            Reply::done([corners as u64, u64::from(cells) - 1, 0])
-        );
-        for stack in [2 << 20, 8 << 20] {
-            let mut small = vec![0; 3 * corners];
-            let again = list_on_stack(stack, plan.lists(), 0, beside, &mut small);
-            assert_eq!(
-                (again, &small),
-                (reply, &table),
-                "{cells} cells, {stack} bytes"
-            );
-        }
+    let (reply, _) = list(&strip(2_046, 64), 0, beside, 3 * 2_048);
+    assert_eq!(reply, Reply::done([2_048, 2_045, 0]));
+}
+
+#[test]
+fn the_printing_program_refuses_its_query_first() {
+    let printed = |input: &[u8]| {
+        String::from_utf8(both(|calls| calls.print(input))).expect("it prints letters and digits")
+    };
+    let query = query_record(0, Stand::Point(6.0, 3.0));
+    let input = [query, encode(plan_q().lists())].concat();
+    for end in 0..input.len() {
+        assert_eq!(printed(&input[..end]), "refused 1 0\n", "cut at {end}");
     }
+    let mut long = input.clone();
+    long.resize(65_536, 0);
+    assert_eq!(printed(&long), "refused 1 0\n");
+    long.push(0);
+    assert_eq!(printed(&long), "refused 2 0\n");
+    let mut other_kind = input;
+    other_kind[4] = 5;
+    assert_eq!(printed(&other_kind), "refused 1 0\n");
 }
 
 /// The numbers of the listing, without the rest of the table.

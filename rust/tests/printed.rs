@@ -1,7 +1,10 @@
 //! The stored runs of the printing program, `crates/print`: a standard input
 //! and what is printed for it.
 
+use manopluea_compare::calls::Calls;
 use manopluea_compare::paper;
+use manopluea_compare::program::Program;
+use manopluea_compare::proved::Proved;
 use std::fs;
 use std::path::{Path, PathBuf};
 
@@ -57,16 +60,13 @@ fn the_paper_program_prints_the_stored_runs() {
     prints_them(paper::print);
 }
 
-#[cfg(proved)]
 #[test]
 fn the_proved_library_prints_the_stored_runs() {
-    use manopluea_compare::{calls::Calls, proved::Proved};
     prints_them(|input| Proved.print(input));
 }
 
-#[cfg(proved)]
 #[test]
 fn the_printing_program_prints_the_stored_runs() {
-    let program = manopluea_compare::program::Program::find().expect("it is made");
+    let program = Program::find().expect("it is made");
     prints_them(|input| program.print(input));
 }

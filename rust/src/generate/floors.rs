@@ -42,6 +42,30 @@ pub fn largest(pillars: usize, dice: &mut Dice) -> Mesh {
     mesh
 }
 
+/// The deepest floor: a stand in it, and as many cells as a plan may have, all
+/// of them on the one ray that goes west from there.
+///
+/// Two fans share a column of corners, one fan from a tip right of it and one
+/// from a tip left of it. The ray passes above the column and below the tips,
+/// so it meets each line of the right fan, the lowest first, and then each line
+/// of the left fan, the highest first.
+pub fn deepest() -> (Mesh, Spot) {
+    let column = (*CELLS.end() - 2) / 2;
+    let ray = 1_000 * column as i64;
+    let (wide, high) = (ray, ray + 1_000);
+    let mut corners: Vec<Spot> = (0..column as i64).map(|i| [0, 1_000 * i]).collect();
+    corners.extend([[wide, high], [-wide, high]]);
+    corners.extend([[2 * wide, 0], [-2 * wide, 0], [-3 * wide, high]]);
+    let (right, left) = (column, column + 1);
+    let [east, west, far] = [column + 2, column + 3, column + 4];
+    let mut cells = vec![[0, east, right]];
+    cells.extend((1..column).map(|i| [right, i, i - 1]));
+    cells.push([right, left, column - 1]);
+    cells.extend((1..column).rev().map(|i| [left, i - 1, i]));
+    cells.extend([[left, west, 0], [left, far, west]]);
+    (Mesh::of_cells(corners, &cells), [wide, ray])
+}
+
 fn one_cell(dice: &mut Dice) -> Mesh {
     let size = scale(dice);
     loop {

@@ -1,7 +1,7 @@
 //! The functions of `include/manopluea.h` linked from the archive, with
 //! slices for pointers and lengths.
 
-use crate::calls::{DoorChange, Lists, Reply, Stand};
+use crate::calls::{DoorChange, Lists, Stand};
 
 /// Declares a function of the archive and calls it, from one list of typed
 /// arguments: a slice passes as its pointer and its length, `Lists` as its
@@ -150,20 +150,14 @@ pub fn print(input: &[u8], text: &mut [u8], reply: &mut [u64]) {
     call!(manopluea_print(input: &[u8], text: &mut [u8], reply: &mut [u64],))
 }
 
-/// A listing on a stack of so many bytes.
-pub fn list_on_stack(
-    bytes: usize,
-    lists: Lists<'_>,
-    setting: u64,
-    stand: Stand,
-    table: &mut [u16],
-) -> Reply {
-    let mut five = super::UNWRITTEN;
+/// Asks on a stack of so many bytes.
+pub fn on_stack<T: Send>(bytes: usize, ask: impl FnOnce() -> T + Send) -> T {
     std::thread::scope(|scope| {
         std::thread::Builder::new()
             .stack_size(bytes)
-            .spawn_scoped(scope, || list(lists, setting, stand, table, &mut five))
-            .expect("a thread starts");
-    });
-    super::reply(five)
+            .spawn_scoped(scope, ask)
+            .expect("a thread starts")
+            .join()
+            .expect("a call does not panic")
+    })
 }

@@ -2,7 +2,8 @@
 //! pointers and lengths: on a machine that the archive is not made for,
 //! `bridge/serve.c` is linked with it and runs under the kit's emulator.
 
-use crate::calls::{DoorChange, Lists, Reply, Stand};
+use crate::calls::{DoorChange, Lists, Stand};
+use std::cell::Cell;
 use std::io::{Read, Write};
 use std::process::{Child, ChildStdin, ChildStdout, Command, Stdio};
 use std::sync::{Mutex, MutexGuard, PoisonError};
@@ -162,12 +163,30 @@ fn idle() -> MutexGuard<'static, Vec<Server>> {
     IDLE.lock().unwrap_or_else(PoisonError::into_inner)
 }
 
+thread_local! {
+    /// The server of a thread that asks on a stack of its own size.
+    static OWN: Cell<Option<Server>> = const { Cell::new(None) };
+}
+
 fn ask(function: Function, request: &Request<'_>) -> Answer {
     // A server that fails is not put back, and the next call starts another.
+    if let Some(mut server) = OWN.take() {
+        let answer = server.ask(function, request);
+        OWN.set(Some(server));
+        return answer;
+    }
     let waiting = idle().pop();
     let mut server = waiting.unwrap_or_else(|| Server::start(STACK));
     let answer = server.ask(function, request);
     idle().push(server);
+    answer
+}
+
+/// Asks on a stack of so many bytes.
+pub fn on_stack<T: Send>(bytes: usize, ask: impl FnOnce() -> T + Send) -> T {
+    OWN.set(Some(Server::start(bytes)));
+    let answer = ask();
+    OWN.set(None);
     answer
 }
 
@@ -256,14 +275,7 @@ pub fn find(lists: Lists<'_>, stand: Stand, reply: &mut [u64]) {
     reply.copy_from_slice(&answer.reply);
 }
 
-fn list_by(
-    ask: impl FnOnce(Function, &Request<'_>) -> Answer,
-    lists: Lists<'_>,
-    setting: u64,
-    stand: Stand,
-    table: &mut [u16],
-    reply: &mut [u64],
-) {
+pub fn list(lists: Lists<'_>, setting: u64, stand: Stand, table: &mut [u16], reply: &mut [u64]) {
     let functions = [Function::ListPoint, Function::ListOffset];
     let request = Request {
         setting,
@@ -275,10 +287,6 @@ fn list_by(
     kept(lists, &answer);
     table.copy_from_slice(&answer.table);
     reply.copy_from_slice(&answer.reply);
-}
-
-pub fn list(lists: Lists<'_>, setting: u64, stand: Stand, table: &mut [u16], reply: &mut [u64]) {
-    list_by(ask, lists, setting, stand, table, reply);
 }
 
 pub fn change(lists: Lists<'_>, asked: DoorChange<'_>, table: &mut [u16], reply: &mut [u64]) {
@@ -310,19 +318,4 @@ pub fn print(input: &[u8], text: &mut [u8], reply: &mut [u64]) {
     assert_eq!(answer.file, input, "the input is not lent");
     text.copy_from_slice(&answer.text);
     reply.copy_from_slice(&answer.reply);
-}
-
-/// A listing on a stack of so many bytes.
-pub fn list_on_stack(
-    bytes: usize,
-    lists: Lists<'_>,
-    setting: u64,
-    stand: Stand,
-    table: &mut [u16],
-) -> Reply {
-    let mut five = super::UNWRITTEN;
-    let mut server = Server::start(bytes);
-    let ask = |function, request: &Request<'_>| server.ask(function, request);
-    list_by(ask, lists, setting, stand, table, &mut five);
-    super::reply(five)
 }

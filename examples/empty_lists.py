@@ -1,0 +1,58 @@
+"""Every function takes a null pointer for a list of no numbers, and replies as it does to any other empty list.
+
+    python3 examples/empty_lists.py LIBRARY        as examples/client.py
+"""
+import ctypes
+import sys
+
+from client import CELLS, CORNERS, lend
+
+FRAME, SIZE, ROOM, ROWS = 1, 2, 11, 13
+NULL = None, ctypes.c_size_t(0)
+PLAN = *lend(ctypes.c_int32, CORNERS), *lend(ctypes.c_uint16, CELLS)
+ONE_DOOR = lend(ctypes.c_uint16, [2])
+FILE = lend(ctypes.c_uint8, bytes(18 + 32 + 24))
+TABLE = lend(ctypes.c_uint16, [0] * 12)
+TEXT = lend(ctypes.c_uint8, bytes(36928))
+SETTING, CORNER, DOOR, SHUT = ctypes.c_uint64(0), ctypes.c_uint16(0), ctypes.c_size_t(0), ctypes.c_bool(True)
+AT = ctypes.c_double(6), ctypes.c_double(3)
+STANDS = {"point": AT, "offset": (CORNER, *AT)}
+
+
+def main(library):
+    library = ctypes.CDLL(library)
+
+    def ask(function, *arguments):
+        reply = lend(ctypes.c_uint64, [7] * 5)
+        call = library[f"manopluea_{function}"]
+        call.restype = None
+        call(*arguments, *NULL)  # a reply of no numbers: nothing at all is done
+        call(*arguments, *reply)
+        return list(reply[0])
+
+    def expect(number, values, function, *arguments):
+        replied = ask(function, *arguments)
+        if replied != [number, 0, *values]:
+            sys.exit(f"{function} replied {replied}, not {number} with the values {values}")
+
+    none, counts = [0, 0, 0], [4, 2, 0]
+    expect(SIZE, none, "check", *NULL, *NULL, *NULL)
+    expect(0, counts, "check", *PLAN, *NULL)
+    expect(ROOM, none, "write", *PLAN, *NULL, *NULL)
+    expect(0, counts, "write", *PLAN, *NULL, *FILE)
+    expect(FRAME, none, "read", *NULL, *NULL, *NULL, *NULL)
+    expect(ROOM, none, "read", *FILE, *NULL, *NULL, *NULL)
+    expect(0, counts, "read", *FILE, *PLAN, *NULL)
+    for kind, stand in STANDS.items():
+        expect(0, none, f"find_{kind}", *PLAN, *NULL, *stand)
+        expect(ROOM, none, f"list_{kind}", *PLAN, *NULL, SETTING, *stand, *NULL)
+        expect(0, [4, 1, 0], f"list_{kind}", *PLAN, *NULL, SETTING, *stand, *TABLE)
+        change = f"change_{kind}", *PLAN, *ONE_DOOR, SETTING, *stand, *NULL, DOOR, SHUT
+        expect(ROOM, none, *change, *NULL)
+        expect(ROWS, none, *change, *TABLE)
+    expect(ROOM, none, "print", *NULL, *NULL)
+    expect(0, [len("refused 1 0\n"), 0, 0], "print", *NULL, *TEXT)
+
+
+if __name__ == "__main__":
+    main(sys.argv[1])

@@ -1,0 +1,127 @@
+//! The numbers of `include/manopluea.h` are those of document 01, and its stack
+//! is enough for every function.
+
+use manopluea_compare::calls::{Plan, Refusal, Stand};
+use manopluea_compare::generate;
+use manopluea_compare::paper::{
+    encode, Direction, Floor, View, CELLS, COORDINATES, CORNERS, DOORS, MOST_INPUT, WALL,
+};
+use manopluea_compare::proved::MOST_TEXT;
+use std::process::{Command, Output};
+
+const HEADER: &str = include_str!("../../include/manopluea.h");
+
+/// The number that the header defines under a name.
+fn defined(name: &str) -> i64 {
+    let line = HEADER
+        .lines()
+        .find_map(|line| {
+            line.strip_prefix("#define MANOPLUEA_")?
+                .strip_prefix(name)?
+                .strip_prefix(' ')
+        })
+        .unwrap_or_else(|| panic!("MANOPLUEA_{name} is not defined"));
+    let number = line.split_whitespace().next().expect("a number follows");
+    number.parse().expect("it is a number")
+}
+
+#[test]
+fn the_limits() {
+    assert_eq!(defined("LEAST_CORNERS"), *CORNERS.start() as i64);
+    assert_eq!(defined("MOST_CORNERS"), *CORNERS.end() as i64);
+    assert_eq!(defined("LEAST_CELLS"), *CELLS.start() as i64);
+    assert_eq!(defined("MOST_CELLS"), *CELLS.end() as i64);
+    assert_eq!(defined("MOST_DOORS"), *DOORS.end() as i64);
+    assert_eq!(defined("MOST_COORDINATE"), *COORDINATES.end());
+    assert_eq!(defined("WALL"), i64::from(WALL));
+    assert_eq!(defined("MOST_INPUT"), MOST_INPUT as i64);
+    let largest = Plan {
+        corners: vec![0; 2 * CORNERS.end()],
+        cells: vec![0; 6 * CELLS.end()],
+        doors: vec![0; *DOORS.end()],
+    };
+    assert_eq!(defined("MOST_FILE"), encode(largest.lists()).len() as i64);
+}
+
+/// As many rows as there are corners, each number as long as it can be.
+#[test]
+fn the_text_has_room_for_the_longest_answer() {
+    assert_eq!(defined("TEXT"), MOST_TEXT as i64);
+    let rows = *CORNERS.end();
+    let (face, corner) = (3 * CELLS.end() - 1, rows - 1);
+    let row = format!("{face} {corner} {corner}\n");
+    let crossings = rows * (CELLS.end() - 1);
+    let first = format!("rows {rows} crossings {crossings}\n");
+    assert!(first.len() + rows * row.len() <= MOST_TEXT);
+}
+
+#[test]
+fn the_reply_numbers() {
+    let refusals = [
+        Refusal::Frame,
+        Refusal::Size,
+        Refusal::Corner(0),
+        Refusal::Cell(0),
+        Refusal::Neighbour(0),
+        Refusal::Door(0),
+        Refusal::Setting,
+        Refusal::Stand,
+        Refusal::Line,
+        Refusal::Outside,
+        Refusal::Room,
+        Refusal::Change,
+        Refusal::Rows,
+    ];
+    let expected = refusals.map(|refusal| {
+        let name = format!("{refusal:?}").replace("(0)", "").to_uppercase();
+        format!("{name} = {}", refusal.reply().number)
+    });
+    let listed: Vec<&str> = HEADER
+        .lines()
+        .filter_map(|line| line.strip_prefix("    MANOPLUEA_"))
+        .filter_map(|line| line.split([',', '/']).next().map(str::trim))
+        .collect();
+    assert_eq!(listed[0], "DONE = 0");
+    assert_eq!(listed[1..], expected);
+}
+
+/// No plan has more than 3,000 cells, and no line of sight enters a cell twice.
+#[test]
+fn no_floor_is_deeper_than_the_deepest() {
+    let (mesh, [x, y]) = generate::deepest();
+    assert_eq!(mesh.cells.len(), *CELLS.end());
+    let plan = mesh.plan(&[]);
+    let floor = Floor::check(plan.lists()).expect("the paper program accepts it");
+    let view = View::new(&floor, 0, Stand::Point(x as f64, y as f64)).expect("the stand is inside");
+    let west = Direction { x: -1, y: 0 };
+    assert!(!view.meets_corner(west));
+    let walk = view.walk(west).expect("it ends at a wall");
+    assert_eq!(walk.route.len(), CELLS.end() - 1);
+}
+
+/// Every function on the deepest floor, in a process of its own: a stack that
+/// ends there ends that process, not the tests.
+fn on_stack(bytes: i64) -> Output {
+    Command::new(env!("CARGO_BIN_EXE_manopluea-compare"))
+        .args(["stack", &bytes.to_string()])
+        .output()
+        .expect("the program of this package starts")
+}
+
+#[test]
+fn the_stack_is_enough_for_every_function() {
+    let stated = defined("STACK");
+    let asked = on_stack(stated);
+    let [said, fault] =
+        [asked.stdout, asked.stderr].map(|text| String::from_utf8_lossy(&text).into_owned());
+    assert!(
+        asked.status.success(),
+        "on {stated} bytes: {}\nthe last of these was asked: {said}{fault}",
+        asked.status
+    );
+}
+
+#[test]
+fn a_stack_that_is_too_small_is_noticed() {
+    assert!(!on_stack(defined("STACK") / 2).status.success());
+}
