@@ -58,7 +58,8 @@ module _ (cs : List ℤ) (ts ds : List ℕ) (w : ℕ) (s : Stand) (given : List 
       pub a-list-that-is-not-true-is-refused : (given ≡ listing-numbers cs ts ds w q c → ⊥) → changed cs ts ds w s given i b table ≡ (L.Refused R.Rows, table)
       a-list-that-is-not-true-is-refused apart = sym (not-true cs ts ds w given i b table q c exists (sym otherwise) (is-another apart) refl ∙ of-view)
 
-      same-view : viewed cs ts ds (wished b w i) s (length table) ≡ O.From x y c
+      -- the view is the same under the new setting
+      pub same-view : viewed cs ts ds (wished b w i) s (length table) ≡ O.From x y c
       unfolding viewed
       same-view = by-plan (checked cs ts ds) view
         where

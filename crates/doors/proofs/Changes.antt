@@ -3,14 +3,15 @@ use mathlib.Core.Bool.{Bool, true, false, not, _&&_, _||_}
 use mathlib.Core.List.{List, [], _∷_}
 use mathlib.Core.Path.{_≡_, refl, ap, ap₂, sym, _∙_}
 use native.Mathlib.Omega.{arith}
-use Prim.Native.Nat.{ℕ, _*_, _+_, _<_, _≤_}
+use Prim.Native.Nat.{ℕ, _*_, _<_, _≤_}
 use borrow.Author.Tests.{eqb-true, eq-eqb, lt-ltb, le-ltb}
 use lib.Dec.{eqb}
-use lib.ListN.{length, take, drop}
-use lib.Seq.{sets, sets-eq, take-at}
+use lib.ListN.{length, take}
+use lib.Seq.{sets}
 use lib.IntN.{ℤ}
 use mir.Syntax.{w64}
 use mir.Val.{toZ, ofZ}
+use Rattle.exact.proofs.Lent.{first-is-new}
 use Rattle.exact.proofs.Truth.{both-true}
 use Rattle.plane.specs.Side.{Point}
 use Rattle.plan.specs.Lists.{corner-count}
@@ -57,11 +58,6 @@ is-another {a} {b} apart = by-test (same-list a b) refl
     by-test true h = absurd (apart (true-is-same a b h))
     by-test false h = sym h
 
--- the numbers stand at the start of the table that was written
-pub first-numbers : (table new numbers : List ℕ) (n : ℕ) → new ≡ sets table 0 numbers → length numbers ≡ n → n ≤ length table → take n new ≡ numbers
-first-numbers table new numbers n is counted room =
-    ap (take n) (is ∙ sets-eq numbers table 0 (omega arith)) ∙ take-at numbers (drop (0 + length numbers) table) n counted
-
 module _ {cs : List ℤ} {ts ds : List ℕ} (sound : Sound cs ts ds) (w : ℕ) (q : Point) (c : ℕ) (stands : located cs ts q ≡ F.Cell c) where
   counted : length (listing-numbers cs ts ds w q c) ≡ 3 * listing-row-count cs ts ds w q c
   unfolding listing-row-count row-count
@@ -80,7 +76,7 @@ module _ {cs : List ℤ} {ts ds : List ℕ} (sound : Sound cs ts ds) (w : ℕ) (
   pub listed-anew : {n : ℕ} (table : List ℕ) {new : List ℕ} → n ≡ listing-row-count cs ts ds w q c → 3 * corner-count cs ≤ length table → new ≡ sets table 0 (listing-numbers cs ts ds w q c) → take (3 * n) new ≡ listing-numbers cs ts ds w q c
   listed-anew {n} table {new} e room is =
       let fit = numbers-fit e in
-      first-numbers table new (listing-numbers cs ts ds w q c) (3 * n) is (counted ∙ ap (λ (k : ℕ). 3 * k) (sym e)) (omega arith)
+      ap (take (3 * n)) is ∙ first-is-new table (listing-numbers cs ts ds w q c) (3 * n) (counted ∙ ap (λ (k : ℕ). 3 * k) (sym e)) (omega arith)
 
 -- ---- replies 12 and 13, or the list under the new setting
 

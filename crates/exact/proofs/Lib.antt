@@ -5,3 +5,4 @@ pub mod Certificate
 pub mod Bounds
 pub mod Cancel
 pub mod Truth
+pub mod Lent

@@ -3,7 +3,11 @@ ghost use Prim.Native.Nat.{_≤_};
 ghost use mathlib.Core.Path.{_≡_};
 ghost use lib.ListN.{length};
 ghost use lib.Seq.{sets};
-ghost use Rattle.exports.specs.Reply.{five, checked-numbers, found-numbers, listed-numbers, printed-numbers};
+ghost use Rattle.plan.specs.Reply.{checked-reply};
+ghost use Rattle.stand.specs.Reply.{found-reply};
+ghost use Rattle.sight.specs.Reply.{listed-reply};
+ghost use Rattle.printing.specs.Reply.{printed-reply};
+ghost use Rattle.exports.specs.Reply.{five, numbers-of};
 use manopluea::Checked;
 use manopluea::Found;
 use manopluea::Listed;
@@ -23,7 +27,7 @@ fn put(reply: &mut [u64], n: u64, p: u64, a: u64, b: u64, c: u64)
 
 pub fn put_checked(reply: &mut [u64], answer: Checked)
     requires { ⌜ 5 ≤ length (now reply) ⌝ }
-    ensures { λ _. ⌜ now (reply .exit) ≡ sets (now (reply .entry)) 0 (checked-numbers answer) ⌝ }
+    ensures { λ _. ⌜ now (reply .exit) ≡ sets (now (reply .entry)) 0 (numbers-of (checked-reply answer)) ⌝ }
 {
     match answer {
         Checked::Accepted(plan) => {
@@ -42,7 +46,7 @@ pub fn put_checked(reply: &mut [u64], answer: Checked)
 
 pub fn put_found(reply: &mut [u64], answer: Found)
     requires { ⌜ 5 ≤ length (now reply) ⌝ }
-    ensures { λ _. ⌜ now (reply .exit) ≡ sets (now (reply .entry)) 0 (found-numbers answer) ⌝ }
+    ensures { λ _. ⌜ now (reply .exit) ≡ sets (now (reply .entry)) 0 (numbers-of (found-reply answer)) ⌝ }
 {
     match answer {
         Found::Cell(c) => put(reply, 0, 0, c as u64, 0, 0),
@@ -53,7 +57,7 @@ pub fn put_found(reply: &mut [u64], answer: Found)
 // For the listing and the door change.
 pub fn put_listed(reply: &mut [u64], answer: Listed)
     requires { ⌜ 5 ≤ length (now reply) ⌝ }
-    ensures { λ _. ⌜ now (reply .exit) ≡ sets (now (reply .entry)) 0 (listed-numbers answer) ⌝ }
+    ensures { λ _. ⌜ now (reply .exit) ≡ sets (now (reply .entry)) 0 (numbers-of (listed-reply answer)) ⌝ }
 {
     match answer {
         Listed::Rows(n, k) => put(reply, 0, 0, n as u64, k as u64, 0),
@@ -63,7 +67,7 @@ pub fn put_listed(reply: &mut [u64], answer: Listed)
 
 pub fn put_printed(reply: &mut [u64], answer: Printed)
     requires { ⌜ 5 ≤ length (now reply) ⌝ }
-    ensures { λ _. ⌜ now (reply .exit) ≡ sets (now (reply .entry)) 0 (printed-numbers answer) ⌝ }
+    ensures { λ _. ⌜ now (reply .exit) ≡ sets (now (reply .entry)) 0 (numbers-of (printed-reply answer)) ⌝ }
 {
     match answer {
         Printed::Text(n) => put(reply, 0, 0, n as u64, 0, 0),

@@ -1,2 +1,6 @@
+pub mod Calls
+pub mod Conditions
+pub mod Demands
 pub mod Cases
+pub mod Hall
 pub mod ShutOut

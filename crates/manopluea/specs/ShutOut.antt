@@ -1,5 +1,6 @@
--- A wrong listing, which the laws of proofs/ShutOut.antt shut out: it expands side 0 of the stand's cell fully and treats sides 1 and 2 as walls.
-use mathlib.Core.List.{List}
+-- Wrong versions, which the laws of proofs/ShutOut.antt shut out (document 01, "What the promises have to say").
+use mathlib.Core.Bool.{true, false, _&&_}
+use mathlib.Core.List.{List, [], _∷_, _++_}
 use Prim.Native.Nat.{ℕ, _+_, _*_}
 use lib.ListN.{length}
 use lib.Seq.{sets}
@@ -14,6 +15,11 @@ use Rattle.sight.specs.declared.view.View.{View}
 use Rattle.sight.specs.declared.view.View.the-variants.{From, Refused}
 use Rattle.sight.specs.declared.list.Listed.{Listed}
 use Rattle.sight.specs.declared.list.Listed.the-variants as L
+use Rattle.doors.specs.Route.{Routed}
+use Rattle.doors.specs.Door.{on-door}
+use Rattle.doors.specs.Shutting.{Piece, pieces, is-run, door-row, shut-rows}
+
+-- ---- a listing that expands side 0 of the stand's cell fully and treats sides 1 and 2 as walls
 
 -- a side of the stand's cell as wall, free or not: one row, with the side's two ends as limits
 abbrev pub as-wall : List ℕ → ℕ → Sight
@@ -32,3 +38,37 @@ side-0-listed-from cs ts ds w table (Refused r) = (L.Refused r, table)
 -- it refuses as the listing does
 abbrev pub sides-1-and-2-as-walls : List ℤ → List ℕ → List ℕ → ℕ → Stand → List ℕ → Listed × List ℕ
 sides-1-and-2-as-walls cs ts ds w s table = side-0-listed-from cs ts ds w table (viewed cs ts ds w s (length table))
+
+-- ---- shutting a door, on rows with their routes
+
+-- the rows of pieces, in order
+unfoldable pub rows-of : List Piece → List Routed
+rows-of [] = []
+rows-of (k ∷ ks) = k .first ∷ k .others ++ rows-of ks
+
+module _ (f₀ g₀ : ℕ) where
+  -- only the first run is treated
+  unfoldable pub first-run-alone : List Piece → List Routed
+  first-run-alone [] = []
+  first-run-alone (k ∷ ks) =
+      elim (is-run f₀ g₀ k) [ true ↦ door-row f₀ g₀ k ∷ rows-of ks | false ↦ k .first ∷ k .others ++ first-run-alone ks ]
+
+  abbrev pub only-the-first-run : List Routed → List Routed
+  only-the-first-run xs = first-run-alone (pieces f₀ g₀ xs)
+
+  -- a row on the door in front of another is made one with it
+  unfoldable pub in-front-of : Routed → List Routed → List Routed
+  in-front-of x [] = x ∷ []
+  in-front-of x (y ∷ ys) =
+      elim (on-door f₀ g₀ x && on-door f₀ g₀ y) [
+        | true ↦ record { row = record { face = x .row .face; right = x .row .right; left = y .row .left }; route = x .route } ∷ ys
+        | false ↦ x ∷ y ∷ ys
+      ]
+
+  unfoldable pub joined-on-the-door : List Routed → List Routed
+  joined-on-the-door [] = []
+  joined-on-the-door (x ∷ xs) = in-front-of x (joined-on-the-door xs)
+
+  -- adjacent runs are joined, because their face is equal
+  abbrev pub adjacent-runs-joined : List Routed → List Routed
+  adjacent-runs-joined xs = joined-on-the-door (shut-rows f₀ g₀ xs)

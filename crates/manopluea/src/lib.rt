@@ -3,16 +3,21 @@
 // A plan is three lists of whole numbers: corners x, y, x, y, .. in millimetres; cells of three corner numbers and three neighbours (65535 is wall);
 // doors, a face number each. Face = 3·cell + side. In a door setting bit i is one while door i is shut.
 //
-// Every call takes every input and has no `requires`. Its promise is one equation: the reply, with what stands in the lent memory at exit, is a
-// definition of the input and of what stood there at entry. Where a call is refused, every lent table, list and file keeps its contents; on 0, what
-// lies beyond what was written does. `number` and `place` (crates/plan/specs/Reply.antt) give document 01's reply number and place of each refusal;
-// the lowest number that applies is the reply. docs/PROMISES.md says what determines each part, docs/THEOREMS.md what is proved of the definitions.
+// Every call takes every input and has no `requires`. Its promise is one equation, said twice: the answer, with what stands in the lent memory at exit,
+// is a definition of the input and of what stood there at entry; and so are document 01's reply number, place and values (`checked-reply`,
+// `found-reply`, `listed-reply` give them for each case of an answer). Where a call is refused, every lent table, list and file keeps its contents; on
+// 0, what lies beyond what was written does. The lowest number that applies is the reply. docs/PROMISES.md says what determines each part,
+// docs/THEOREMS.md what is proved of the definitions, the three demands first (proofs/Demands.antt).
 ghost use mathlib.Core.Path.{_≡_};
 ghost use Rattle.plan.specs.Check.{checked};
 ghost use Rattle.planfile.specs.Calls.{written, read as Calls·read};
 ghost use Rattle.stand.specs.Find.{found};
 ghost use Rattle.sight.specs.Listing.{listed};
 ghost use Rattle.doors.specs.Change.{changed};
+ghost use Rattle.plan.specs.Reply.{checked-reply};
+ghost use Rattle.stand.specs.Reply.{found-reply};
+ghost use Rattle.sight.specs.Reply.{listed-reply};
+ghost use Rattle.manopluea.specs.Calls.{check-replies, read-replies, write-replies, find-replies, list-replies, change-replies};
 pub use plan::Checked;
 pub use plan::Plan;
 pub use plan::Refusal;
@@ -23,7 +28,8 @@ pub use stand::spot::Stand;
 // The plan check. Accepted with the counts of corners, cells and doors; else FRAME, SIZE, CORNER, CELL, NEIGHBOUR or DOOR,
 // the lowest number that applies, at its least place.
 pub fn check(corners: &[i32], cells: &[u16], doors: &[u16]) -> Checked
-    ensures { λ r. ⌜ r ≡ checked (now (corners .entry)) (now (cells .entry)) (now (doors .entry)) ⌝ }
+    ensures answer { λ r. ⌜ r ≡ checked (now (corners .entry)) (now (cells .entry)) (now (doors .entry)) ⌝ }
+    ensures numbers { λ r. ⌜ checked-reply r ≡ check-replies (now (corners .entry)) (now (cells .entry)) (now (doors .entry)) ⌝ }
 {
     plan::check(corners, cells, doors)
 }
@@ -31,7 +37,8 @@ pub fn check(corners: &[i32], cells: &[u16], doors: &[u16]) -> Checked
 // The reader: the three lists of a plan file go into the lent lists, from their beginning. Accepted with the counts; else 1 to 6 as the check has
 // them, or ROOM where any list is shorter than its numbers.
 pub fn read(file: &[u8], corners: &mut [i32], cells: &mut [u16], doors: &mut [u16]) -> Checked
-    ensures { λ r. ⌜ (r, (now (corners .exit), (now (cells .exit), now (doors .exit)))) ≡ Calls·read (now (file .entry)) (now (corners .entry)) (now (cells .entry)) (now (doors .entry)) ⌝ }
+    ensures answer { λ r. ⌜ (r, (now (corners .exit), (now (cells .exit), now (doors .exit)))) ≡ Calls·read (now (file .entry)) (now (corners .entry)) (now (cells .entry)) (now (doors .entry)) ⌝ }
+    ensures numbers { λ r. ⌜ (checked-reply r, (now (corners .exit), (now (cells .exit), now (doors .exit)))) ≡ read-replies (now (file .entry)) (now (corners .entry)) (now (cells .entry)) (now (doors .entry)) ⌝ }
 {
     planfile::read(file, corners, cells, doors)
 }
@@ -39,7 +46,8 @@ pub fn read(file: &[u8], corners: &mut [i32], cells: &mut [u16], doors: &mut [u1
 // The writer: the one file of three lists goes into the lent bytes, from their beginning. Accepted with the counts; else 1 to 6 as the check has
 // them, or ROOM where the bytes are shorter than the file. Reading what was written returns the lists, writing what was read the same bytes.
 pub fn write(corners: &[i32], cells: &[u16], doors: &[u16], file: &mut [u8]) -> Checked
-    ensures { λ r. ⌜ (r, now (file .exit)) ≡ written (now (corners .entry)) (now (cells .entry)) (now (doors .entry)) (now (file .entry)) ⌝ }
+    ensures answer { λ r. ⌜ (r, now (file .exit)) ≡ written (now (corners .entry)) (now (cells .entry)) (now (doors .entry)) (now (file .entry)) ⌝ }
+    ensures numbers { λ r. ⌜ (checked-reply r, now (file .exit)) ≡ write-replies (now (corners .entry)) (now (cells .entry)) (now (doors .entry)) (now (file .entry)) ⌝ }
 {
     planfile::write(corners, cells, doors, file)
 }
@@ -47,7 +55,8 @@ pub fn write(corners: &[i32], cells: &[u16], doors: &[u16], file: &mut [u8]) -> 
 // The stand's cell: the least-numbered cell that holds it strictly inside. Else 1 to 6 as the check has them, STAND where a number or corner is not
 // accepted, LINE where the stand is strictly inside no cell but on some cell's border, OUTSIDE where it is inside or on none.
 pub fn find(corners: &[i32], cells: &[u16], doors: &[u16], stand: Stand) -> Found
-    ensures { λ r. ⌜ r ≡ found (now (corners .entry)) (now (cells .entry)) (now (doors .entry)) stand ⌝ }
+    ensures answer { λ r. ⌜ r ≡ found (now (corners .entry)) (now (cells .entry)) (now (doors .entry)) stand ⌝ }
+    ensures numbers { λ r. ⌜ found-reply r ≡ find-replies (now (corners .entry)) (now (cells .entry)) (now (doors .entry)) stand ⌝ }
 {
     stand::find::find(corners, cells, doors, stand)
 }
@@ -62,7 +71,8 @@ pub fn list(
     stand: Stand,
     table: &mut [u16],
 ) -> Listed
-    ensures { λ r. ⌜ (r, now (table .exit)) ≡ listed (now (corners .entry)) (now (cells .entry)) (now (doors .entry)) setting stand (now (table .entry)) ⌝ }
+    ensures answer { λ r. ⌜ (r, now (table .exit)) ≡ listed (now (corners .entry)) (now (cells .entry)) (now (doors .entry)) setting stand (now (table .entry)) ⌝ }
+    ensures numbers { λ r. ⌜ (listed-reply r, now (table .exit)) ≡ list-replies (now (corners .entry)) (now (cells .entry)) (now (doors .entry)) setting stand (now (table .entry)) ⌝ }
 {
     sight::list::list(corners, cells, doors, setting, stand, table)
 }
@@ -80,7 +90,8 @@ pub fn change(
     shut: bool,
     table: &mut [u16],
 ) -> Listed
-    ensures { λ r. ⌜ (r, now (table .exit)) ≡ changed (now (corners .entry)) (now (cells .entry)) (now (doors .entry)) setting stand (now (given .entry)) door shut (now (table .entry)) ⌝ }
+    ensures answer { λ r. ⌜ (r, now (table .exit)) ≡ changed (now (corners .entry)) (now (cells .entry)) (now (doors .entry)) setting stand (now (given .entry)) door shut (now (table .entry)) ⌝ }
+    ensures numbers { λ r. ⌜ (listed-reply r, now (table .exit)) ≡ change-replies (now (corners .entry)) (now (cells .entry)) (now (doors .entry)) setting stand (now (given .entry)) door shut (now (table .entry)) ⌝ }
 {
     doors::change(
         corners,

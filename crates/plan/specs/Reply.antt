@@ -1,7 +1,10 @@
--- Reply numbers and places (document 01, "Reply numbers").
+-- Answers in document 01's numbers ("Reply numbers"): reply number, place, and the values that come with 0.
+use mathlib.Core.List.{List, [], _∷_}
 use Prim.Native.Nat.{ℕ}
 use Rattle.plan.specs.declared.Refusal.{Refusal}
 use Rattle.plan.specs.declared.Refusal.the-variants.{Frame, Size, Corner, Cell, Neighbour, Door, Setting, Stand, Line, Outside, Room, Change, Rows}
+use Rattle.plan.specs.declared.Checked.{Checked}
+use Rattle.plan.specs.declared.Checked.the-variants.{Accepted, Refused}
 
 abbrev pub number : Refusal → ℕ
 number Frame = 1
@@ -32,3 +35,21 @@ place Outside = 0
 place Room = 0
 place Change = 0
 place Rows = 0
+
+pub record Reply : Type 0 where
+  pub number : ℕ
+  pub place : ℕ
+  pub values : List ℕ
+
+-- done: number 0, place 0 and the values
+abbrev pub done : List ℕ → Reply
+done vs = record { number = 0; place = 0; values = vs }
+
+-- a refusal returns its number and place only
+abbrev pub refused : Refusal → Reply
+refused r = record { number = number r; place = place r; values = [] }
+
+-- check, reader and writer: the counts of corners, cells and doors
+abbrev pub checked-reply : Checked → Reply
+checked-reply (Accepted p) = done (p .corners ∷ p .cells ∷ p .doors ∷ [])
+checked-reply (Refused r) = refused r

@@ -28,6 +28,12 @@ roomed true (Refused r) e = e
 roomed false (Accepted q) e = let z : _≡_ {A = ℕ} 0 1 = cc in absurd (omega arith)
 roomed false (Refused r) e = e
 
+-- and there was room
+pub had-room : (b : Bool) (c : Checked) {p : Plan} → given-room b c ≡ Accepted p → b ≡ true
+had-room true c e = refl
+had-room false (Accepted q) e = let z : _≡_ {A = ℕ} 0 1 = cc in absurd (omega arith)
+had-room false (Refused r) e = let z : _≡_ {A = ℕ} 0 1 = cc in absurd (omega arith)
+
 -- an accepted plan's lists are short
 pub small : (cs : List ℤ) (ts ds : List ℕ) {reply : Checked} {p : Plan} → reply ≡ checked cs ts ds → reply ≡ Accepted p → (length cs ≤ 2 * most-corners) × ((length ts ≤ 6 * most-cells) × (length ds ≤ most-doors))
 small cs ts ds {p = p} e f =

@@ -1,14 +1,17 @@
 -- The round trips (document 01, "The plan file"): reading the file of lists returns those lists, writing what was read returns the same
 -- bytes, and the reader accepts exactly what the writer can write. And no second reply: each promise is one equation.
-use mathlib.Core.Bool.{true, false, not}
-use mathlib.Core.List.{List, _++_, map}
+use mathlib.Core.Bool.{true, false, not, _&&_}
+use mathlib.Core.List.{List, map}
 use mathlib.Core.Path.{_≡_, refl, sym, ap, ap₂, _∙_}
-use Prim.Native.Nat.{ℕ, _+_, _≤_}
+use Prim.Native.Nat.{ℕ, _≤_}
 use native.Mathlib.Omega.{arith}
-use borrow.Author.Tests.{not-false, le-leb}
+use borrow.Author.Tests.{not-false, le-leb, leb-true}
+use lib.Dec.{leb}
 use lib.ListN.{length, take, drop}
-use lib.Seq.{sets, sets-eq, take-append-seam, drop-append-seam}
+use lib.Seq.{sets}
 use lib.IntN.{ℤ}
+use Rattle.exact.proofs.Lent.{Leaves, first-is-new, rest-is-kept, written-leaves}
+use Rattle.exact.proofs.Truth.{both-true}
 use Rattle.plan.specs.Check.{checked}
 use Rattle.plan.specs.declared.Plan.{Plan}
 use Rattle.plan.specs.declared.Refusal.the-variants.{Frame}
@@ -20,7 +23,7 @@ use Rattle.records.specs.Record.{corner-record, cell-record, door-record, frame
 use Rattle.records.proofs.Back.{append-is-bytes, record-is-bytes, all-is-bytes}
 use Rattle.planfile.specs.File.{file-of, corners-in, cells-in, doors-in}
 use Rattle.planfile.specs.Calls.{given-room, written, has-room, lists-reply, read-reply, handed-over, read}
-use Rattle.planfile.proofs.Accepts.{roomed}
+use Rattle.planfile.proofs.Accepts.{roomed, had-room}
 use Rattle.planfile.proofs.Writes.{all-written}
 use Rattle.planfile.proofs.Decodes.{by-its-lists}
 use Rattle.planfile.proofs.ListsBack.{the-file-is-framed, corners-read-back, cells-read-back, doors-read-back}
@@ -57,18 +60,25 @@ module _ (cs : List ℤ) (ts ds : List ℕ) where
       (append-is-bytes (record-is-bytes 2 (all-is-bytes 2 ts)) (record-is-bytes 3 (all-is-bytes 2 ds)))
 
   module _ (file : List ℕ) (room : length (file-of cs ts ds) ≤ length file) where
-    whole : sets file 0 (file-of cs ts ds) ≡ file-of cs ts ds ++ drop (length (file-of cs ts ds)) file
-    whole =
-        let from-0 : 0 + length (file-of cs ts ds) ≡ length (file-of cs ts ds) = omega arith in
-        sets-eq (file-of cs ts ds) file 0 (omega arith) ∙ ap (λ (n : ℕ). file-of cs ts ds ++ drop n file) from-0
-
     -- the first bytes that the writer leaves are the file
     pub the-first-bytes-are-the-file : take (length (file-of cs ts ds)) (sets file 0 (file-of cs ts ds)) ≡ file-of cs ts ds
-    the-first-bytes-are-the-file = ap (take (length (file-of cs ts ds))) whole ∙ take-append-seam (file-of cs ts ds) (drop (length (file-of cs ts ds)) file)
+    the-first-bytes-are-the-file = first-is-new file (file-of cs ts ds) (length (file-of cs ts ds)) refl room
 
     -- and those beyond keep their values
     pub the-bytes-beyond-are-kept : drop (length (file-of cs ts ds)) (sets file 0 (file-of cs ts ds)) ≡ drop (length (file-of cs ts ds)) file
-    the-bytes-beyond-are-kept = ap (drop (length (file-of cs ts ds))) whole ∙ drop-append-seam (file-of cs ts ds) (drop (length (file-of cs ts ds)) file)
+    the-bytes-beyond-are-kept = rest-is-kept file (file-of cs ts ds) (length (file-of cs ts ds)) refl room
+
+-- ---- the lists in the lent memory
+
+-- the lists of a file that the reader accepts stand first in the lent lists, and what lies beyond them keeps its values
+pub the-first-numbers-are-the-lists : (s : List ℕ) (corners : List ℤ) (cells doors : List ℕ) {p : Plan} → read s corners cells doors .0 ≡ Accepted p → Leaves corners (corners-in s) (read s corners cells doors .1 .0) × (Leaves cells (cells-in s) (read s corners cells doors .1 .1 .0) × Leaves doors (doors-in s) (read s corners cells doors .1 .1 .1))
+unfolding read-reply
+the-first-numbers-are-the-lists s corners cells doors ok =
+    let lists = passed (not (framed s)) Frame (lists-reply (corners-in s) (cells-in s) (doors-in s) (length corners) (length cells) (length doors)) ok .1 in
+    let room = had-room (has-room (corners-in s) (cells-in s) (doors-in s) (length corners) (length cells) (length doors)) _ lists in
+    let (two, third) = both-true (leb (length (corners-in s)) (length corners) && leb (length (cells-in s)) (length cells)) (leb (length (doors-in s)) (length doors)) room in
+    let (first, second) = both-true (leb (length (corners-in s)) (length corners)) (leb (length (cells-in s)) (length cells)) two in
+    rw ok (written-leaves corners (corners-in s) (leb-true _ _ first), (written-leaves cells (cells-in s) (leb-true _ _ second), written-leaves doors (doors-in s) (leb-true _ _ third)))
 
 -- ---- writing what was read
 

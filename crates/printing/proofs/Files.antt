@@ -2,12 +2,13 @@
 use mathlib.Core.Bool.{Bool, true, false}
 use mathlib.Core.List.{List}
 use mathlib.Core.Path.{_≡_, refl, sym, ap, ap₂, _∙_}
-use Prim.Native.Nat.{ℕ, _+_, _*_, _/_, _≤_}
+use Prim.Native.Nat.{ℕ, _*_, _/_, _≤_}
 use native.Mathlib.Omega.{arith}
 use borrow.Author.Tests.{le-leb}
-use lib.ListN.{length, take, drop}
-use lib.Seq.{sets, sets-eq, length-sets, take-append-seam}
+use lib.ListN.{length, take}
+use lib.Seq.{sets, length-sets}
 use lib.IntN.{ℤ}
+use Rattle.exact.proofs.Lent.{first-is-new}
 use Rattle.plan.specs.Limits.{most-corners, most-cells, most-doors}
 use Rattle.plan.specs.Check.{checked}
 use Rattle.plan.specs.declared.Plan.{Plan}
@@ -27,11 +28,6 @@ use Rattle.sight.specs.declared.list.Listed.{Listed}
 use Rattle.sight.specs.declared.list.Listed.the-variants as L
 use Rattle.sight.proofs.Views.{plan-refused, listing-refused}
 use Rattle.printing.specs.Print.{file-listed}
-
--- what is written at the beginning is read back there
-front {ℓ} : {A : Type ℓ} (old new : List A) (n : ℕ) → length new ≡ n → n ≤ length old → take n (sets old 0 new) ≡ new
-front old new n long h =
-    rw (← long) (ap (take (length new)) (sets-eq new old 0 (omega arith)) ∙ take-append-seam new (drop (0 + length new) old))
 
 module _ (file : List ℕ) (w : ℕ) (s : Stand) (table : List ℕ) where
   pub framed-is-listed : framed file ≡ true → file-listed file w s table ≡ listed (corners-in file) (cells-in file) (doors-in file) w s table
@@ -156,9 +152,9 @@ module _ (file : List ℕ) (cs₀ : List ℤ) (ts₀ ds₀ : List ℕ) (room : (
     -- the way out of an acceptance: what the listing of those numbers leaves
     pub listed-from-the-reader : (w : ℕ) (s : Stand) (table : List ℕ) {left : Listed × List ℕ} → left ≡ listed (take (2 * p .corners) cs) (take (6 * p .cells) ts) (take (p .doors) ds) w s table → left ≡ file-listed file w s table
     listed-from-the-reader w s table {left} is =
-        let n = ap (take (2 * p .corners)) corners-are ∙ front cs₀ (corners-in file) (2 * p .corners) (long .corners) (omega (arith, long .few-corners, room .0)) in
-        let m = ap (take (6 * p .cells)) cells-are ∙ front ts₀ (cells-in file) (6 * p .cells) (long .cells) (omega (arith, long .few-cells, room .1 .0)) in
-        let k = ap (take (p .doors)) doors-are ∙ front ds₀ (doors-in file) (p .doors) (long .doors) (omega (arith, long .few-doors, room .1 .1)) in
+        let n = ap (take (2 * p .corners)) corners-are ∙ first-is-new cs₀ (corners-in file) (2 * p .corners) (long .corners) (omega (arith, long .few-corners, room .0)) in
+        let m = ap (take (6 * p .cells)) cells-are ∙ first-is-new ts₀ (cells-in file) (6 * p .cells) (long .cells) (omega (arith, long .few-cells, room .1 .0)) in
+        let k = ap (take (p .doors)) doors-are ∙ first-is-new ds₀ (doors-in file) (p .doors) (long .doors) (omega (arith, long .few-doors, room .1 .1)) in
         is
         ∙ ap (λ (l : List ℤ). listed l (take (6 * p .cells) ts) (take (p .doors) ds) w s table) n
         ∙ ap₂ (λ (l o : List ℕ). listed (corners-in file) l o w s table) m k

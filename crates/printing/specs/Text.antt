@@ -4,7 +4,7 @@ use mathlib.Core.List.{List, [], _∷_, _++_}
 use Prim.Native.Nat.{ℕ, zero, suc, _+_, _*_, _/_, _%_}
 use lib.Dec.{ltb}
 use lib.ListN.{getD}
-use Rattle.plan.specs.Reply.{number, place}
+use Rattle.plan.specs.Reply.{refused}
 use Rattle.plan.specs.declared.Refusal.{Refusal}
 use Rattle.printing.specs.Word.{word}
 
@@ -29,7 +29,7 @@ line-end = 10
 
 -- `refused`, number, place
 unfoldable pub refusal-line : Refusal → List ℕ
-refusal-line r = word "refused " ++ number-then (number r) space ++ number-then (place r) line-end
+refusal-line r = word "refused " ++ number-then (refused r .number) space ++ number-then (refused r .place) line-end
 
 -- `rows`, row count, `crossings`, count
 unfoldable pub count-line : ℕ → ℕ → List ℕ

@@ -5,6 +5,7 @@ ghost use Prim.Native.Nat.{_*_, _≤_};
 ghost use lib.ListN.{length};
 ghost use Rattle.plan.specs.Limits.{most-corners, most-cells, most-doors};
 ghost use Rattle.printing.specs.Print.{most-text, begins as Print·begins, file-listed, lines, blank-table, printed, answered, Within};
+ghost use Rattle.printing.specs.Reply.{printed-reply, print-replies};
 ghost use Rattle.printing.specs.Wrote.{Wrote};
 use manopluea::Checked;
 use manopluea::Listed;
@@ -126,8 +127,9 @@ fn print_input(input: &[u8], text: &mut [u8]) -> usize
 
 // Bytes in, bytes out: what is printed for this input.
 pub fn print(input: &[u8], text: &mut [u8]) -> Printed
-    ensures { λ r. ⌜ (r, now (text .exit)) ≡ answered (now (input .entry)) (now (text .entry)) ⌝ }
-    ensures { λ r. ⌜ Within r (length (now (text .exit))) ⌝ }
+    ensures answer { λ r. ⌜ (r, now (text .exit)) ≡ answered (now (input .entry)) (now (text .entry)) ⌝ }
+    ensures numbers { λ r. ⌜ (printed-reply r, now (text .exit)) ≡ print-replies (now (input .entry)) (now (text .entry)) ⌝ }
+    ensures within { λ r. ⌜ Within r (length (now (text .exit))) ⌝ }
 {
     if text.len() < Printed::MOST_TEXT {
         return Printed::Refused(Refusal::Room);

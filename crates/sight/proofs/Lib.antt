@@ -18,5 +18,6 @@ pub mod Marks
 pub mod Facing
 pub mod Lined
 pub mod Lister
+pub mod Tables
 pub mod Written
 pub mod RowCounts

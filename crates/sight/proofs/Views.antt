@@ -97,45 +97,50 @@ module _ (cs : List ℤ) (ts ds : List ℕ) (w : ℕ) (s : Stand) (room : ℕ) w
 pub a-refusal-is-no-view : {r : Refusal} {x y : ℤ} {c : ℕ} → O.Refused r ≡ O.From x y c → ⊥
 a-refusal-is-no-view p = let z : _≡_ {A = ℕ} 0 1 = cc in omega arith
 
--- what a view says: the plan is accepted, the stand is within the limits and strictly inside its cell, and the table has room
-pub record Viewed (cs : List ℤ) (ts ds : List ℕ) (room : ℕ) (x y : ℤ) (c : ℕ) : Type 0 where
+-- what a view says: the plan is accepted, the setting is right, the stand is this point, within the limits and strictly inside its cell, and the
+-- table has room
+pub record Viewed (cs : List ℤ) (ts ds : List ℕ) (w : ℕ) (s : Stand) (room : ℕ) (x y : ℤ) (c : ℕ) : Type 0 where
   pub sound : Sound cs ts ds
+  pub setting-right : wrong-setting w (length ds) ≡ false
+  pub stand-is : stood cs s ≡ S.At x y
   pub stand-near : Near (record { x = x; y = y })
   pub stand-cell : located cs ts (record { x = x; y = y }) ≡ F.Cell c
   pub has-room : 3 * corner-count cs ≤ room
 
 module _ (cs : List ℤ) (ts ds : List ℕ) (w : ℕ) (s : Stand) (room : ℕ) where
-  pub view-says : {x y : ℤ} {c : ℕ} → viewed cs ts ds w s room ≡ O.From x y c → Viewed cs ts ds room x y c
+  pub view-says : {x y : ℤ} {c : ℕ} → viewed cs ts ds w s room ≡ O.From x y c → Viewed cs ts ds w s room x y c
   unfolding viewed
   view-says {x} {y} {c} e = by-plan (checked cs ts ds) refl e
     where
-      by-room : Sound cs ts ds → (u v : ℤ) (k : ℕ) → stood cs s ≡ S.At u v → located cs ts (record { x = u; y = v }) ≡ F.Cell k → (b : Bool) → ltb room (3 * corner-count cs) ≡ b → unless b R.Room (O.From u v k) ≡ O.From x y c → Viewed cs ts ds room x y c
-      by-room sound u v k st lo true h p = absurd (a-refusal-is-no-view p)
-      by-room sound u v k st lo false h p =
+      by-room : Sound cs ts ds → wrong-setting w (length ds) ≡ false → (u v : ℤ) (k : ℕ) → stood cs s ≡ S.At u v → located cs ts (record { x = u; y = v }) ≡ F.Cell k → (b : Bool) → ltb room (3 * corner-count cs) ≡ b → unless b R.Room (O.From u v k) ≡ O.From x y c → Viewed cs ts ds w s room x y c
+      by-room sound right u v k st lo true h p = absurd (a-refusal-is-no-view p)
+      by-room sound right u v k st lo false h p =
           let same-x : u ≡ x = cc in
           let same-y : v ≡ y = cc in
           let same-c : k ≡ c = cc in
           record {
             sound = sound;
+            setting-right = right;
+            stand-is = st ∙ ap₂ S.At same-x same-y;
             stand-near = subst₂ (λ (u v : ℤ). Near (record { x = u; y = v })) same-x same-y (stand-is-near cs s st);
             stand-cell = subst₂ (λ (u v : ℤ). located cs ts (record { x = u; y = v }) ≡ F.Cell c) same-x same-y (lo ∙ ap F.Cell same-c);
             has-room = ltb-false _ _ h;
           }
 
-      by-cell : Sound cs ts ds → (u v : ℤ) → stood cs s ≡ S.At u v → (f : Found) → located cs ts (record { x = u; y = v }) ≡ f → view-of-cell cs room u v f ≡ O.From x y c → Viewed cs ts ds room x y c
-      by-cell sound u v st (F.Cell k) lo p = by-room sound u v k st lo (ltb room (3 * corner-count cs)) refl p
-      by-cell sound u v st (F.Refused r) lo p = absurd (a-refusal-is-no-view p)
+      by-cell : Sound cs ts ds → wrong-setting w (length ds) ≡ false → (u v : ℤ) → stood cs s ≡ S.At u v → (f : Found) → located cs ts (record { x = u; y = v }) ≡ f → view-of-cell cs room u v f ≡ O.From x y c → Viewed cs ts ds w s room x y c
+      by-cell sound right u v st (F.Cell k) lo p = by-room sound right u v k st lo (ltb room (3 * corner-count cs)) refl p
+      by-cell sound right u v st (F.Refused r) lo p = absurd (a-refusal-is-no-view p)
 
-      by-spot : Sound cs ts ds → (t : Spot) → stood cs s ≡ t → view-of-spot cs ts room t ≡ O.From x y c → Viewed cs ts ds room x y c
-      by-spot sound (S.At u v) st p = by-cell sound u v st (located cs ts (record { x = u; y = v })) refl p
-      by-spot sound S.Refused st p = absurd (a-refusal-is-no-view p)
+      by-spot : Sound cs ts ds → wrong-setting w (length ds) ≡ false → (t : Spot) → stood cs s ≡ t → view-of-spot cs ts room t ≡ O.From x y c → Viewed cs ts ds w s room x y c
+      by-spot sound right (S.At u v) st p = by-cell sound right u v st (located cs ts (record { x = u; y = v })) refl p
+      by-spot sound right S.Refused st p = absurd (a-refusal-is-no-view p)
 
-      by-setting : Sound cs ts ds → (b : Bool) → unless b R.Setting (view-of-spot cs ts room (stood cs s)) ≡ O.From x y c → Viewed cs ts ds room x y c
-      by-setting sound true p = absurd (a-refusal-is-no-view p)
-      by-setting sound false p = by-spot sound (stood cs s) refl p
+      by-setting : Sound cs ts ds → (b : Bool) → wrong-setting w (length ds) ≡ b → unless b R.Setting (view-of-spot cs ts room (stood cs s)) ≡ O.From x y c → Viewed cs ts ds w s room x y c
+      by-setting sound true h p = absurd (a-refusal-is-no-view p)
+      by-setting sound false h p = by-spot sound h (stood cs s) refl p
 
-      by-plan : (k : Checked) → checked cs ts ds ≡ k → view-of-plan cs ts ds w s room k ≡ O.From x y c → Viewed cs ts ds room x y c
-      by-plan (C.Accepted p) h q = by-setting (accepted-is-sound cs ts ds p h .0) (wrong-setting w (length ds)) q
+      by-plan : (k : Checked) → checked cs ts ds ≡ k → view-of-plan cs ts ds w s room k ≡ O.From x y c → Viewed cs ts ds w s room x y c
+      by-plan (C.Accepted p) h q = by-setting (accepted-is-sound cs ts ds p h .0) (wrong-setting w (length ds)) refl q
       by-plan (C.Refused r) h q = absurd (a-refusal-is-no-view q)
 
 -- ---- the whole listing

@@ -1,18 +1,19 @@
--- What `list` writes: the listing's rows, one after another, and their count (document 01, "Expansion" and "Reply").
+-- What `list` writes: the listing's rows, one after another, and their count (document 01, "Expansion" and "Reply numbers").
 use mathlib.Core.List.{List, [], _∷_, _++_}
 use mathlib.Core.Path.{_≡_, refl, ap, ap₂, sym, _∙_}
 use native.Mathlib.Omega.{arith}
 use Prim.Native.Nat.{ℕ, _+_, _*_, _-_, _<_}
 use lib.Seq.{sets}
-use lib.ListN.{length}
+use lib.ListN.{length, drop}
 use lib.IntN.{ℤ}
+use Rattle.exact.proofs.Lent.{written-from-the-beginning}
 use Rattle.plane.specs.Side.{Point}
 use Rattle.plan.specs.Lists.{corner-count, cell-count, face-count, start}
 use Rattle.plane.specs.Cone.{Meets, Direction}
 use Rattle.plan.specs.Sound.{Sound}
 use Rattle.plan.proofs.Plans.{corner-exists}
 use Rattle.stand.specs.declared.spot.Stand.{Stand}
-use Rattle.stand.proofs.Located.{InCell}
+use Rattle.stand.proofs.Located.{InCell, found-cell-holds-the-stand}
 use Rattle.expand.specs.Sight.{Floor, Sight, Row, rows, numbers, row-count}
 use Rattle.expand.specs.Sight.Sight.{row, pass, both, cut}
 use Rattle.sight.specs.Once.{At}
@@ -29,7 +30,9 @@ use Rattle.sight.proofs.Tree.Grown.{ends, too-many, splits, keeps}
 use Rattle.sight.proofs.Places.{at-no-place, at-the-only-place, either-list}
 use Rattle.sight.proofs.Listing.{in-sight₀, in-sight₁, in-sight₂}
 use Rattle.sight.proofs.PlanFloor.{plan-geometry, start-in-the-cell}
-use Rattle.sight.proofs.Sightings.{first-side-is-whole, demand-2, walk-is-unique}
+use Rattle.sight.proofs.Sightings.{first-side-is-whole, rows-never-outnumber-corners, demand-2, walk-is-unique}
+use Rattle.sight.proofs.Tables.{length-of-rows}
+use Rattle.sight.proofs.Views.{view-says}
 
 written-joined : (a b : List Row) → written (a ++ b) ≡ written a ++ written b
 unfolding written
@@ -69,6 +72,16 @@ unfolding listed
 list-writes-the-rows cs ts ds w s table {x} {y} {c} view =
     ap (listed-from cs ts ds w table) view
     ∙ ap₂ (λ (n : ℕ) (l : List ℕ). (L.Rows n (listing-crossings cs ts ds w (record { x = x; y = y }) c), sets table 0 l)) (the-count-is-the-rows cs ts ds w (record { x = x; y = y }) c) (the-numbers-are-the-rows cs ts ds w (record { x = x; y = y }) c)
+
+-- the table at exit: the rows, and beyond them what stood there
+pub the-table-holds-the-rows : (cs : List ℤ) (ts ds : List ℕ) (w : ℕ) (s : Stand) (table : List ℕ) {x y : ℤ} {c : ℕ} → viewed cs ts ds w s (length table) ≡ O.From x y c → listed cs ts ds w s table .1 ≡ written (listing-rows cs ts ds w (record { x = x; y = y }) c) ++ drop (3 * length (listing-rows cs ts ds w (record { x = x; y = y }) c)) table
+the-table-holds-the-rows cs ts ds w s table {x} {y} {c} view =
+    let q : Point = record { x = x; y = y } in
+    let says = view-says cs ts ds w s (length table) view in
+    let few = rows-never-outnumber-corners (says .sound) w q c (found-cell-holds-the-stand cs ts q (says .stand-cell)) in
+    let count = the-count-is-the-rows cs ts ds w q c in
+    ap (λ (p : Listed × List ℕ). p .1) (list-writes-the-rows cs ts ds w s table view)
+    ∙ written-from-the-beginning table (written (listing-rows cs ts ds w q c)) (3 * length (listing-rows cs ts ds w q c)) (length-of-rows (listing-rows cs ts ds w q c)) (omega arith)
 
 module _ {cs : List ℤ} {ts ds : List ℕ} (sound : Sound cs ts ds) (w : ℕ) (q : Point) (c : ℕ) (stands : InCell cs ts q c) where
   -- no listing is empty

@@ -4,3 +4,4 @@ pub mod Once
 pub mod Listing
 pub mod Lined
 pub mod Written
+pub mod Reply

@@ -1,2 +1,3 @@
 pub mod Spot
 pub mod Find
+pub mod Reply

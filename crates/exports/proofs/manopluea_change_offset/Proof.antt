@@ -1,8 +1,8 @@
 -- `exports::manopluea_change_offset` meets its contract.
 use denote.Ref.{now}
 use Rattle.stand.specs.declared.spot.Stand.the-variants.{Offset}
-use Rattle.doors.specs.Change.{changed}
-use Rattle.exports.specs.Reply.{listed-numbers, change-left}
+use Rattle.manopluea.specs.Calls.{change-replies}
+use Rattle.exports.specs.Reply.{change-left}
 use Rattle.exports.proofs.Replies.{none-left, all-left}
 use borrow.Author.Needs.{needs}
 use Rattle.exports.proofs.manopluea_change_offset.Statement.{statement}
@@ -10,7 +10,7 @@ use Rattle.exports.proofs.manopluea_change_offset.Tie as tie
 
 returns : tie.Need-returns
 unfolding change-left
-returns c = none-left listed-numbers (now (c .before .before .before .before .before .before .args .table)) (now (c .before .before .before .before .before .before .args .reply)) (changed (now (c .before .before .before .before .before .before .args .corners)) (now (c .before .before .before .before .before .before .args .cells)) (now (c .before .before .before .before .before .before .args .doors)) (c .before .before .before .before .before .before .args .setting) (Offset (c .before .before .before .before .before .before .args .corner) (c .before .before .before .before .before .before .args .dx) (c .before .before .before .before .before .before .args .dy)) (now (c .before .before .before .before .before .before .args .given)) (c .before .before .before .before .before .before .args .door) (c .before .before .before .before .before .before .args .shut) (now (c .before .before .before .before .before .before .args .table))) (c .if1 .taken)
+returns c = none-left (now (c .before .before .before .before .before .before .args .table)) (now (c .before .before .before .before .before .before .args .reply)) (change-replies (now (c .before .before .before .before .before .before .args .corners)) (now (c .before .before .before .before .before .before .args .cells)) (now (c .before .before .before .before .before .before .args .doors)) (c .before .before .before .before .before .before .args .setting) (Offset (c .before .before .before .before .before .before .args .corner) (c .before .before .before .before .before .before .args .dx) (c .before .before .before .before .before .before .args .dy)) (now (c .before .before .before .before .before .before .args .given)) (c .before .before .before .before .before .before .args .door) (c .before .before .before .before .before .before .args .shut) (now (c .before .before .before .before .before .before .args .table))) (c .if1 .taken)
 
 change-requires : tie.Need-change-requires
 change-requires c κs = search needs
@@ -26,7 +26,7 @@ same-length-2 c = search needs
 
 returns-2 : tie.Need-returns-2
 unfolding change-left
-returns-2 c = all-left listed-numbers (now (c .before .before .before .before .before .before .before .before .before .before .before .before .before .before .args .table)) (now (c .before .before .before .before .before .before .before .before .before .before .before .before .before .before .args .reply)) (c .before .before .before .before .before .before .before .before .if1 .left) (c .before .before .before .before .before .before .change .ensures) (c .before .before .put-listed .ensures)
+returns-2 c = all-left (now (c .before .before .before .before .before .before .before .before .before .before .before .before .before .before .args .table)) (now (c .before .before .before .before .before .before .before .before .before .before .before .before .before .before .args .reply)) (c .before .before .before .before .before .before .before .before .if1 .left) (c .before .before .before .before .before .before .change .ensures .1) (c .before .before .put-listed .ensures)
 
 pub manopluea-change-offset-spec : {M : Type 1} → statement M
 manopluea-change-offset-spec =

@@ -1,8 +1,8 @@
 -- `exports::manopluea_list_point` meets its contract.
 use denote.Ref.{now}
 use Rattle.stand.specs.declared.spot.Stand.the-variants.{Point}
-use Rattle.sight.specs.Listing.{listed}
-use Rattle.exports.specs.Reply.{listed-numbers, list-left}
+use Rattle.manopluea.specs.Calls.{list-replies}
+use Rattle.exports.specs.Reply.{list-left}
 use Rattle.exports.proofs.Replies.{none-left, all-left}
 use borrow.Author.Needs.{needs}
 use Rattle.exports.proofs.manopluea_list_point.Statement.{statement}
@@ -10,7 +10,7 @@ use Rattle.exports.proofs.manopluea_list_point.Tie as tie
 
 returns : tie.Need-returns
 unfolding list-left
-returns c = none-left listed-numbers (now (c .before .before .before .before .before .args .table)) (now (c .before .before .before .before .before .args .reply)) (listed (now (c .before .before .before .before .before .args .corners)) (now (c .before .before .before .before .before .args .cells)) (now (c .before .before .before .before .before .args .doors)) (c .before .before .before .before .before .args .setting) (Point (c .before .before .before .before .before .args .x) (c .before .before .before .before .before .args .y)) (now (c .before .before .before .before .before .args .table))) (c .if1 .taken)
+returns c = none-left (now (c .before .before .before .before .before .args .table)) (now (c .before .before .before .before .before .args .reply)) (list-replies (now (c .before .before .before .before .before .args .corners)) (now (c .before .before .before .before .before .args .cells)) (now (c .before .before .before .before .before .args .doors)) (c .before .before .before .before .before .args .setting) (Point (c .before .before .before .before .before .args .x) (c .before .before .before .before .before .args .y)) (now (c .before .before .before .before .before .args .table))) (c .if1 .taken)
 
 list-requires : tie.Need-list-requires
 list-requires c κs = search needs
@@ -26,7 +26,7 @@ same-length-2 c = search needs
 
 returns-2 : tie.Need-returns-2
 unfolding list-left
-returns-2 c = all-left listed-numbers (now (c .before .before .before .before .before .before .before .before .before .before .before .before .before .args .table)) (now (c .before .before .before .before .before .before .before .before .before .before .before .before .before .args .reply)) (c .before .before .before .before .before .before .before .before .if1 .left) (c .before .before .before .before .before .before .list .ensures) (c .before .before .put-listed .ensures)
+returns-2 c = all-left (now (c .before .before .before .before .before .before .before .before .before .before .before .before .before .args .table)) (now (c .before .before .before .before .before .before .before .before .before .before .before .before .before .args .reply)) (c .before .before .before .before .before .before .before .before .if1 .left) (c .before .before .before .before .before .before .list .ensures .1) (c .before .before .put-listed .ensures)
 
 pub manopluea-list-point-spec : {M : Type 1} → statement M
 manopluea-list-point-spec =

@@ -1,7 +1,7 @@
 -- `exports::manopluea_print` meets its contract.
 use denote.Ref.{now}
-use Rattle.printing.specs.Print.{answered}
-use Rattle.exports.specs.Reply.{printed-numbers, print-left}
+use Rattle.printing.specs.Reply.{print-replies}
+use Rattle.exports.specs.Reply.{print-left}
 use Rattle.exports.proofs.Replies.{none-left, all-left}
 use borrow.Author.Needs.{needs}
 use Rattle.exports.proofs.manopluea_print.Statement.{statement}
@@ -9,7 +9,7 @@ use Rattle.exports.proofs.manopluea_print.Tie as tie
 
 returns : tie.Need-returns
 unfolding print-left
-returns c = let s = c .before .before .before .before in none-left printed-numbers (now (s .args .text)) (now (s .args .reply)) (answered (now (s .args .input)) (now (s .args .text))) (c .if1 .taken)
+returns c = let s = c .before .before .before .before in none-left (now (s .args .text)) (now (s .args .reply)) (print-replies (now (s .args .input)) (now (s .args .text))) (c .if1 .taken)
 
 print-requires : tie.Need-print-requires
 print-requires c κs = search needs
@@ -25,7 +25,7 @@ same-length-2 c = search needs
 
 returns-2 : tie.Need-returns-2
 unfolding print-left
-returns-2 c = let s = c .before .before .before .before .before .before .before .before .before .before .before .before in all-left printed-numbers (now (s .args .text)) (now (s .args .reply)) (c .before .before .before .before .before .before .before .before .if1 .left) (c .before .before .before .before .before .before .print .ensures .0) (c .before .before .put-printed .ensures)
+returns-2 c = let s = c .before .before .before .before .before .before .before .before .before .before .before .before in all-left (now (s .args .text)) (now (s .args .reply)) (c .before .before .before .before .before .before .before .before .if1 .left) (c .before .before .before .before .before .before .print .ensures .1 .0) (c .before .before .put-printed .ensures)
 
 pub manopluea-print-spec : {M : Type 1} → statement M
 manopluea-print-spec =

@@ -1,7 +1,7 @@
 -- `exports::manopluea_read` meets its contract.
 use denote.Ref.{now}
-use Rattle.planfile.specs.Calls.{read}
-use Rattle.exports.specs.Reply.{checked-numbers, read-left}
+use Rattle.manopluea.specs.Calls.{read-replies}
+use Rattle.exports.specs.Reply.{read-left}
 use Rattle.exports.proofs.Replies.{none-left, all-left}
 use borrow.Author.Needs.{needs}
 use Rattle.exports.proofs.manopluea_read.Statement.{statement}
@@ -9,7 +9,7 @@ use Rattle.exports.proofs.manopluea_read.Tie as tie
 
 returns : tie.Need-returns
 unfolding read-left
-returns c = none-left checked-numbers (now (c .before .before .before .before .before .args .corners), (now (c .before .before .before .before .before .args .cells), now (c .before .before .before .before .before .args .doors))) (now (c .before .before .before .before .before .args .reply)) (read (now (c .before .before .before .before .before .args .file)) (now (c .before .before .before .before .before .args .corners)) (now (c .before .before .before .before .before .args .cells)) (now (c .before .before .before .before .before .args .doors))) (c .if1 .taken)
+returns c = none-left (now (c .before .before .before .before .before .args .corners), (now (c .before .before .before .before .before .args .cells), now (c .before .before .before .before .before .args .doors))) (now (c .before .before .before .before .before .args .reply)) (read-replies (now (c .before .before .before .before .before .args .file)) (now (c .before .before .before .before .before .args .corners)) (now (c .before .before .before .before .before .args .cells)) (now (c .before .before .before .before .before .args .doors))) (c .if1 .taken)
 
 read-requires : tie.Need-read-requires
 read-requires c κs = search needs
@@ -31,7 +31,7 @@ same-length-4 c = search needs
 
 returns-2 : tie.Need-returns-2
 unfolding read-left
-returns-2 c = all-left checked-numbers (now (c .before .before .before .before .before .before .before .before .before .before .before .before .before .before .before .before .before .before .args .corners), (now (c .before .before .before .before .before .before .before .before .before .before .before .before .before .before .before .before .before .before .args .cells), now (c .before .before .before .before .before .before .before .before .before .before .before .before .before .before .before .before .before .before .args .doors))) (now (c .before .before .before .before .before .before .before .before .before .before .before .before .before .before .before .before .before .before .args .reply)) (c .before .before .before .before .before .before .before .before .before .before .before .before .before .if1 .left) (c .before .before .before .before .before .before .before .before .before .read .ensures) (c .before .before .put-checked .ensures)
+returns-2 c = all-left (now (c .before .before .before .before .before .before .before .before .before .before .before .before .before .before .before .before .before .before .args .corners), (now (c .before .before .before .before .before .before .before .before .before .before .before .before .before .before .before .before .before .before .args .cells), now (c .before .before .before .before .before .before .before .before .before .before .before .before .before .before .before .before .before .before .args .doors))) (now (c .before .before .before .before .before .before .before .before .before .before .before .before .before .before .before .before .before .before .args .reply)) (c .before .before .before .before .before .before .before .before .before .before .before .before .before .if1 .left) (c .before .before .before .before .before .before .before .before .before .read .ensures .1) (c .before .before .put-checked .ensures)
 
 pub manopluea-read-spec : {M : Type 1} → statement M
 manopluea-read-spec =

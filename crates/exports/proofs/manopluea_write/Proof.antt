@@ -1,7 +1,7 @@
 -- `exports::manopluea_write` meets its contract.
 use denote.Ref.{now}
-use Rattle.planfile.specs.Calls.{written}
-use Rattle.exports.specs.Reply.{checked-numbers, write-left}
+use Rattle.manopluea.specs.Calls.{write-replies}
+use Rattle.exports.specs.Reply.{write-left}
 use Rattle.exports.proofs.Replies.{none-left, all-left}
 use borrow.Author.Needs.{needs}
 use Rattle.exports.proofs.manopluea_write.Statement.{statement}
@@ -9,7 +9,7 @@ use Rattle.exports.proofs.manopluea_write.Tie as tie
 
 returns : tie.Need-returns
 unfolding write-left
-returns c = none-left checked-numbers (now (c .before .before .before .before .before .args .file)) (now (c .before .before .before .before .before .args .reply)) (written (now (c .before .before .before .before .before .args .corners)) (now (c .before .before .before .before .before .args .cells)) (now (c .before .before .before .before .before .args .doors)) (now (c .before .before .before .before .before .args .file))) (c .if1 .taken)
+returns c = none-left (now (c .before .before .before .before .before .args .file)) (now (c .before .before .before .before .before .args .reply)) (write-replies (now (c .before .before .before .before .before .args .corners)) (now (c .before .before .before .before .before .args .cells)) (now (c .before .before .before .before .before .args .doors)) (now (c .before .before .before .before .before .args .file))) (c .if1 .taken)
 
 write-requires : tie.Need-write-requires
 write-requires c κs = search needs
@@ -25,7 +25,7 @@ same-length-2 c = search needs
 
 returns-2 : tie.Need-returns-2
 unfolding write-left
-returns-2 c = all-left checked-numbers (now (c .before .before .before .before .before .before .before .before .before .before .before .before .before .args .file)) (now (c .before .before .before .before .before .before .before .before .before .before .before .before .before .args .reply)) (c .before .before .before .before .before .before .before .before .if1 .left) (c .before .before .before .before .before .before .write .ensures) (c .before .before .put-checked .ensures)
+returns-2 c = all-left (now (c .before .before .before .before .before .before .before .before .before .before .before .before .before .args .file)) (now (c .before .before .before .before .before .before .before .before .before .before .before .before .before .args .reply)) (c .before .before .before .before .before .before .before .before .if1 .left) (c .before .before .before .before .before .before .write .ensures .1) (c .before .before .put-checked .ensures)
 
 pub manopluea-write-spec : {M : Type 1} → statement M
 manopluea-write-spec =

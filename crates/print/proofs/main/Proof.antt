@@ -30,10 +30,10 @@ enum-known-m : tie.Need-enum-known-m
 enum-known-m c = search needs
 
 array-share-prefix-text : tie.Need-array-share-prefix-text
-array-share-prefix-text c = subst (λ (r : Printed). Within r (length (c .before .before .before .before .print .last .1 .0))) (c .before .m .given .1) (c .before .before .before .before .print .ensures .1)
+array-share-prefix-text c = subst (λ (r : Printed). Within r (length (c .before .before .before .before .print .last .1 .0))) (c .before .m .given .1) (c .before .before .before .before .print .ensures .1 .1)
 
 slice-aggregate-write-all : tie.Need-slice-aggregate-write-all
-slice-aggregate-write-all c = sym (length-take-le _ _ (subst (λ (r : Printed). Within r (length (c .before .before .before .before .before .print .last .1 .0))) (c .before .before .m .given .1) (c .before .before .before .before .before .print .ensures .1)))
+slice-aggregate-write-all c = sym (length-take-le _ _ (subst (λ (r : Printed). Within r (length (c .before .before .before .before .before .print .last .1 .0))) (c .before .before .m .given .1) (c .before .before .before .before .before .print .ensures .1 .1)))
 
 write-all-requires : tie.Need-write-all-requires
 write-all-requires c κs = search needs

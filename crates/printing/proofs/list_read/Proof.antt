@@ -35,11 +35,11 @@ module _ (d : lts.After-plan (read-reads.Asked, read-reads.Learnt, list-reads.As
 
   few : (2 * p .corners ≤ 2 * most-corners) × (6 * p .cells ≤ 6 * most-cells)
   few =
-      let lists = long (now (s .args .file)) (now (s .args .corners)) (now (s .args .cells)) (now (s .args .doors)) (s .pre) (d .before .before .before .before .before .before .before .read .ensures) (d .plan .given .1) in
+      let lists = long (now (s .args .file)) (now (s .args .corners)) (now (s .args .cells)) (now (s .args .doors)) (s .pre) (d .before .before .before .before .before .before .before .read .ensures .0) (d .plan .given .1) in
       (lists .few-corners, lists .few-cells)
 
   fit : (2 * p .corners ≤ length (d .before .before .before .before .before .before .before .read .last .1 .0)) × ((6 * p .cells ≤ length (d .before .before .before .before .before .before .before .read .last .1 .1 .0)) × (p .doors ≤ length (d .before .before .before .before .before .before .before .read .last .1 .1 .1 .0)))
-  fit = within (now (s .args .file)) (now (s .args .corners)) (now (s .args .cells)) (now (s .args .doors)) (s .pre) (d .before .before .before .before .before .before .before .read .ensures) (d .plan .given .1)
+  fit = within (now (s .args .file)) (now (s .args .corners)) (now (s .args .cells)) (now (s .args .doors)) (s .pre) (d .before .before .before .before .before .before .before .read .ensures .0) (d .plan .given .1)
 
 mul-n : tie.Need-mul-n
 mul-n c = omega (arith, few (c .before .before) .0)
@@ -78,7 +78,7 @@ same-length-3 : tie.Need-same-length-3
 same-length-3 c = search needs
 
 returns : tie.Need-returns
-returns c = let s = c .before .before .before .before .before .before .before .before .before .before .before .before .before .before .before .before in refused-by-the-reader (now (s .args .file)) (now (s .args .corners)) (now (s .args .cells)) (now (s .args .doors)) (s .pre) (c .before .before .before .before .before .before .before .before .read .ensures) _ _ _ (c .before .r .given .1)
+returns c = let s = c .before .before .before .before .before .before .before .before .before .before .before .before .before .before .before .before in refused-by-the-reader (now (s .args .file)) (now (s .args .corners)) (now (s .args .cells)) (now (s .args .doors)) (s .pre) (c .before .before .before .before .before .before .before .before .read .ensures .0) _ _ _ (c .before .r .given .1)
 
 same-length-4 : tie.Need-same-length-4
 same-length-4 c = search needs
@@ -93,7 +93,7 @@ same-length-7 : tie.Need-same-length-7
 same-length-7 c = search needs
 
 returns-2 : tie.Need-returns-2
-returns-2 c = let s = c .before .before .before .before .before .before .before .before .before .before .before .before .before .before .before .before .before .before .before .before .before .before .before .before .before in listed-from-the-reader (now (s .args .file)) (now (s .args .corners)) (now (s .args .cells)) (now (s .args .doors)) (s .pre) (c .before .before .before .before .before .before .before .before .before .before .before .before .before .before .before .before .before .read .ensures) (c .before .before .before .before .before .before .before .before .before .before .plan .given .1) _ _ _ (c .before .before .list .ensures)
+returns-2 c = let s = c .before .before .before .before .before .before .before .before .before .before .before .before .before .before .before .before .before .before .before .before .before .before .before .before .before in listed-from-the-reader (now (s .args .file)) (now (s .args .corners)) (now (s .args .cells)) (now (s .args .doors)) (s .pre) (c .before .before .before .before .before .before .before .before .before .before .before .before .before .before .before .before .before .read .ensures .0) (c .before .before .before .before .before .before .before .before .before .before .plan .given .1) _ _ _ (c .before .before .list .ensures .0)
 
 pub list-read-spec : {M : Type 1} → statement M
 list-read-spec =

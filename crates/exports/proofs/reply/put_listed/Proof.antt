@@ -1,7 +1,7 @@
 -- `exports::reply::put_listed` meets its contract.
 use mathlib.Core.Path.{refl}
 use denote.Ref.{now}
-use Rattle.exports.specs.Reply.{listed-numbers}
+use Rattle.sight.specs.Reply.{listed-reply}
 use Rattle.exports.proofs.Replies.{put-as, put-refused}
 use borrow.Author.Needs.{needs}
 use Rattle.exports.proofs.reply.put_listed.Statement.{statement}
@@ -29,13 +29,13 @@ same-length : tie.Need-same-length
 same-length c = search needs
 
 returns : tie.Need-returns
-returns c = put-as listed-numbers (c .before .before .before .before .before .answer .given .1) (now (c .before .before .before .before .before .before .before .before .args .reply)) (c .before .before .put .ensures)
+returns c = put-as listed-reply (c .before .before .before .before .before .answer .given .1) (now (c .before .before .before .before .before .before .before .before .args .reply)) (c .before .before .put .ensures)
 
 same-length-2 : tie.Need-same-length-2
 same-length-2 c = search needs
 
 returns-2 : tie.Need-returns-2
-returns-2 c = put-refused listed-numbers (c .before .before .before .before .before .before .before .answer2 .given .1) (now (c .before .before .before .before .before .before .before .before .before .before .args .reply)) (c .before .before .before .before .before .before .before .answer2 .given .0 .0) refl (c .before .before .before .before .number .ensures) (c .before .before .before .place .ensures) (c .before .before .put2 .ensures)
+returns-2 c = put-refused listed-reply (c .before .before .before .before .before .before .before .answer2 .given .1) (now (c .before .before .before .before .before .before .before .before .before .before .args .reply)) (c .before .before .before .before .before .before .before .answer2 .given .0 .0) refl (c .before .before .before .before .number .ensures) (c .before .before .before .place .ensures) (c .before .before .put2 .ensures)
 
 pub put-listed-spec : {M : Type 1} → statement M
 put-listed-spec =

@@ -1,0 +1,235 @@
+-- Each call's reply has the number and place of the lowest condition that applies, and a refusal keeps all lent memory.
+use mathlib.Core.Bool.{Bool, true, false, not, _&&_}
+use mathlib.Core.List.{List, [], _∷_, _++_}
+use mathlib.Core.Path.{_≡_, refl, sym, ap₂, _∙_}
+use Prim.Native.Nat.{ℕ, _*_}
+use lib.Dec.{ltb, leb}
+use lib.ListN.{length, getD}
+use lib.IntN.{ℤ}
+use Rattle.plane.specs.Side.{Point}
+use Rattle.plan.specs.Limits.{sized}
+use Rattle.plan.specs.Lists.{corner-count, cell-count, face-count}
+use Rattle.plan.specs.Check.{framed, first-wrong-corner, first-wrong-cell, first-wrong-face, first-wrong-door, refuse-if, checked}
+use Rattle.plan.specs.Reply.{Reply, number, place, checked-reply}
+use Rattle.plan.specs.declared.Plan.{Plan}
+use Rattle.plan.specs.declared.Refusal.{Refusal}
+use Rattle.plan.specs.declared.Refusal.the-variants.{Frame, Size, Corner, Cell, Neighbour, Door, Setting, Stand as NoStand, Line, Outside, Room, Change, Rows}
+use Rattle.plan.specs.declared.Checked.{Checked}
+use Rattle.plan.specs.declared.Checked.the-variants as C
+use Rattle.setting.specs.Setting.{wrong-setting}
+use Rattle.records.specs.Record.{framed as framed-records}
+use Rattle.planfile.specs.File.{file-of, corners-in, cells-in, doors-in}
+use Rattle.planfile.specs.Calls.{given-room, left-by, has-room, written-reply, written, read-reply, read}
+use Rattle.stand.specs.Spot.{stood}
+use Rattle.stand.specs.Find.{first-inside, by-cells, located, with-spot, with-plan, found}
+use Rattle.stand.specs.Reply.{found-reply}
+use Rattle.stand.specs.declared.spot.Stand.{Stand}
+use Rattle.stand.specs.declared.spot.Spot.{Spot}
+use Rattle.stand.specs.declared.spot.Spot.the-variants as S
+use Rattle.stand.specs.declared.find.Found.{Found}
+use Rattle.stand.specs.declared.find.Found.the-variants as F
+use Rattle.sight.specs.Listing.{unless, view-of-cell, view-of-spot, view-of-plan, viewed, listing-numbers, listed-from, listed}
+use Rattle.sight.specs.Reply.{listed-reply}
+use Rattle.sight.specs.declared.view.View.{View}
+use Rattle.sight.specs.declared.view.View.the-variants as O
+use Rattle.doors.specs.Change.{same-list, no-change, wished, refuse, changed-from, changed}
+use Rattle.manopluea.specs.Conditions.{Condition, when, lowest, Answers, plan-conditions, read-conditions, write-conditions, inside-some, on-some-border, stand-conditions, find-conditions, list-conditions, true-numbers, change-conditions}
+
+-- what an answer tells in numbers
+abbrev pub told : Reply → ℕ × ℕ
+told r = (r .number, r .place)
+
+-- ---- different refusals have different numbers
+
+-- the refusal with this number and place
+refusal-of : ℕ → ℕ → Refusal
+refusal-of n p =
+    getD (Frame ∷ Frame ∷ Size ∷ Corner p ∷ Cell p ∷ Neighbour p ∷ Door p ∷ Setting ∷ NoStand ∷ Line ∷ Outside ∷ Room ∷ Change ∷ Rows ∷ []) n Frame
+
+number-tells : (r : Refusal) → refusal-of (number r) (place r) ≡ r
+unfolding refusal-of
+number-tells Frame = refl
+number-tells Size = refl
+number-tells (Corner i) = refl
+number-tells (Cell c) = refl
+number-tells (Neighbour f) = refl
+number-tells (Door i) = refl
+number-tells Setting = refl
+number-tells NoStand = refl
+number-tells Line = refl
+number-tells Outside = refl
+number-tells Room = refl
+number-tells Change = refl
+number-tells Rows = refl
+
+-- what has the same number and place is the same refusal
+pub numbers-tell-refusals-apart : (r s : Refusal) → number r ≡ number s → place r ≡ place s → r ≡ s
+numbers-tell-refusals-apart r s e f = sym (number-tells r) ∙ ap₂ refusal-of e f ∙ number-tells s
+
+-- ---- the plan
+
+-- an answer made of the check's, of which a refusal tells its number and place
+module _ (f : Checked → ℕ × ℕ) (as-refused : (r : Refusal) → f (C.Refused r) ≡ (number r, place r)) where
+  -- one test, and what follows it
+  refused-or : (t : Bool) (r : Refusal) (rest : Checked) (more : List Condition) → f rest ≡ lowest more → f (refuse-if t r rest) ≡ lowest (when (number r) t (place r) ∷ more)
+  unfolding lowest
+  refused-or true r rest more e = as-refused r
+  refused-or false r rest more e = e
+
+  pub by-plan : (cs : List ℤ) (ts ds : List ℕ) (more : List Condition) → f (C.Accepted (record { corners = corner-count cs; cells = cell-count ts; doors = length ds })) ≡ lowest more → f (checked cs ts ds) ≡ lowest (plan-conditions cs ts ds ++ more)
+  unfolding checked
+  by-plan cs ts ds more e =
+      refused-or (not (framed cs ts)) Frame _ _
+      (refused-or (not (sized (corner-count cs) (cell-count ts) (length ds))) Size _ _
+      (refused-or (ltb (first-wrong-corner cs) (corner-count cs)) (Corner (first-wrong-corner cs)) _ _
+      (refused-or (ltb (first-wrong-cell cs ts) (cell-count ts)) (Cell (first-wrong-cell cs ts)) _ _
+      (refused-or (ltb (first-wrong-face ts) (face-count ts)) (Neighbour (first-wrong-face ts)) _ _
+      (refused-or (ltb (first-wrong-door ts ds) (length ds)) (Door (first-wrong-door ts ds)) _ _ e)))))
+
+pub check-answers : (cs : List ℤ) (ts ds : List ℕ) → Answers {M = Unit {0}} (1 ∷ 2 ∷ 3 ∷ 4 ∷ 5 ∷ 6 ∷ []) (plan-conditions cs ts ds) (checked-reply (checked cs ts ds)) tt tt
+unfolding lowest
+check-answers cs ts ds =
+    record {
+      of-the-paper = refl;
+      exact = by-plan (λ k. told (checked-reply k)) (λ r. refl) cs ts ds [] refl;
+      kept = λ h. refl;
+    }
+
+-- ---- the plan file
+
+-- after the plan, room
+roomed : (b : Bool) (r : Refusal) → told (checked-reply (given-room b (C.Refused r))) ≡ (number r, place r)
+roomed true r = refl
+roomed false r = refl
+
+room-or : (b : Bool) (p : Plan) → told (checked-reply (given-room b (C.Accepted p))) ≡ lowest (when 11 (not b) 0 ∷ [])
+unfolding lowest
+room-or true p = refl
+room-or false p = refl
+
+by-room : (cs : List ℤ) (ts ds : List ℕ) (b : Bool) → told (checked-reply (given-room b (checked cs ts ds))) ≡ lowest (plan-conditions cs ts ds ++ (when 11 (not b) 0 ∷ []))
+by-room cs ts ds b = by-plan (λ k. told (checked-reply (given-room b k))) (roomed b) cs ts ds _ (room-or b _)
+
+pub read-answers : (file : List ℕ) (corners : List ℤ) (cells doors : List ℕ) → Answers (1 ∷ 1 ∷ 2 ∷ 3 ∷ 4 ∷ 5 ∷ 6 ∷ 11 ∷ []) (read-conditions file (length corners) (length cells) (length doors)) (checked-reply (read file corners cells doors .0)) (corners, (cells, doors)) (read file corners cells doors .1)
+unfolding read-reply
+read-answers file corners cells doors =
+    record {
+      of-the-paper = refl;
+      exact = by-records;
+      kept = all-kept (read-reply file (length corners) (length cells) (length doors));
+    }
+  where
+    by-records : told (checked-reply (read-reply file (length corners) (length cells) (length doors))) ≡ lowest (read-conditions file (length corners) (length cells) (length doors))
+    by-records =
+        refused-or (λ k. told (checked-reply k)) (λ r. refl) (not (framed-records file)) Frame _ _
+        (by-room (corners-in file) (cells-in file) (doors-in file) (has-room (corners-in file) (cells-in file) (doors-in file) (length corners) (length cells) (length doors)))
+
+    all-kept : (reply : Checked) → (checked-reply reply .number ≡ 0 → ⊥) → _≡_ {A = List ℤ × (List ℕ × List ℕ)} (left-by reply corners (corners-in file), (left-by reply cells (cells-in file), left-by reply doors (doors-in file))) (corners, (cells, doors))
+    all-kept (C.Accepted p) h = absurd (h refl)
+    all-kept (C.Refused r) h = refl
+
+pub write-answers : (cs : List ℤ) (ts ds file : List ℕ) → Answers (1 ∷ 2 ∷ 3 ∷ 4 ∷ 5 ∷ 6 ∷ 11 ∷ []) (write-conditions cs ts ds (length file)) (checked-reply (written cs ts ds file .0)) file (written cs ts ds file .1)
+unfolding written-reply
+write-answers cs ts ds file =
+    record {
+      of-the-paper = refl;
+      exact = by-room cs ts ds (leb (length (file-of cs ts ds)) (length file));
+      kept = all-kept (written-reply cs ts ds (length file));
+    }
+  where
+    all-kept : (reply : Checked) → (checked-reply reply .number ≡ 0 → ⊥) → left-by reply file (file-of cs ts ds) ≡ file
+    all-kept (C.Accepted p) h = absurd (h refl)
+    all-kept (C.Refused r) h = refl
+
+-- ---- the stand
+
+-- an answer made of where the stand lies
+module _ (f : Found → ℕ × ℕ) (as-refused : (r : Refusal) → f (F.Refused r) ≡ (number r, place r)) where
+  by-cell : (inside border : Bool) (c : ℕ) (more : List Condition) → f (F.Cell c) ≡ lowest more → f (by-cells inside border c) ≡ lowest (when 9 (not inside && border) 0 ∷ when 10 (not inside && not border) 0 ∷ more)
+  unfolding lowest
+  by-cell true true c more e = e
+  by-cell true false c more e = e
+  by-cell false true c more e = as-refused Line
+  by-cell false false c more e = as-refused Outside
+
+pub find-answers : (cs : List ℤ) (ts ds : List ℕ) (s : Stand) → Answers {M = Unit {0}} (1 ∷ 2 ∷ 3 ∷ 4 ∷ 5 ∷ 6 ∷ 8 ∷ 9 ∷ 10 ∷ []) (find-conditions cs ts ds s) (found-reply (found cs ts ds s)) tt tt
+unfolding found located lowest
+find-answers cs ts ds s =
+    record {
+      of-the-paper = refl;
+      exact = by-plan (λ k. told (found-reply (with-plan cs ts s k))) (λ r. refl) cs ts ds (stand-conditions cs ts (stood cs s)) (by-spot (stood cs s));
+      kept = λ h. refl;
+    }
+  where
+    by-spot : (spot : Spot) → told (found-reply (with-spot cs ts spot)) ≡ lowest (stand-conditions cs ts spot)
+    by-spot (S.At x y) =
+        let q : Point = record { x = x; y = y } in
+        by-cell (λ g. told (found-reply g)) (λ r. refl) (inside-some cs ts q) (on-some-border cs ts q) (first-inside cs ts q) [] refl
+    by-spot S.Refused = refl
+
+-- ---- listing and door change: an answer made of a view
+
+module _ (cs : List ℤ) (ts ds : List ℕ) (w : ℕ) (s : Stand) (room : ℕ) (f : View → ℕ × ℕ) (as-refused : (r : Refusal) → f (O.Refused r) ≡ (number r, place r)) (later : Spot → List Condition) (as-viewed : (x y : ℤ) → f (O.From x y (first-inside cs ts (record { x = x; y = y }))) ≡ lowest (later (S.At x y))) where
+  refused-unless : (t : Bool) (r : Refusal) (v : View) (more : List Condition) → f v ≡ lowest more → f (unless t r v) ≡ lowest (when (number r) t (place r) ∷ more)
+  unfolding lowest
+  refused-unless true r v more e = as-refused r
+  refused-unless false r v more e = e
+
+  by-spot : (spot : Spot) → f (view-of-spot cs ts room spot) ≡ lowest (stand-conditions cs ts spot ++ (when 11 (ltb room (3 * corner-count cs)) 0 ∷ later spot))
+  unfolding lowest located
+  by-spot (S.At x y) =
+      let q : Point = record { x = x; y = y } in
+      by-cell (λ g. f (view-of-cell cs room x y g)) as-refused (inside-some cs ts q) (on-some-border cs ts q) (first-inside cs ts q) (when 11 (ltb room (3 * corner-count cs)) 0 ∷ later (S.At x y))
+      (refused-unless (ltb room (3 * corner-count cs)) Room (O.From x y (first-inside cs ts q)) (later (S.At x y)) (as-viewed x y))
+  by-spot S.Refused = as-refused NoStand
+
+  pub by-view : f (viewed cs ts ds w s room) ≡ lowest (plan-conditions cs ts ds ++ (when 7 (wrong-setting w (length ds)) 0 ∷ stand-conditions cs ts (stood cs s) ++ (when 11 (ltb room (3 * corner-count cs)) 0 ∷ later (stood cs s))))
+  unfolding viewed
+  by-view =
+      by-plan (λ k. f (view-of-plan cs ts ds w s room k)) as-refused cs ts ds _
+      (refused-unless (wrong-setting w (length ds)) Setting (view-of-spot cs ts room (stood cs s)) _ (by-spot (stood cs s)))
+
+pub list-answers : (cs : List ℤ) (ts ds : List ℕ) (w : ℕ) (s : Stand) (table : List ℕ) → Answers (1 ∷ 2 ∷ 3 ∷ 4 ∷ 5 ∷ 6 ∷ 7 ∷ 8 ∷ 9 ∷ 10 ∷ 11 ∷ []) (list-conditions cs ts ds w s (length table)) (listed-reply (listed cs ts ds w s table .0)) table (listed cs ts ds w s table .1)
+unfolding listed lowest
+list-answers cs ts ds w s table =
+    record {
+      of-the-paper = refl;
+      exact = by-view cs ts ds w s (length table) (λ v. told (listed-reply (listed-from cs ts ds w table v .0))) (λ r. refl) (λ spot. []) (λ x y. refl);
+      kept = alone (viewed cs ts ds w s (length table));
+    }
+  where
+    alone : (v : View) → (listed-reply (listed-from cs ts ds w table v .0) .number ≡ 0 → ⊥) → listed-from cs ts ds w table v .1 ≡ table
+    alone (O.From x y c) = λ h. absurd (h refl)
+    alone (O.Refused r) = λ h. refl
+
+-- 12 and 13, given the true list
+abbrev after-the-list : List ℕ → ℕ → ℕ → Bool → List ℕ → List ℕ → List Condition
+after-the-list ds w i b given truth = when 12 (no-change ds w i b) 0 ∷ when 13 (not (same-list given truth)) 0 ∷ []
+
+pub change-answers : (cs : List ℤ) (ts ds : List ℕ) (w : ℕ) (s : Stand) (given : List ℕ) (i : ℕ) (b : Bool) (table : List ℕ) → Answers (1 ∷ 2 ∷ 3 ∷ 4 ∷ 5 ∷ 6 ∷ 7 ∷ 8 ∷ 9 ∷ 10 ∷ 11 ∷ 12 ∷ 13 ∷ []) (change-conditions cs ts ds w s given i b (length table)) (listed-reply (changed cs ts ds w s given i b table .0)) table (changed cs ts ds w s given i b table .1)
+unfolding changed lowest
+change-answers cs ts ds w s given i b table =
+    record {
+      of-the-paper = refl;
+      exact = by-view cs ts ds w s (length table) (λ v. told (listed-reply (changed-from cs ts ds w given i b table v .0))) (λ r. refl) (λ spot. after-the-list ds w i b given (true-numbers cs ts ds w spot)) by-tests;
+      kept = alone (viewed cs ts ds w s (length table));
+    }
+  where
+    by-tests : (x y : ℤ) → told (listed-reply (changed-from cs ts ds w given i b table (O.From x y (first-inside cs ts (record { x = x; y = y }))) .0)) ≡ lowest (after-the-list ds w i b given (true-numbers cs ts ds w (S.At x y)))
+    by-tests x y = cases (no-change ds w i b) (not (same-list given (listing-numbers cs ts ds w (record { x = x; y = y }) (first-inside cs ts (record { x = x; y = y })))))
+      where
+        cases : (t u : Bool) → told (listed-reply (refuse t Change table (refuse u Rows table (listed-from cs ts ds (wished b w i) table (O.From x y (first-inside cs ts (record { x = x; y = y }))))) .0)) ≡ lowest (when 12 t 0 ∷ when 13 u 0 ∷ [])
+        cases true true = refl
+        cases true false = refl
+        cases false true = refl
+        cases false false = refl
+
+    alone : (v : View) → (listed-reply (changed-from cs ts ds w given i b table v .0) .number ≡ 0 → ⊥) → changed-from cs ts ds w given i b table v .1 ≡ table
+    alone (O.From x y c) = cases (no-change ds w i b) (not (same-list given (listing-numbers cs ts ds w (record { x = x; y = y }) c)))
+      where
+        cases : (t u : Bool) → (listed-reply (refuse t Change table (refuse u Rows table (listed-from cs ts ds (wished b w i) table (O.From x y c))) .0) .number ≡ 0 → ⊥) → refuse t Change table (refuse u Rows table (listed-from cs ts ds (wished b w i) table (O.From x y c))) .1 ≡ table
+        cases true true h = refl
+        cases true false h = refl
+        cases false true h = refl
+        cases false false h = absurd (h refl)
+    alone (O.Refused r) = λ h. refl

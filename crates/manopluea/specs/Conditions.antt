@@ -1,0 +1,121 @@
+-- Document 01's table of replies ("Reply numbers"), call by call: each number that the paper gives the call, when it applies, and its place. They stand in
+-- the order of the numbers, so the first that applies is the lowest.
+use mathlib.Core.Bool.{Bool, true, false, not, _&&_}
+use mathlib.Core.List.{List, [], _∷_, _++_, map}
+use mathlib.Core.Path.{_≡_}
+use Prim.Native.Nat.{ℕ, _*_}
+use lib.Dec.{ltb, leb}
+use lib.ListN.{length}
+use lib.IntN.{ℤ}
+use Rattle.plane.specs.Side.{Point}
+use Rattle.plan.specs.Limits.{sized}
+use Rattle.plan.specs.Lists.{corner-count, cell-count, face-count}
+use Rattle.plan.specs.Check.{framed, first-wrong-corner, first-wrong-cell, first-wrong-face, first-wrong-door}
+use Rattle.plan.specs.Reply.{Reply}
+use Rattle.setting.specs.Setting.{wrong-setting}
+use Rattle.records.specs.Record.{framed as framed-records}
+use Rattle.planfile.specs.File.{file-of, corners-in, cells-in, doors-in}
+use Rattle.planfile.specs.Calls.{has-room}
+use Rattle.stand.specs.Spot.{stood}
+use Rattle.stand.specs.Find.{first-inside, first-border}
+use Rattle.stand.specs.declared.spot.Stand.{Stand}
+use Rattle.stand.specs.declared.spot.Spot.{Spot}
+use Rattle.stand.specs.declared.spot.Spot.the-variants.{At, Refused}
+use Rattle.sight.specs.Listing.{listing-numbers}
+use Rattle.doors.specs.Change.{same-list, no-change}
+
+pub record Condition : Type 0 where
+  pub number : ℕ
+  pub applies : Bool
+  pub place : ℕ
+
+abbrev pub when : ℕ → Bool → ℕ → Condition
+when n b p = record { number = n; applies = b; place = p }
+
+-- the lowest number that applies, and its place; 0 and 0 where none does
+unfoldable pub lowest : List Condition → ℕ × ℕ
+lowest [] = (0, 0)
+lowest (c ∷ cs) = elim (c .applies) [ true ↦ (c .number, c .place) | false ↦ lowest cs ]
+
+-- demand 1 of a reply and of lent memory: the paper's numbers for the call, the reply's number and place by the exact conditions, and on a refusal all lent
+-- memory at exit is that at entry
+pub record Answers {M : Type 0} (numbers : List ℕ) (conditions : List Condition) (reply : Reply) (entry exit : M) : Type 0 where
+  pub of-the-paper : map (λ (c : Condition). c .number) conditions ≡ numbers
+  pub exact : (reply .number, reply .place) ≡ lowest conditions
+  pub kept : (reply .number ≡ 0 → ⊥) → exit ≡ entry
+
+-- ---- the plan: check
+
+abbrev pub plan-conditions : List ℤ → List ℕ → List ℕ → List Condition
+plan-conditions cs ts ds =
+    when 1 (not (framed cs ts)) 0
+    ∷ when 2 (not (sized (corner-count cs) (cell-count ts) (length ds))) 0
+    ∷ when 3 (ltb (first-wrong-corner cs) (corner-count cs)) (first-wrong-corner cs)
+    ∷ when 4 (ltb (first-wrong-cell cs ts) (cell-count ts)) (first-wrong-cell cs ts)
+    ∷ when 5 (ltb (first-wrong-face ts) (face-count ts)) (first-wrong-face ts)
+    ∷ when 6 (ltb (first-wrong-door ts ds) (length ds)) (first-wrong-door ts ds)
+    ∷ []
+
+-- ---- the plan file: reader and writer
+
+-- the file is not the three records; then the plan in it; then any list shorter than its numbers
+abbrev pub read-conditions : List ℕ → ℕ → ℕ → ℕ → List Condition
+read-conditions s n m k =
+    when 1 (not (framed-records s)) 0
+    ∷ plan-conditions (corners-in s) (cells-in s) (doors-in s)
+    ++ (when 11 (not (has-room (corners-in s) (cells-in s) (doors-in s) n m k)) 0 ∷ [])
+
+-- the plan; then bytes shorter than the file
+abbrev pub write-conditions : List ℤ → List ℕ → List ℕ → ℕ → List Condition
+write-conditions cs ts ds room = plan-conditions cs ts ds ++ (when 11 (not (leb (length (file-of cs ts ds)) room)) 0 ∷ [])
+
+-- ---- the stand: finding
+
+-- 8: a number or corner not accepted
+abbrev pub not-accepted : Spot → Bool
+not-accepted (At x y) = false
+not-accepted Refused = true
+
+-- strictly inside some cell; on some cell's border
+abbrev pub inside-some : List ℤ → List ℕ → Point → Bool
+inside-some cs ts q = ltb (first-inside cs ts q) (cell-count ts)
+
+abbrev pub on-some-border : List ℤ → List ℕ → Point → Bool
+on-some-border cs ts q = ltb (first-border cs ts q) (cell-count ts)
+
+-- 9: strictly inside no cell, on some cell's border
+abbrev pub on-a-line : List ℤ → List ℕ → Spot → Bool
+on-a-line cs ts (At x y) = not (inside-some cs ts (record { x = x; y = y })) && on-some-border cs ts (record { x = x; y = y })
+on-a-line cs ts Refused = false
+
+-- 10: inside or on no cell
+abbrev pub off-every-cell : List ℤ → List ℕ → Spot → Bool
+off-every-cell cs ts (At x y) = not (inside-some cs ts (record { x = x; y = y })) && not (on-some-border cs ts (record { x = x; y = y }))
+off-every-cell cs ts Refused = false
+
+abbrev pub stand-conditions : List ℤ → List ℕ → Spot → List Condition
+stand-conditions cs ts spot =
+    when 8 (not-accepted spot) 0 ∷ when 9 (on-a-line cs ts spot) 0 ∷ when 10 (off-every-cell cs ts spot) 0 ∷ []
+
+abbrev pub find-conditions : List ℤ → List ℕ → List ℕ → Stand → List Condition
+find-conditions cs ts ds s = plan-conditions cs ts ds ++ stand-conditions cs ts (stood cs s)
+
+-- ---- listing and door change
+
+-- a bit at or above the door count; the stand; a table shorter than 3·corners numbers
+abbrev pub list-conditions : List ℤ → List ℕ → List ℕ → ℕ → Stand → ℕ → List Condition
+list-conditions cs ts ds w s room =
+    plan-conditions cs ts ds
+    ++ (when 7 (wrong-setting w (length ds)) 0 ∷ stand-conditions cs ts (stood cs s))
+    ++ (when 11 (ltb room (3 * corner-count cs)) 0 ∷ [])
+
+-- the true list under the setting, from a stand in its cell
+abbrev pub true-numbers : List ℤ → List ℕ → List ℕ → ℕ → Spot → List ℕ
+true-numbers cs ts ds w (At x y) = listing-numbers cs ts ds w (record { x = x; y = y }) (first-inside cs ts (record { x = x; y = y }))
+true-numbers cs ts ds w Refused = []
+
+-- no such door, or already in that state; the given list differs from the true one
+abbrev pub change-conditions : List ℤ → List ℕ → List ℕ → ℕ → Stand → List ℕ → ℕ → Bool → ℕ → List Condition
+change-conditions cs ts ds w s given i b room =
+    list-conditions cs ts ds w s room
+    ++ (when 12 (no-change ds w i b) 0 ∷ when 13 (not (same-list given (true-numbers cs ts ds w (stood cs s)))) 0 ∷ [])

@@ -1,0 +1,136 @@
+-- The three demands, over the input alone. Demands 2 and 3 are of any answer and any table: what they ask of an answer, and of what stands in the table
+-- before and after.
+use mathlib.Core.Bool.{Bool, true, false}
+use mathlib.Core.List.{List, [], _∷_, map}
+use mathlib.Core.Path.{_≡_}
+use Prim.Native.Nat.{ℕ, _+_, _*_, _<_}
+use lib.ListN.{length, getD, take, drop}
+use lib.IntN.{ℤ}
+use Rattle.plane.specs.Side.{Point}
+use Rattle.plane.specs.Cone.{Meets, Direction}
+use Rattle.plan.specs.Lists.{corner-count, start, back}
+use Rattle.plan.specs.Check.{checked}
+use Rattle.plan.specs.Reply.{number, place, checked-reply}
+use Rattle.plan.specs.declared.Refusal.{Refusal}
+use Rattle.plan.specs.declared.Refusal.the-variants.{Rows as Untrue}
+use Rattle.planfile.specs.Calls as Calls
+use Rattle.planfile.specs.Calls.{written}
+use Rattle.stand.specs.Spot.{stood}
+use Rattle.stand.specs.Find.{located, found}
+use Rattle.stand.specs.Reply.{found-reply}
+use Rattle.stand.specs.declared.spot.Stand.{Stand}
+use Rattle.stand.specs.declared.spot.Spot.the-variants.{At}
+use Rattle.stand.specs.declared.find.Found.the-variants.{Cell}
+use Rattle.expand.specs.Sight.{Row}
+use Rattle.sight.specs.Walk.{RowHolds, WalkEnds}
+use Rattle.sight.specs.Written.{OneRow}
+use Rattle.sight.specs.Listing.{plan-floor, seen, finish, listing-numbers, listing-row-count, listing-crossings, listed}
+use Rattle.sight.specs.Reply.{listed-reply}
+use Rattle.sight.specs.declared.list.Listed.{Listed}
+use Rattle.sight.specs.declared.list.Listed.the-variants.{Rows, Refused}
+use Rattle.doors.specs.Route.{Routed, routed, row-numbers}
+use Rattle.doors.specs.Door.{on-door, untouched, those}
+use Rattle.doors.specs.Shutting.{runs, door-row}
+use Rattle.doors.specs.PlanFloor.{sight-from}
+use Rattle.doors.specs.Change.{no-change, wished, changed}
+use Rattle.manopluea.specs.Conditions.{Answers, plan-conditions, read-conditions, write-conditions, find-conditions, list-conditions, change-conditions}
+
+-- ---- demand 1
+
+pub record Demand-1 : Type 0 where
+  pub check : (cs : List ℤ) (ts ds : List ℕ) → Answers {M = Unit {0}} (1 ∷ 2 ∷ 3 ∷ 4 ∷ 5 ∷ 6 ∷ []) (plan-conditions cs ts ds) (checked-reply (checked cs ts ds)) tt tt
+  -- the records of a file, then the lists in them
+  pub read : (file : List ℕ) (corners : List ℤ) (cells doors : List ℕ) → Answers (1 ∷ 1 ∷ 2 ∷ 3 ∷ 4 ∷ 5 ∷ 6 ∷ 11 ∷ []) (read-conditions file (length corners) (length cells) (length doors)) (checked-reply (Calls.read file corners cells doors .0)) (corners, (cells, doors)) (Calls.read file corners cells doors .1)
+  pub write : (cs : List ℤ) (ts ds file : List ℕ) → Answers (1 ∷ 2 ∷ 3 ∷ 4 ∷ 5 ∷ 6 ∷ 11 ∷ []) (write-conditions cs ts ds (length file)) (checked-reply (written cs ts ds file .0)) file (written cs ts ds file .1)
+  pub find : (cs : List ℤ) (ts ds : List ℕ) (s : Stand) → Answers {M = Unit {0}} (1 ∷ 2 ∷ 3 ∷ 4 ∷ 5 ∷ 6 ∷ 8 ∷ 9 ∷ 10 ∷ []) (find-conditions cs ts ds s) (found-reply (found cs ts ds s)) tt tt
+  pub list : (cs : List ℤ) (ts ds : List ℕ) (w : ℕ) (s : Stand) (table : List ℕ) → Answers (1 ∷ 2 ∷ 3 ∷ 4 ∷ 5 ∷ 6 ∷ 7 ∷ 8 ∷ 9 ∷ 10 ∷ 11 ∷ []) (list-conditions cs ts ds w s (length table)) (listed-reply (listed cs ts ds w s table .0)) table (listed cs ts ds w s table .1)
+  pub change : (cs : List ℤ) (ts ds : List ℕ) (w : ℕ) (s : Stand) (given : List ℕ) (i : ℕ) (b : Bool) (table : List ℕ) → Answers (1 ∷ 2 ∷ 3 ∷ 4 ∷ 5 ∷ 6 ∷ 7 ∷ 8 ∷ 9 ∷ 10 ∷ 11 ∷ 12 ∷ 13 ∷ []) (change-conditions cs ts ds w s given i b (length table)) (listed-reply (changed cs ts ds w s given i b table .0)) table (changed cs ts ds w s given i b table .1)
+  -- different refusals have different numbers, or the same number at different places
+  pub apart : (r s : Refusal) → number r ≡ number s → place r ≡ place s → r ≡ s
+
+-- ---- demand 2
+
+module _ (cs : List ℤ) (ts ds : List ℕ) (w : ℕ) (q : Point) (c : ℕ) where
+  -- the whole ray of direction d from q, q itself not counted, meets no corner of the plan
+  abbrev pub MeetsNoCorner : Point → Type 0
+  MeetsNoCorner d = (k : ℕ) → k < corner-count cs → ¬ Meets d (seen cs q k)
+
+  -- the row holds d strictly between its limits
+  abbrev pub HoldsDirection : Point → Row → Type 0
+  HoldsDirection d r = RowHolds (plan-floor cs ts ds w q) (seen cs q) (start ts) (finish ts) d r
+
+  -- the walk for d from cell c ends at this face
+  abbrev pub WalkEndsAt : Point → ℕ → Type 0
+  WalkEndsAt d f = WalkEnds (plan-floor cs ts ds w q) (seen cs q) (start ts) (finish ts) d (3 * c) (3 * c + 1) (3 * c + 2) f
+
+  -- exactly one of the first n rows of the table holds d, and its face is where the walk ends
+  pub record HeldOnce (n : ℕ) (table : List ℕ) (d : Point) : Type 0 where
+    pub row : Row
+    pub one : OneRow (HoldsDirection d) table n row
+    pub met : WalkEndsAt d (row .face)
+
+module _ (cs : List ℤ) (ts ds : List ℕ) (w : ℕ) (s : Stand) where
+  -- n rows of a table and k crossings, seen from the very point that the stand is, in the cell that is found for it
+  pub record Sighted (n k : ℕ) (table : List ℕ) : Type 0 where
+    pub x : ℤ
+    pub y : ℤ
+    pub the-stand : stood cs s ≡ At x y
+    pub cell : ℕ
+    pub its-cell : located cs ts (record { x = x; y = y }) ≡ Cell cell
+    -- rows, order and crossings are those of the published triangular expansion
+    pub expanded : take (3 * n) table ≡ listing-numbers cs ts ds w (record { x = x; y = y }) cell
+    pub counted : n ≡ listing-row-count cs ts ds w (record { x = x; y = y }) cell
+    pub crossed : k ≡ listing-crossings cs ts ds w (record { x = x; y = y }) cell
+    -- every direction whose ray meets no corner is held by exactly one row, whose wall is the first met walking cell by cell
+    pub held : (d : Point) → Direction d → MeetsNoCorner cs ts ds w (record { x = x; y = y }) cell d → HeldOnce cs ts ds w (record { x = x; y = y }) cell n table d
+
+  -- whenever the answer is n rows, they are so, and beyond them the table is as it was
+  pub record Demand-2 (before : List ℕ) (answer : Listed) (after : List ℕ) : Type 0 where
+    pub sighted : (n k : ℕ) → answer ≡ Rows n k → Sighted n k after
+    pub beyond : (n k : ℕ) → answer ≡ Rows n k → drop (3 * n) after ≡ drop (3 * n) before
+
+-- ---- demand 3
+
+-- of the two lists, the one with the door open and the one with it shut, where the second is wished shut (true) or open
+abbrev pub while-open : {A : Type 0} → Bool → A → A → A
+while-open true old new = old
+while-open false old new = new
+
+abbrev pub once-shut : {A : Type 0} → Bool → A → A → A
+once-shut true old new = new
+once-shut false old new = old
+
+module _ (cs : List ℤ) (ts ds : List ℕ) (w : ℕ) (s : Stand) (given : List ℕ) (i : ℕ) (b : Bool) where
+  -- the door's two faces
+  abbrev pub face : ℕ
+  face = getD ds i 0
+
+  abbrev pub other-face : ℕ
+  other-face = back ts (getD ds i 0)
+
+  -- the given list and the first n rows of a table, as rows with their routes: rows that the door does not touch stand in both, in order, and each run
+  -- through the open door is one row on the shut door
+  pub record RunByRun (n : ℕ) (table : List ℕ) : Type 0 where
+    pub old : List Routed
+    pub new : List Routed
+    pub old-given : given ≡ row-numbers old
+    pub new-listed : take (3 * n) table ≡ row-numbers new
+    pub untouched-in-both : those (untouched face other-face) new ≡ those (untouched face other-face) old
+    pub runs-are-rows : those (on-door face other-face) (once-shut b old new) ≡ map (door-row face other-face) (runs face other-face (while-open b old new))
+    -- the rows and routes are those of the two listings
+    pub x : ℤ
+    pub y : ℤ
+    pub the-stand : stood cs s ≡ At x y
+    pub cell : ℕ
+    pub its-cell : located cs ts (record { x = x; y = y }) ≡ Cell cell
+    pub old-seen : old ≡ routed (sight-from cs ts ds w (record { x = x; y = y }) cell)
+    pub new-seen : new ≡ routed (sight-from cs ts ds (wished b w i) (record { x = x; y = y }) cell)
+
+  pub record Demand-3 (before : List ℕ) (answer : Listed) (after : List ℕ) : Type 0 where
+    -- whenever the answer is rows, answer and table are those of a fresh listing under the new setting
+    pub fresh : (n k : ℕ) → answer ≡ Rows n k → (answer, after) ≡ listed cs ts ds (wished b w i) s before
+    pub run-by-run : (n k : ℕ) → answer ≡ Rows n k → RunByRun n after
+    -- and so it is from every true list of a door that is not yet so
+    pub from-the-true-list : (n k : ℕ) (t : List ℕ) → listed cs ts ds w s before ≡ (Rows n k, t) → no-change ds w i b ≡ false → given ≡ take (3 * n) t → (answer, after) ≡ listed cs ts ds (wished b w i) s before
+    -- while a given list that is not the true one is 13, and the table is as it was
+    pub from-another-list : (n k : ℕ) (t : List ℕ) → listed cs ts ds w s before ≡ (Rows n k, t) → no-change ds w i b ≡ false → (given ≡ take (3 * n) t → ⊥) → _≡_ {A = Listed × List ℕ} (answer, after) (Refused Untrue, before)

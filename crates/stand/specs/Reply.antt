@@ -1,0 +1,10 @@
+-- Finding's answer in document 01's numbers ("Reply numbers").
+use mathlib.Core.List.{[], _∷_}
+use Rattle.plan.specs.Reply.{Reply, done, refused}
+use Rattle.stand.specs.declared.find.Found.{Found}
+use Rattle.stand.specs.declared.find.Found.the-variants.{Cell, Refused}
+
+-- the stand's cell
+abbrev pub found-reply : Found → Reply
+found-reply (Cell c) = done (c ∷ [])
+found-reply (Refused r) = refused r
