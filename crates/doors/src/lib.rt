@@ -18,8 +18,8 @@ use sight::view::View;
 use sight::view::view_from;
 use stand::spot::Stand;
 
-// Is the given list the first n numbers of the table?
-fn is_same(given: &[u16], table: &[u16], n: usize) -> bool
+// Is the given list the same as the first n numbers of the table, in length and every number?
+fn is_same_list(given: &[u16], table: &[u16], n: usize) -> bool
     requires { ⌜ n ≤ length (now table) ⌝ }
     ensures { λ r. ⌜ r ≡ same-list (now (given .entry)) (take n (now (table .entry))) ⌝ }
 {
@@ -36,8 +36,8 @@ fn is_same(given: &[u16], table: &[u16], n: usize) -> bool
     true
 }
 
-// Is the given list the true one under the setting?
-fn is_true(
+// Is the given list the true one under the setting? It is listed anew in the table that is lent for this.
+fn is_true_list_with_room(
     corners: &[i32],
     cells: &[u16],
     doors: &[u16],
@@ -54,11 +54,11 @@ fn is_true(
 {
     let counts = list_from(corners, cells, doors, setting, q, table, c);
     let n = 3 * counts.rows;
-    is_same(given, table, n)
+    is_same_list(given, table, n)
 }
 
 // Is door i in the wished state, shut or open?
-fn is_so(setting: u64, i: usize, shut: bool) -> bool
+fn is_in_wished_state(setting: u64, i: usize, shut: bool) -> bool
     requires { ⌜ i < 64 ⌝ }
     ensures { λ r. ⌜ r ≡ in-state shut setting i ⌝ }
 {
@@ -81,7 +81,7 @@ fn wished(setting: u64, i: usize, shut: bool) -> u64
 }
 
 // Is the given list the true one? It is listed anew in a table of its own, so the lent one keeps its contents.
-fn is_listed(
+fn is_true_list(
     corners: &[i32],
     cells: &[u16],
     doors: &[u16],
@@ -95,7 +95,7 @@ fn is_listed(
     ensures { λ r. ⌜ r ≡ same-list (now (given .entry)) (listing-numbers (now (corners .entry)) (now (cells .entry)) (now (doors .entry)) setting (point q) c) ⌝ }
 {
     let mut scratch = [0u16; 3 * Plan::MOST_CORNERS];
-    is_true(corners, cells, doors, setting, q, given, c, &mut scratch)
+    is_true_list_with_room(corners, cells, doors, setting, q, given, c, &mut scratch)
 }
 
 // On a view: replies 12 and 13, or the list under the new setting.
@@ -119,10 +119,10 @@ fn change_from(
     if doors.len() <= door {
         return Listed::Refused(Refusal::Change);
     }
-    if is_so(setting, door, shut) {
+    if is_in_wished_state(setting, door, shut) {
         return Listed::Refused(Refusal::Change);
     }
-    if !is_listed(corners, cells, doors, setting, q, given, c) {
+    if !is_true_list(corners, cells, doors, setting, q, given, c) {
         return Listed::Refused(Refusal::Rows);
     }
     let counts = list_from(

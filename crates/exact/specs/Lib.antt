@@ -1,1 +1,2 @@
+-- a bound on the size of a whole number
 pub mod Within

@@ -27,12 +27,12 @@ not-cut (whole-both w x) e = let z : _≡_ {A = ℕ} 0 1 = cc in omega arith
 
 -- a free line is passed, and what is beyond has one crossing less to spend
 pub record Passed (F : Floor) (n f r l : ℕ) : Type 0 where
-  pub one-left : 1 ≤ n
+  pub one-unentered : 1 ≤ n
   pub is : follow F n f r l ≡ pass f r l (hand-on F (n - 1) (F .back f) r l)
 
 pub passed : (F : Floor) (n f r l : ℕ) → F .ends f ≡ false → Whole (follow F n f r l) → Passed F n f r l
 passed F zero f r l e w = absurd (not-cut w (follow-too-far F f r l e))
-passed F (suc n) f r l e w = record { one-left = omega arith; is = rw sub-one (follow-across F n f r l e) }
+passed F (suc n) f r l e w = record { one-unentered = omega arith; is = rw sub-one (follow-across F n f r l e) }
 
 -- ---- the room that a tree's rows take in a table of n numbers, from `at` on
 

@@ -44,7 +44,7 @@ fn place(corners: &[i32], q: [i64; 2], v: u16, r: u16, l: u16) -> Apex
     Apex::Between
 }
 
-// Follows the line of face f with limits r and l to its rows, which go to the table from `at` on; `left` is the cells not yet entered.
+// Follows the line of face f with limits r and l to its rows, which go to the table from `at` on; `unentered` is how many cells are not yet entered.
 pub fn cross(
     corners: &[i32],
     lines: &[u16],
@@ -54,16 +54,16 @@ pub fn cross(
     r: u16,
     l: u16,
     at: usize,
-    left: usize,
+    unentered: usize,
 ) -> Counts
     requires { ⌜ Lines (now corners) (now lines) × Near (point q) ⌝ }
     requires { ⌜ (2 * f + 1 < length (now lines)) × (r < corner-count (now corners)) × (l < corner-count (now corners)) ⌝ }
-    requires { ⌜ Whole (follow (floor-of (now corners) (now lines) (point q)) left f r l) ⌝ }
-    requires { ⌜ at + 3 * row-count (follow (floor-of (now corners) (now lines) (point q)) left f r l) ≤ length (now table) ⌝ }
-    requires { ⌜ crossings (follow (floor-of (now corners) (now lines) (point q)) left f r l) < 2 ^ 63 ⌝ }
-    ensures { λ c. ⌜ c .rows ≡ row-count (follow (floor-of (now (corners .entry)) (now (lines .entry)) (point q)) left f r l) ⌝ }
-    ensures { λ c. ⌜ c .crossings ≡ crossings (follow (floor-of (now (corners .entry)) (now (lines .entry)) (point q)) left f r l) ⌝ }
-    ensures { λ c. ⌜ now (table .exit) ≡ sets (now (table .entry)) at (numbers (follow (floor-of (now (corners .entry)) (now (lines .entry)) (point q)) left f r l)) ⌝ }
+    requires { ⌜ Whole (follow (floor-of (now corners) (now lines) (point q)) unentered f r l) ⌝ }
+    requires { ⌜ at + 3 * row-count (follow (floor-of (now corners) (now lines) (point q)) unentered f r l) ≤ length (now table) ⌝ }
+    requires { ⌜ crossings (follow (floor-of (now corners) (now lines) (point q)) unentered f r l) < 2 ^ 63 ⌝ }
+    ensures { λ c. ⌜ c .rows ≡ row-count (follow (floor-of (now (corners .entry)) (now (lines .entry)) (point q)) unentered f r l) ⌝ }
+    ensures { λ c. ⌜ c .crossings ≡ crossings (follow (floor-of (now (corners .entry)) (now (lines .entry)) (point q)) unentered f r l) ⌝ }
+    ensures { λ c. ⌜ now (table .exit) ≡ sets (now (table .entry)) at (numbers (follow (floor-of (now (corners .entry)) (now (lines .entry)) (point q)) unentered f r l)) ⌝ }
 {
     let across = lines[2 * f + 1];
     if across == Plan::WALL {
@@ -84,7 +84,7 @@ pub fn cross(
         r,
         l,
         at,
-        left - 1,
+        unentered - 1,
     );
     Counts {
         rows: beyond.rows,
@@ -102,25 +102,25 @@ fn hand_on(
     r: u16,
     l: u16,
     at: usize,
-    left: usize,
+    unentered: usize,
 ) -> Counts
     requires { ⌜ Lines (now corners) (now lines) × Near (point q) ⌝ }
     requires { ⌜ (2 * g + 1 < length (now lines)) × (r < corner-count (now corners)) × (l < corner-count (now corners)) ⌝ }
-    requires { ⌜ Whole (hand-on (floor-of (now corners) (now lines) (point q)) left g r l) ⌝ }
-    requires { ⌜ at + 3 * row-count (hand-on (floor-of (now corners) (now lines) (point q)) left g r l) ≤ length (now table) ⌝ }
-    requires { ⌜ crossings (hand-on (floor-of (now corners) (now lines) (point q)) left g r l) < 2 ^ 63 ⌝ }
-    ensures { λ c. ⌜ c .rows ≡ row-count (hand-on (floor-of (now (corners .entry)) (now (lines .entry)) (point q)) left g r l) ⌝ }
-    ensures { λ c. ⌜ c .crossings ≡ crossings (hand-on (floor-of (now (corners .entry)) (now (lines .entry)) (point q)) left g r l) ⌝ }
-    ensures { λ c. ⌜ now (table .exit) ≡ sets (now (table .entry)) at (numbers (hand-on (floor-of (now (corners .entry)) (now (lines .entry)) (point q)) left g r l)) ⌝ }
+    requires { ⌜ Whole (hand-on (floor-of (now corners) (now lines) (point q)) unentered g r l) ⌝ }
+    requires { ⌜ at + 3 * row-count (hand-on (floor-of (now corners) (now lines) (point q)) unentered g r l) ≤ length (now table) ⌝ }
+    requires { ⌜ crossings (hand-on (floor-of (now corners) (now lines) (point q)) unentered g r l) < 2 ^ 63 ⌝ }
+    ensures { λ c. ⌜ c .rows ≡ row-count (hand-on (floor-of (now (corners .entry)) (now (lines .entry)) (point q)) unentered g r l) ⌝ }
+    ensures { λ c. ⌜ c .crossings ≡ crossings (hand-on (floor-of (now (corners .entry)) (now (lines .entry)) (point q)) unentered g r l) ⌝ }
+    ensures { λ c. ⌜ now (table .exit) ≡ sets (now (table .entry)) at (numbers (hand-on (floor-of (now (corners .entry)) (now (lines .entry)) (point q)) unentered g r l)) ⌝ }
 {
     let right = face::next(g);
     let far = face::next(right);
     let v = lines[2 * far];
     match place(corners, q, v, r, l) {
-        Apex::RightOfR => cross(corners, lines, q, table, far, r, l, at, left),
-        Apex::LeftOfL => cross(corners, lines, q, table, right, r, l, at, left),
+        Apex::RightOfR => cross(corners, lines, q, table, far, r, l, at, unentered),
+        Apex::LeftOfL => cross(corners, lines, q, table, right, r, l, at, unentered),
         Apex::Between => {
-            let first = cross(corners, lines, q, table, right, r, v, at, left);
+            let first = cross(corners, lines, q, table, right, r, v, at, unentered);
             let second = cross(
                 corners,
                 lines,
@@ -130,7 +130,7 @@ fn hand_on(
                 v,
                 l,
                 at + 3 * first.rows,
-                left,
+                unentered,
             );
             Counts {
                 rows: first.rows + second.rows,

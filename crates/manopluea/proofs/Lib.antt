@@ -1,6 +1,12 @@
-pub mod Numbered
+-- demand 1: each call's reply is the lowest condition that applies, and a refusal keeps all lent memory
 pub mod Replies
+-- the three demands, of the calls' definitions and from the input alone
 pub mod Demands
+-- a promise said twice: of the answer, and in document 01's numbers
+pub mod Numbered
+-- the twelve measured examples, computed from the listing's definition
 pub mod Cases
-pub mod ShutOut
+-- the door change, computed on plan Q
 pub mod ChangesOfQ
+-- wrong versions break the demand that document 01 names
+pub mod ShutOut

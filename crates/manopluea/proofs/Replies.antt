@@ -19,7 +19,7 @@ use Rattle.plan.specs.declared.Checked.the-variants as C
 use Rattle.setting.specs.Setting.{wrong-setting}
 use Rattle.records.specs.Record.{framed as framed-records}
 use Rattle.planfile.specs.File.{file-of, corners-in, cells-in, doors-in}
-use Rattle.planfile.specs.Calls.{given-room, left-by, has-room, written-reply, written, read-reply, read}
+use Rattle.planfile.specs.Calls.{given-room, left-by, has-room, written-reply, read-reply}
 use Rattle.stand.specs.Spot.{stood}
 use Rattle.stand.specs.Find.{first-inside, by-cells, located, with-spot, with-plan, found}
 use Rattle.stand.specs.Reply.{found-reply}
@@ -33,7 +33,7 @@ use Rattle.sight.specs.Reply.{listed-reply}
 use Rattle.sight.specs.declared.view.View.{View}
 use Rattle.sight.specs.declared.view.View.the-variants as O
 use Rattle.doors.specs.Change.{same-list, no-change, wished, refuse, changed-from, changed}
-use Rattle.manopluea.specs.Conditions.{Condition, when, lowest, Answers, plan-conditions, read-conditions, write-conditions, inside-some, on-some-border, stand-conditions, find-conditions, list-conditions, true-numbers, change-conditions}
+use Rattle.manopluea.specs.Conditions.{Condition, when, lowest, CheckAnswers, ReadAnswers, WriteAnswers, FindAnswers, ListAnswers, ChangeAnswers, plan-conditions, read-conditions, inside-some, on-some-border, stand-conditions, true-numbers}
 
 -- what an answer tells in numbers
 abbrev pub told : Reply → ℕ × ℕ
@@ -86,7 +86,7 @@ module _ (f : Checked → ℕ × ℕ) (as-refused : (r : Refusal) → f (C.Refus
       (refused-or (ltb (first-wrong-face ts) (face-count ts)) (Neighbour (first-wrong-face ts)) _ _
       (refused-or (ltb (first-wrong-door ts ds) (length ds)) (Door (first-wrong-door ts ds)) _ _ e)))))
 
-pub check-answers : (cs : List ℤ) (ts ds : List ℕ) → Answers {M = Unit {0}} (1 ∷ 2 ∷ 3 ∷ 4 ∷ 5 ∷ 6 ∷ []) (plan-conditions cs ts ds) (checked-reply (checked cs ts ds)) tt tt
+pub check-answers : (cs : List ℤ) (ts ds : List ℕ) → CheckAnswers cs ts ds
 unfolding lowest
 check-answers cs ts ds =
     record {
@@ -110,7 +110,7 @@ room-or false p = refl
 by-room : (cs : List ℤ) (ts ds : List ℕ) (b : Bool) → told (checked-reply (given-room b (checked cs ts ds))) ≡ lowest (plan-conditions cs ts ds ++ (when 11 (not b) 0 ∷ []))
 by-room cs ts ds b = by-plan (λ k. told (checked-reply (given-room b k))) (roomed b) cs ts ds _ (room-or b _)
 
-pub read-answers : (file : List ℕ) (corners : List ℤ) (cells doors : List ℕ) → Answers (1 ∷ 1 ∷ 2 ∷ 3 ∷ 4 ∷ 5 ∷ 6 ∷ 11 ∷ []) (read-conditions file (length corners) (length cells) (length doors)) (checked-reply (read file corners cells doors .0)) (corners, (cells, doors)) (read file corners cells doors .1)
+pub read-answers : (file : List ℕ) (corners : List ℤ) (cells doors : List ℕ) → ReadAnswers file corners cells doors
 unfolding read-reply
 read-answers file corners cells doors =
     record {
@@ -128,7 +128,7 @@ read-answers file corners cells doors =
     all-kept (C.Accepted p) h = absurd (h refl)
     all-kept (C.Refused r) h = refl
 
-pub write-answers : (cs : List ℤ) (ts ds file : List ℕ) → Answers (1 ∷ 2 ∷ 3 ∷ 4 ∷ 5 ∷ 6 ∷ 11 ∷ []) (write-conditions cs ts ds (length file)) (checked-reply (written cs ts ds file .0)) file (written cs ts ds file .1)
+pub write-answers : (cs : List ℤ) (ts ds file : List ℕ) → WriteAnswers cs ts ds file
 unfolding written-reply
 write-answers cs ts ds file =
     record {
@@ -152,7 +152,7 @@ module _ (f : Found → ℕ × ℕ) (as-refused : (r : Refusal) → f (F.Refused
   by-cell false true c more e = as-refused Line
   by-cell false false c more e = as-refused Outside
 
-pub find-answers : (cs : List ℤ) (ts ds : List ℕ) (s : Stand) → Answers {M = Unit {0}} (1 ∷ 2 ∷ 3 ∷ 4 ∷ 5 ∷ 6 ∷ 8 ∷ 9 ∷ 10 ∷ []) (find-conditions cs ts ds s) (found-reply (found cs ts ds s)) tt tt
+pub find-answers : (cs : List ℤ) (ts ds : List ℕ) (s : Stand) → FindAnswers cs ts ds s
 unfolding found located lowest
 find-answers cs ts ds s =
     record {
@@ -189,7 +189,7 @@ module _ (cs : List ℤ) (ts ds : List ℕ) (w : ℕ) (s : Stand) (room : ℕ) (
       by-plan (λ k. f (view-of-plan cs ts ds w s room k)) as-refused cs ts ds _
       (refused-unless (wrong-setting w (length ds)) Setting (view-of-spot cs ts room (stood cs s)) _ (by-spot (stood cs s)))
 
-pub list-answers : (cs : List ℤ) (ts ds : List ℕ) (w : ℕ) (s : Stand) (table : List ℕ) → Answers (1 ∷ 2 ∷ 3 ∷ 4 ∷ 5 ∷ 6 ∷ 7 ∷ 8 ∷ 9 ∷ 10 ∷ 11 ∷ []) (list-conditions cs ts ds w s (length table)) (listed-reply (listed cs ts ds w s table .0)) table (listed cs ts ds w s table .1)
+pub list-answers : (cs : List ℤ) (ts ds : List ℕ) (w : ℕ) (s : Stand) (table : List ℕ) → ListAnswers cs ts ds w s table
 unfolding listed lowest
 list-answers cs ts ds w s table =
     record {
@@ -206,7 +206,7 @@ list-answers cs ts ds w s table =
 abbrev after-the-list : List ℕ → ℕ → ℕ → Bool → List ℕ → List ℕ → List Condition
 after-the-list ds w i b given truth = when 12 (no-change ds w i b) 0 ∷ when 13 (not (same-list given truth)) 0 ∷ []
 
-pub change-answers : (cs : List ℤ) (ts ds : List ℕ) (w : ℕ) (s : Stand) (given : List ℕ) (i : ℕ) (b : Bool) (table : List ℕ) → Answers (1 ∷ 2 ∷ 3 ∷ 4 ∷ 5 ∷ 6 ∷ 7 ∷ 8 ∷ 9 ∷ 10 ∷ 11 ∷ 12 ∷ 13 ∷ []) (change-conditions cs ts ds w s given i b (length table)) (listed-reply (changed cs ts ds w s given i b table .0)) table (changed cs ts ds w s given i b table .1)
+pub change-answers : (cs : List ℤ) (ts ds : List ℕ) (w : ℕ) (s : Stand) (given : List ℕ) (i : ℕ) (b : Bool) (table : List ℕ) → ChangeAnswers cs ts ds w s given i b table
 unfolding changed lowest
 change-answers cs ts ds w s given i b table =
     record {

@@ -1,5 +1,5 @@
 -- Document 01's table of replies ("Reply numbers"), call by call: each number that the paper gives the call, when it applies, and its place. They stand in
--- the order of the numbers, so the first that applies is the lowest.
+-- the order of the numbers, so the first that applies is the lowest. `CheckAnswers` and the like are demand 1 of that call.
 use mathlib.Core.Bool.{Bool, true, false, not, _&&_}
 use mathlib.Core.List.{List, [], _∷_, _++_, map}
 use mathlib.Core.Path.{_≡_}
@@ -23,6 +23,7 @@ use Rattle.stand.specs.declared.spot.Spot.{Spot}
 use Rattle.stand.specs.declared.spot.Spot.the-variants.{At, Refused}
 use Rattle.sight.specs.Listing.{listing-numbers}
 use Rattle.doors.specs.Change.{same-list, no-change}
+use Rattle.manopluea.specs.Calls.{check-replies, read-replies, write-replies, find-replies, list-replies, change-replies}
 
 pub record Condition : Type 0 where
   pub number : ℕ
@@ -56,6 +57,9 @@ plan-conditions cs ts ds =
     ∷ when 6 (ltb (first-wrong-door ts ds) (length ds)) (first-wrong-door ts ds)
     ∷ []
 
+abbrev pub CheckAnswers : List ℤ → List ℕ → List ℕ → Type 0
+CheckAnswers cs ts ds = Answers {M = Unit {0}} (1 ∷ 2 ∷ 3 ∷ 4 ∷ 5 ∷ 6 ∷ []) (plan-conditions cs ts ds) (check-replies cs ts ds) tt tt
+
 -- ---- the plan file: reader and writer
 
 -- the file is not the three records; then the plan in it; then any list shorter than its numbers
@@ -65,9 +69,17 @@ read-conditions s n m k =
     ∷ plan-conditions (corners-in s) (cells-in s) (doors-in s)
     ++ (when 11 (not (has-room (corners-in s) (cells-in s) (doors-in s) n m k)) 0 ∷ [])
 
+abbrev pub ReadAnswers : List ℕ → List ℤ → List ℕ → List ℕ → Type 0
+ReadAnswers file corners cells doors =
+    Answers (1 ∷ 1 ∷ 2 ∷ 3 ∷ 4 ∷ 5 ∷ 6 ∷ 11 ∷ []) (read-conditions file (length corners) (length cells) (length doors)) (read-replies file corners cells doors .0) (corners, (cells, doors)) (read-replies file corners cells doors .1)
+
 -- the plan; then bytes shorter than the file
 abbrev pub write-conditions : List ℤ → List ℕ → List ℕ → ℕ → List Condition
 write-conditions cs ts ds room = plan-conditions cs ts ds ++ (when 11 (not (leb (length (file-of cs ts ds)) room)) 0 ∷ [])
+
+abbrev pub WriteAnswers : List ℤ → List ℕ → List ℕ → List ℕ → Type 0
+WriteAnswers cs ts ds file =
+    Answers (1 ∷ 2 ∷ 3 ∷ 4 ∷ 5 ∷ 6 ∷ 11 ∷ []) (write-conditions cs ts ds (length file)) (write-replies cs ts ds file .0) file (write-replies cs ts ds file .1)
 
 -- ---- the stand: finding
 
@@ -100,6 +112,10 @@ stand-conditions cs ts spot =
 abbrev pub find-conditions : List ℤ → List ℕ → List ℕ → Stand → List Condition
 find-conditions cs ts ds s = plan-conditions cs ts ds ++ stand-conditions cs ts (stood cs s)
 
+abbrev pub FindAnswers : List ℤ → List ℕ → List ℕ → Stand → Type 0
+FindAnswers cs ts ds s =
+    Answers {M = Unit {0}} (1 ∷ 2 ∷ 3 ∷ 4 ∷ 5 ∷ 6 ∷ 8 ∷ 9 ∷ 10 ∷ []) (find-conditions cs ts ds s) (find-replies cs ts ds s) tt tt
+
 -- ---- listing and door change
 
 -- a bit at or above the door count; the stand; a table shorter than 3·corners numbers
@@ -108,6 +124,10 @@ list-conditions cs ts ds w s room =
     plan-conditions cs ts ds
     ++ (when 7 (wrong-setting w (length ds)) 0 ∷ stand-conditions cs ts (stood cs s))
     ++ (when 11 (ltb room (3 * corner-count cs)) 0 ∷ [])
+
+abbrev pub ListAnswers : List ℤ → List ℕ → List ℕ → ℕ → Stand → List ℕ → Type 0
+ListAnswers cs ts ds w s table =
+    Answers (1 ∷ 2 ∷ 3 ∷ 4 ∷ 5 ∷ 6 ∷ 7 ∷ 8 ∷ 9 ∷ 10 ∷ 11 ∷ []) (list-conditions cs ts ds w s (length table)) (list-replies cs ts ds w s table .0) table (list-replies cs ts ds w s table .1)
 
 -- the true list under the setting, from a stand in its cell
 abbrev pub true-numbers : List ℤ → List ℕ → List ℕ → ℕ → Spot → List ℕ
@@ -119,3 +139,7 @@ abbrev pub change-conditions : List ℤ → List ℕ → List ℕ → ℕ → St
 change-conditions cs ts ds w s given i b room =
     list-conditions cs ts ds w s room
     ++ (when 12 (no-change ds w i b) 0 ∷ when 13 (not (same-list given (true-numbers cs ts ds w (stood cs s)))) 0 ∷ [])
+
+abbrev pub ChangeAnswers : List ℤ → List ℕ → List ℕ → ℕ → Stand → List ℕ → ℕ → Bool → List ℕ → Type 0
+ChangeAnswers cs ts ds w s given i b table =
+    Answers (1 ∷ 2 ∷ 3 ∷ 4 ∷ 5 ∷ 6 ∷ 7 ∷ 8 ∷ 9 ∷ 10 ∷ 11 ∷ 12 ∷ 13 ∷ []) (change-conditions cs ts ds w s given i b (length table)) (change-replies cs ts ds w s given i b table .0) table (change-replies cs ts ds w s given i b table .1)

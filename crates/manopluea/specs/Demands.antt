@@ -1,23 +1,19 @@
 -- The three demands, over the input alone. Demands 2 and 3 are of any answer and any table: what they ask of an answer, and of what stands in the table
 -- before and after.
 use mathlib.Core.Bool.{Bool, true, false}
-use mathlib.Core.List.{List, [], _∷_, map}
+use mathlib.Core.List.{List, map}
 use mathlib.Core.Path.{_≡_}
 use Prim.Native.Nat.{ℕ, _+_, _*_, _<_}
-use lib.ListN.{length, getD, take, drop}
+use lib.ListN.{getD, take, drop}
 use lib.IntN.{ℤ}
 use Rattle.plane.specs.Side.{Point}
 use Rattle.plane.specs.Cone.{Meets, Direction}
 use Rattle.plan.specs.Lists.{corner-count, start, back}
-use Rattle.plan.specs.Check.{checked}
-use Rattle.plan.specs.Reply.{number, place, checked-reply}
+use Rattle.plan.specs.Reply.{number, place}
 use Rattle.plan.specs.declared.Refusal.{Refusal}
 use Rattle.plan.specs.declared.Refusal.the-variants.{Rows as Untrue}
-use Rattle.planfile.specs.Calls as Calls
-use Rattle.planfile.specs.Calls.{written}
 use Rattle.stand.specs.Spot.{stood}
-use Rattle.stand.specs.Find.{located, found}
-use Rattle.stand.specs.Reply.{found-reply}
+use Rattle.stand.specs.Find.{located}
 use Rattle.stand.specs.declared.spot.Stand.{Stand}
 use Rattle.stand.specs.declared.spot.Spot.the-variants.{At}
 use Rattle.stand.specs.declared.find.Found.the-variants.{Cell}
@@ -25,26 +21,24 @@ use Rattle.expand.specs.Sight.{Row}
 use Rattle.sight.specs.Walk.{RowHolds, WalkEnds}
 use Rattle.sight.specs.Written.{OneRow}
 use Rattle.sight.specs.Listing.{plan-floor, seen, finish, listing-numbers, listing-row-count, listing-crossings, listed}
-use Rattle.sight.specs.Reply.{listed-reply}
 use Rattle.sight.specs.declared.list.Listed.{Listed}
 use Rattle.sight.specs.declared.list.Listed.the-variants.{Rows, Refused}
 use Rattle.doors.specs.Route.{Routed, routed, row-numbers}
 use Rattle.doors.specs.Door.{on-door, untouched, those}
 use Rattle.doors.specs.Shutting.{runs, door-row}
 use Rattle.doors.specs.PlanFloor.{sight-from}
-use Rattle.doors.specs.Change.{no-change, wished, changed}
-use Rattle.manopluea.specs.Conditions.{Answers, plan-conditions, read-conditions, write-conditions, find-conditions, list-conditions, change-conditions}
+use Rattle.doors.specs.Change.{no-change, wished}
+use Rattle.manopluea.specs.Conditions.{CheckAnswers, ReadAnswers, WriteAnswers, FindAnswers, ListAnswers, ChangeAnswers}
 
 -- ---- demand 1
 
 pub record Demand-1 : Type 0 where
-  pub check : (cs : List ℤ) (ts ds : List ℕ) → Answers {M = Unit {0}} (1 ∷ 2 ∷ 3 ∷ 4 ∷ 5 ∷ 6 ∷ []) (plan-conditions cs ts ds) (checked-reply (checked cs ts ds)) tt tt
-  -- the records of a file, then the lists in them
-  pub read : (file : List ℕ) (corners : List ℤ) (cells doors : List ℕ) → Answers (1 ∷ 1 ∷ 2 ∷ 3 ∷ 4 ∷ 5 ∷ 6 ∷ 11 ∷ []) (read-conditions file (length corners) (length cells) (length doors)) (checked-reply (Calls.read file corners cells doors .0)) (corners, (cells, doors)) (Calls.read file corners cells doors .1)
-  pub write : (cs : List ℤ) (ts ds file : List ℕ) → Answers (1 ∷ 2 ∷ 3 ∷ 4 ∷ 5 ∷ 6 ∷ 11 ∷ []) (write-conditions cs ts ds (length file)) (checked-reply (written cs ts ds file .0)) file (written cs ts ds file .1)
-  pub find : (cs : List ℤ) (ts ds : List ℕ) (s : Stand) → Answers {M = Unit {0}} (1 ∷ 2 ∷ 3 ∷ 4 ∷ 5 ∷ 6 ∷ 8 ∷ 9 ∷ 10 ∷ []) (find-conditions cs ts ds s) (found-reply (found cs ts ds s)) tt tt
-  pub list : (cs : List ℤ) (ts ds : List ℕ) (w : ℕ) (s : Stand) (table : List ℕ) → Answers (1 ∷ 2 ∷ 3 ∷ 4 ∷ 5 ∷ 6 ∷ 7 ∷ 8 ∷ 9 ∷ 10 ∷ 11 ∷ []) (list-conditions cs ts ds w s (length table)) (listed-reply (listed cs ts ds w s table .0)) table (listed cs ts ds w s table .1)
-  pub change : (cs : List ℤ) (ts ds : List ℕ) (w : ℕ) (s : Stand) (given : List ℕ) (i : ℕ) (b : Bool) (table : List ℕ) → Answers (1 ∷ 2 ∷ 3 ∷ 4 ∷ 5 ∷ 6 ∷ 7 ∷ 8 ∷ 9 ∷ 10 ∷ 11 ∷ 12 ∷ 13 ∷ []) (change-conditions cs ts ds w s given i b (length table)) (listed-reply (changed cs ts ds w s given i b table .0)) table (changed cs ts ds w s given i b table .1)
+  pub check : (cs : List ℤ) (ts ds : List ℕ) → CheckAnswers cs ts ds
+  pub read : (file : List ℕ) (corners : List ℤ) (cells doors : List ℕ) → ReadAnswers file corners cells doors
+  pub write : (cs : List ℤ) (ts ds file : List ℕ) → WriteAnswers cs ts ds file
+  pub find : (cs : List ℤ) (ts ds : List ℕ) (s : Stand) → FindAnswers cs ts ds s
+  pub list : (cs : List ℤ) (ts ds : List ℕ) (w : ℕ) (s : Stand) (table : List ℕ) → ListAnswers cs ts ds w s table
+  pub change : (cs : List ℤ) (ts ds : List ℕ) (w : ℕ) (s : Stand) (given : List ℕ) (i : ℕ) (b : Bool) (table : List ℕ) → ChangeAnswers cs ts ds w s given i b table
   -- different refusals have different numbers, or the same number at different places
   pub apart : (r s : Refusal) → number r ≡ number s → place r ≡ place s → r ≡ s
 

@@ -1,6 +1,12 @@
+-- what each public call replies in document 01's numbers, and leaves in the lent memory
 pub mod Calls
+-- the table of replies, call by call: number, condition, place
 pub mod Conditions
+-- the three demands
 pub mod Demands
+-- the twelve measured examples
 pub mod Cases
+-- a hall whose door is seen by two routes, side by side
 pub mod Hall
+-- wrong listings and wrong door changes
 pub mod ShutOut

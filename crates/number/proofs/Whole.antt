@@ -4,7 +4,7 @@ use mathlib.Core.Path.{_≡_, refl, sym, ap, _∙_}
 use mathlib.Core.Bool.{Bool, true, false, _&&_}
 use mathlib.Core.Logic.{_⊎_, inl, inr}
 use Prim.Native.Nat.{ℕ, zero, suc, _*_, _≤_, _<_}
-use native.Mathlib.Nat.{mul-one, zero-mul, mul-pos, zero-lt-suc}
+use native.Mathlib.Nat.{mul-one, zero-mul, mul-pos, mul-le-mul-right, zero-lt-suc}
 use native.Mathlib.Omega.{arith}
 use lib.Dec.{T, leb}
 use lib.IntN.{ℤ, pos, negsuc, negℤ, natAbs, _*ℤ_, pos-ne-negsuc}
@@ -17,7 +17,7 @@ use Rattle.exact.specs.Within.{Within}
 use Rattle.plane.specs.Side.{limit}
 use Rattle.number.specs.Whole.{is-whole, size, signed, accepted, whole, Is}
 use Rattle.number.specs.declared.Millimetres.the-variants.{Whole}
-use Rattle.number.proofs.Size.{whole-is-its-size, size-is, is-whole-number}
+use Rattle.number.proofs.Size.{whole-is-its-size, size-within, size-is, is-whole-number}
 
 -- ---- what was accepted
 
@@ -36,11 +36,12 @@ taken : (x : Float) {z : ℤ} → whole x ≡ Whole z → TakenAs x z
 unfolding whole
 taken nan h = let o : _≡_ {A = ℕ} 0 1 = cc in omega arith
 taken (inf s) h = let o : _≡_ {A = ℕ} 0 1 = cc in omega arith
-taken (fin s m e) {z} h = by-tests (is-whole m e) (leb (size m e) limit) refl refl h
+taken (fin s m e) {z} h = by-tests (is-whole (fin s m e)) (leb (m * up e) (limit * down e)) refl refl h
   where
-    by-tests : (t u : Bool) → is-whole m e ≡ t → leb (size m e) limit ≡ u → accepted (t && u) (signed s (size m e)) ≡ Whole z
+    by-tests : (t u : Bool) → is-whole (fin s m e) ≡ t → leb (m * up e) (limit * down e) ≡ u → accepted (t && u) (signed s (size m e)) ≡ Whole z
         → Taken s m e z
-    by-tests true true k l h = record { sized = whole-is-its-size m e k; near = leb-true _ _ l; number = cc }
+    by-tests true true k l h =
+        record { sized = whole-is-its-size s m e k; near = size-within s m e limit (leb-true _ _ l); number = cc }
     by-tests true false k l h = let o : _≡_ {A = ℕ} 0 1 = cc in absurd (omega arith)
     by-tests false u k l h = let o : _≡_ {A = ℕ} 0 1 = cc in absurd (omega arith)
 
@@ -100,10 +101,11 @@ exact-and-within-is-accepted nan h w = absurd h
 exact-and-within-is-accepted (inf s) h w = absurd h
 exact-and-within-is-accepted (fin s m e) {z} h w =
     let k : m * up e ≡ natAbs z * down e = sym (size-of-signed s (m * up e)) ∙ ap natAbs h ∙ size-times z (down e) in
+    let l : m * up e ≤ limit * down e = rw k (mul-le-mul-right (down e) (w .size)) in
     rw (
-      is-whole-number m e (natAbs z) k,
-      size-is m e (natAbs z) k,
-      le-leb (natAbs z) limit (w .size),
+      is-whole-number s m e (natAbs z) k,
+      le-leb (m * up e) (limit * down e) l,
+      size-is s m e (natAbs z) k,
       sign-of-multiple s (m * up e) (down e) z (down-pos e) h,
     )
 

@@ -1,2 +1,2 @@
+-- a double as whole millimetres: what is accepted, and as which number
 pub mod Whole
-pub mod Bits

@@ -1,48 +1,57 @@
 -- Laws of faces: the sides of a cell follow each other, and the face on the other side.
-use mathlib.Core.Bool.{true, false}
+use mathlib.Core.Bool.{Bool, true, false, _&&_}
 use mathlib.Core.List.{List}
-use mathlib.Core.Path.{_≡_, ap, sym, _∙_}
+use mathlib.Core.Path.{_≡_, refl, ap, sym, _∙_}
 use Prim.Native.Nat.{ℕ, _+_, _*_, _/_, _%_, _<_}
 use native.Mathlib.Decide.{decLt}
 use native.Mathlib.Omega.{arith}
 use borrow.Author.Tests.{eq-eqb, ne-eqb}
 use lib.Dec.{eqb}
 use Rattle.plan.specs.Lists.{next, start, neighbour, answers}
+use Rattle.plan.specs.Meeting.{reversed}
 
 pub next-below : (f m : ℕ) → f < 3 * m → next f < 3 * m
 unfolding next
 next-below f m h = omega arith
 
+-- ---- a face is reversed or not, by what was read of it
+
+module _ (ts : List ℕ) (f g : ℕ) {s h u : ℕ} (is-s : s ≡ start ts g) (is-h : h ≡ next f) (is-u : u ≡ start ts h) where
+  finish : u ≡ start ts (next f)
+  finish = is-u ∙ ap (start ts) is-h
+
+  pub differs-at-the-start : (s ≡ u → ⊥) → false ≡ reversed ts f g
+  unfolding reversed
+  differs-at-the-start no-match = simp (ne-eqb _ _ (λ e. no-match (is-s ∙ e ∙ sym finish)))
+
+  pub reversed-by-its-finish : {h′ s′ u′ : ℕ} → s ≡ u → h′ ≡ next g → s′ ≡ start ts h′ → u′ ≡ start ts f → eqb s′ u′ ≡ reversed ts f g
+  unfolding reversed
+  reversed-by-its-finish same is-h′ is-s′ is-u′ =
+      simp (eq-eqb _ _ (sym is-s ∙ same ∙ finish), is-s′ ∙ ap (start ts) is-h′, is-u′)
+
 -- ---- a side answers or not, by what was read of it
 
-module _ (ts : List ℕ) (f t : ℕ) {n s h u : ℕ} (is-n : n ≡ neighbour ts f) (is-s : s ≡ start ts (3 * n + t)) (is-h : h ≡ next f) (is-u : u ≡ start ts h) where
-  pub differs-at-the-start : (s ≡ u → ⊥) → false ≡ answers ts f t
-  unfolding answers
-  differs-at-the-start no-match =
-      let k : eqb (start ts (3 * neighbour ts f + t)) (start ts (next f)) ≡ false =
-      ne-eqb _ _ (λ e. no-match (is-s ∙ ap (λ (j : ℕ). start ts (3 * j + t)) is-n ∙ e ∙ sym (is-u ∙ ap (start ts) is-h)))
-      in simp k
+and-true : (b : Bool) → b && true ≡ b
+and-true true = refl
+and-true false = refl
 
-  module _ {h′ s′ u′ : ℕ} (same : s ≡ u) (is-h′ : h′ ≡ next (3 * n + t)) (is-s′ : s′ ≡ start ts h′) (is-u′ : u′ ≡ start ts f) where
-    starts : eqb (start ts (3 * neighbour ts f + t)) (start ts (next f)) ≡ true
-    starts = eq-eqb _ _ (sym (is-s ∙ ap (λ (j : ℕ). start ts (3 * j + t)) is-n) ∙ same ∙ is-u ∙ ap (start ts) is-h)
+and-false : (b : Bool) → b && false ≡ false
+and-false true = refl
+and-false false = refl
 
-    finish : s′ ≡ start ts (next (3 * neighbour ts f + t))
-    finish = is-s′ ∙ ap (start ts) (is-h′ ∙ ap (λ (j : ℕ). next (3 * j + t)) is-n)
+-- side t of cell d, which side s of cell c names
+module _ (ts : List ℕ) (c s t : ℕ) {d : ℕ} (h : s < 3) (is-d : neighbour ts (3 * c + s) ≡ d) where
+  both : reversed ts (3 * c + s) (3 * d + t) && eqb (neighbour ts (3 * d + t)) c ≡ answers ts (3 * c + s) t
+  unfolding answers reversed
+  both =
+      let same : (3 * c + s) / 3 ≡ c = omega arith in
+      rw (is-d, same)
 
-    pub differs-at-the-finish : (s′ ≡ u′ → ⊥) → false ≡ answers ts f t
-    unfolding answers
-    differs-at-the-finish no-match =
-        let k : eqb (start ts (next (3 * neighbour ts f + t))) (start ts f) ≡ false =
-        ne-eqb _ _ (λ e. no-match (finish ∙ e ∙ sym is-u′))
-        in simp (starts, k)
+  pub answers-where-reversed : {b : Bool} → neighbour ts (3 * d + t) ≡ c → reversed ts (3 * c + s) (3 * d + t) ≡ b → answers ts (3 * c + s) t ≡ b
+  answers-where-reversed names e = sym both ∙ simp (eq-eqb _ _ names, and-true) e
 
-    pub answers-by-its-neighbour : {b : ℕ} → s′ ≡ u′ → b ≡ neighbour ts (3 * n + t) → eqb b (f / 3) ≡ answers ts f t
-    unfolding answers
-    answers-by-its-neighbour same′ is-b =
-        let k : eqb (start ts (next (3 * neighbour ts f + t))) (start ts f) ≡ true = eq-eqb _ _ (sym finish ∙ same′ ∙ is-u′) in
-        let l = is-b ∙ ap (λ (j : ℕ). neighbour ts (3 * j + t)) is-n in
-        simp (starts, k, l)
+  pub names-another-cell : (neighbour ts (3 * d + t) ≡ c → ⊥) → answers ts (3 * c + s) t ≡ false
+  names-another-cell other = sym both ∙ simp (ne-eqb _ _ other, and-false)
 
 -- ---- the sides of a cell
 

@@ -71,15 +71,6 @@ module _ (t : ℕ → Bool) where
   pub none-holds : (n : ℕ) → n ≤ least t n 0 → (k : ℕ) → k < n → t k ≡ false
   none-holds n h k l = fails-before-least n 0 k (omega arith) (omega arith)
 
-  -- no other place is the least one
-  pub least-is : (n i j : ℕ) → i ≤ j → j < i + n → t j ≡ true → ((k : ℕ) → i ≤ k → k < j → t k ≡ false) → least t n i ≡ j
-  least-is n i j h l e before = between (decLt (least t n i) j) (decLt j (least t n i))
-    where
-      between : Dec (least t n i < j) → Dec (j < least t n i) → least t n i ≡ j
-      between (yes p) d = absurd (not-both (holds-at-least n i (omega arith)) (before (least t n i) (least-bounds n i .0) p))
-      between (no p) (yes q) = absurd (not-both e (fails-before-least n i j h q))
-      between (no p) (no q) = omega arith
-
   pub least-is-none : (n i : ℕ) → ((k : ℕ) → i ≤ k → k < i + n → t k ≡ false) → least t n i ≡ i + n
   least-is-none n i none = past (decLt (least t n i) (i + n))
     where
@@ -106,39 +97,3 @@ seek-found {t} {n} {i} s h e = sym (s .same ∙ least-hit t n i h e)
 
 pub seek-ends : {t : ℕ → Bool} {n i : ℕ} → Seeks t n i → n ≤ i → i ≡ least t n 0
 seek-ends {t} {n} {i} s h = sym (s .same ∙ least-end t n i h)
-
--- ---- a search that passed every place from a up to i
-
-pub record Clear (t : ℕ → Bool) (a i : ℕ) : Type 0 where
-  pub from : a ≤ i
-  pub none : (k : ℕ) → a ≤ k → k < i → t k ≡ false
-
-pub clear-begins : (t : ℕ → Bool) (a : ℕ) → Clear t a a
-clear-begins t a = record { from = omega arith; none = λ k h l. absurd (omega arith) }
-
-pub clear-goes-on : {t : ℕ → Bool} {a i : ℕ} → Clear t a i → t i ≡ false → Clear t a (i + 1)
-clear-goes-on {t} {a} {i} s e = record { from = omega arith; none = λ k h l. before-or-at k h l (decLt k i) }
-  where
-    before-or-at : (k : ℕ) → a ≤ k → k < i + 1 → Dec (k < i) → t k ≡ false
-    before-or-at k h l (yes less) = s .none k h less
-    before-or-at k h l (no not-less) = let same : k ≡ i = omega arith in subst (λ (j : ℕ). t j ≡ false) (sym same) e
-
--- a further n places are passed at once
-pub clear-extends : {t : ℕ → Bool} {a i : ℕ} → Clear t a i → (n : ℕ) → i + n ≤ least t n i → Clear t a (i + n)
-clear-extends {t} {a} {i} s n h = record { from = omega arith; none = λ k l m. before-or-after k l m (decLt k i) }
-  where
-    before-or-after : (k : ℕ) → a ≤ k → k < i + n → Dec (k < i) → t k ≡ false
-    before-or-after k l m (yes less) = s .none k l less
-    before-or-after k l m (no not-less) = fails-before-least t n i k (omega arith) (omega arith)
-
--- the least place is found among a further n
-pub clear-found : {t : ℕ → Bool} {a i : ℕ} → Clear t a i → (n e : ℕ) → least t n i < i + n → i + n ≤ a + e → least t n i ≡ least t e a
-clear-found {t} {a} {i} s n e h l = sym (least-is t e a (least t n i) (omega (arith, least-bounds t n i)) (omega arith) (holds-at-least t n i h) (λ k m o. before-or-after k m o (decLt k i)))
-  where
-    before-or-after : (k : ℕ) → a ≤ k → k < least t n i → Dec (k < i) → t k ≡ false
-    before-or-after k m o (yes less) = s .none k m less
-    before-or-after k m o (no not-less) = fails-before-least t n i k (omega arith) o
-
--- it is none of them all
-pub clear-ends : {t : ℕ → Bool} {a i : ℕ} → Clear t a i → (n : ℕ) → i ≡ a + n → i ≡ least t n a
-clear-ends {t} {a} {i} s n h = h ∙ sym (least-is-none t n a (λ k l m. s .none k l (omega arith)))

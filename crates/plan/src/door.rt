@@ -3,6 +3,7 @@ ghost use Prim.Native.Nat.{_<_, _≤_};
 ghost use mathlib.Core.Path.{_≡_};
 ghost use lib.ListN.{length};
 ghost use Rattle.plan.specs.Least.{least};
+ghost use Rattle.plan.specs.Meeting.{MeetOnce};
 ghost use Rattle.plan.specs.Check.{names, wrong-door};
 ghost use Rattle.plan.specs.Sound.{NeighboursRight};
 use crate::Plan;
@@ -30,6 +31,7 @@ fn named(doors: &[u16], i: usize, f: usize, g: usize) -> usize
 
 fn is_wrong(cells: &[u16], doors: &[u16], i: usize) -> bool
     requires { ⌜ NeighboursRight (now cells) ⌝ }
+    requires { ⌜ MeetOnce (now cells) ⌝ }
     requires { ⌜ i < length (now doors) ⌝ }
     ensures { λ r. ⌜ r ≡ wrong-door (now (cells .entry)) (now (doors .entry)) i ⌝ }
 {
@@ -48,6 +50,7 @@ fn is_wrong(cells: &[u16], doors: &[u16], i: usize) -> bool
 // The least wrong door, or the count.
 pub fn least_wrong(cells: &[u16], doors: &[u16]) -> usize
     requires { ⌜ NeighboursRight (now cells) ⌝ }
+    requires { ⌜ MeetOnce (now cells) ⌝ }
     ensures { λ r. ⌜ r ≡ least (wrong-door (now (cells .entry)) (now (doors .entry))) (length (now (doors .entry))) 0 ⌝ }
 {
     let k = doors.len();

@@ -34,6 +34,11 @@ pub flat-first-two : (a c : Point) → side a a c ≡ 𝟘
 unfolding side
 flat-first-two a c = solve (coordinates (a ∷ c ∷ [])) (sideᵉ (pt 0) (pt 0) (pt 1)) 𝟘ᵉ tt
 
+-- nor have three corners area both ways round
+pub no-area-both-ways : (a b c : Point) → 𝟘 <ℤ side a b c → 𝟘 <ℤ side c b a → ⊥
+unfolding side
+no-area-both-ways a b c h₁ h₂ = refute (coordinates (a ∷ b ∷ c ∷ [])) ((𝟘ᵉ ≺ sideᵉ (pt 0) (pt 1) (pt 2)) ∷ (𝟘ᵉ ≺ sideᵉ (pt 2) (pt 1) (pt 0)) ∷ []) (given 1 ⊞ given 2) tt h₁ h₂
+
 -- the side value is the sum of the three cross products seen from any q
 pub side-is-three-crosses : (a b v q : Point) → side a b v ≡ cross (minus a q) (minus b q) +ℤ cross (minus b q) (minus v q) +ℤ cross (minus v q) (minus a q)
 unfolding cross minus side

@@ -1,4 +1,8 @@
+-- points and vectors, quoted for the solver and the certificates of `exact`
 pub mod Quote
+-- the laws of `tools/plane.laws`, with the certificates that a program found: not edited by hand
 pub mod Found
+-- laws of cones that go by cases on signs: the three cases of the hand-on, the split, the start in a triangle
 pub mod Cones
+-- the containment test: which signs give each answer, and what inside says
 pub mod Sides

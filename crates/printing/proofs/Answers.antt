@@ -13,7 +13,7 @@ use lib.Seq.{take-all}
 use Rattle.exact.proofs.Truth.{both-true}
 use Rattle.plan.specs.declared.Refusal.the-variants as R
 use Rattle.records.specs.Bytes.{number-at}
-use Rattle.number.specs.Bits.{bits-at}
+use Rattle.records.specs.Bits.{bits-at}
 use Rattle.stand.specs.declared.spot.Stand.the-variants.{Point, Offset}
 use Rattle.printing.specs.Text.{refusal-line}
 use Rattle.printing.specs.Print.{most-input, most-text, begins, double-at, file-listed, blank-table, lines, printed, answered}

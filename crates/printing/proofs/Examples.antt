@@ -17,7 +17,6 @@ use Rattle.records.specs.Record.{end-of, is-record, framed}
 use Rattle.planfile.specs.File.{corners-in, cells-in, doors-in}
 use Rattle.planfile.proofs.PlanQ.{file}
 use Rattle.number.specs.Whole.{whole}
-use Rattle.number.specs.Bits.{bits-at}
 use Rattle.stand.specs.Spot.{whole-point, stood}
 use Rattle.stand.specs.Find.{against, located}
 use Rattle.expand.specs.Sight.{follow, numbers, row-count, crossings}
@@ -37,7 +36,7 @@ query =
 
 -- query (6,3), setting 0, with plan Q prints exactly
 pub case-a-is-printed : printed (query ++ file) ≡ word "rows 4 crossings 1\n0 0 1\n1 1 2\n4 2 3\n5 3 0\n"
-unfolding ofBits side by-sides sized least next start neighbour answers back outside wrong-corner wrong-cell wrong-neighbour names wrong-door checked shut wrong-setting bars ends whole whole-point stood against located follow numbers row-count crossings placed viewed listing-numbers listing-row-count listing-crossings listed number-at numbers-at signed end-of is-record framed corners-in cells-in doors-in bits-at digits decimal refusal-line count-line row-line row-lines begins file-listed printed
+unfolding ofBits side by-sides sized least next start neighbour answers back outside wrong-corner wrong-cell wrong-neighbour names wrong-door checked shut wrong-setting bars ends whole whole-point stood against located follow numbers row-count crossings placed viewed listing-numbers listing-row-count listing-crossings listed number-at numbers-at signed end-of is-record framed corners-in cells-in doors-in digits decimal refusal-line count-line row-line row-lines begins file-listed printed
 case-a-is-printed = refl
 
 -- a missing query

@@ -11,7 +11,7 @@ use Rattle.plan.specs.declared.Refusal.the-variants as R
 use Rattle.records.specs.Bytes.{number-at}
 use Rattle.records.specs.Record.{framed}
 use Rattle.planfile.specs.File.{corners-in, cells-in, doors-in}
-use Rattle.number.specs.Bits.{bits-at}
+use Rattle.records.specs.Bits.{bits-at}
 use Rattle.stand.specs.declared.spot.Stand.{Stand}
 use Rattle.stand.specs.declared.spot.Stand.the-variants.{Point, Offset}
 use Rattle.sight.specs.Listing.{listed}

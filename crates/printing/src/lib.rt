@@ -12,7 +12,7 @@ use manopluea::Listed;
 use manopluea::Plan;
 use manopluea::Refusal;
 use manopluea::Stand;
-use number::bits;
+use records::bits;
 use records::bytes;
 
 mod text;

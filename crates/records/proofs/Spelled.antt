@@ -57,6 +57,13 @@ four-at s at {a} {b} ea eb =
     let upper : b ≡ number-at 2 s (suc (suc at)) = eb .0 ∙ ap (number-at 2 s) two-on in
     (omega arith, omega arith)
 
+pub eight-at : (s : List ℕ) (at : ℕ) {a b : ℕ} → (a ≡ number-at 4 s at) × (a < 2 ^ 32) → (b ≡ number-at 4 s (at + 4)) × (b < 2 ^ 32) → a + 4294967296 * b ≡ number-at 8 s at
+unfolding number-at
+eight-at s at {a} {b} ea eb =
+    let four-on : at + 4 ≡ suc (suc (suc (suc at))) = omega arith in
+    let upper : b ≡ number-at 4 s (suc (suc (suc (suc at)))) = eb .0 ∙ ap (number-at 4 s) four-on in
+    omega arith
+
 -- ---- the complements of a list
 
 module _ (cs : List ℤ) (i : ℕ) where

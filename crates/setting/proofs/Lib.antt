@@ -1,1 +1,2 @@
+-- one door shut or opened leaves the others; wrong settings; at which faces sight ends
 pub mod Settings

@@ -3,14 +3,14 @@ use mathlib.Core.Bool.{Bool, true, false, not, _&&_, _||_, and-false}
 use mathlib.Core.List.{List}
 use mathlib.Core.Logic.{_↔_}
 use mathlib.Core.Path.{_≡_, refl, sym, ap, _∙_, subst, fun-ext}
-use Prim.Native.Nat.{ℕ, zero, suc, _+_, _-_, _*_, _/_, _%_, _^_, _≤_, _<_}
+use Prim.Native.Nat.{ℕ, zero, suc, _+_, _-_, _*_, _/_, _%_, _^_, _≤_, _<_, min}
 use native.Mathlib.Nat.{pow-suc, div-one, div-eq-of-lt, le-div-iff-mul-le, zero-mul, one-mul, le-trans}
 use native.Mathlib.Numerals.{one-add}
 use native.Mathlib.Decide.{decLt, ℕ-discrete}
 use native.Mathlib.Omega.{arith}
 use borrow.Author.Tests.{eq-eqb, ne-eqb, lt-ltb, le-ltb, eqb-true, eqb-false, ltb-false, not-true}
 use lib.Arith.{bin-ind}
-use lib.Bits.{bitAnd, bitOr, bitXor, and-high, or-add-and, xor-add-and, or-lt}
+use lib.Bits.{bitAnd, bitOr, and-high, and-le-l, and-step, or-add-and, or-lt}
 use lib.Dec.{eqb, ltb, lit<}
 use lib.ListN.{length, getD}
 use lib.Pow.{pow-pos, pow-mono, pow-lt, shl-exact, shr-shr}
@@ -154,6 +154,23 @@ one-bit w i =
     let same : 2 ^ i ≡ 2 ^ (1 + i) - 2 ^ i = omega (arith, ap (λ (k : ℕ). 2 ^ k) (one-add i) ∙ pow-suc 2 i) in
     ap (bitAnd w) same ∙ and-high w 1 i
 
+-- two words make up w when their halves make up w's half and their lowest bits make up w's
+from-halves : (w a b p q : ℕ) {x y : ℕ} → x ≡ a * 2 + p → y ≡ b * 2 + q → a + b ≡ w / 2 → p + q ≡ w % 2 → x + y ≡ w
+from-halves w a b p q h k l o = omega arith
+
+one-bit-and-complement : (a b : ℕ) → a < 2 → b < 2 → min a b + min a (1 - b) ≡ a
+one-bit-and-complement a b h l = omega arith
+
+-- what a mask takes and what its complement in k bits leaves make up the word
+mask-and-complement : (k w m : ℕ) → w < 2 ^ k → m < 2 ^ k → bitAnd w m + bitAnd w (2 ^ k - 1 - m) ≡ w
+mask-and-complement zero w m h l = omega (arith, and-le-l w m, and-le-l w (2 ^ 0 - 1 - m))
+mask-and-complement (suc k) w m h l =
+    let half : (2 ^ suc k - 1 - m) / 2 ≡ 2 ^ k - 1 - m / 2 = omega (arith, pow-suc 2 k) in
+    let lowest : (2 ^ suc k - 1 - m) % 2 ≡ 1 - m % 2 = omega (arith, pow-suc 2 k) in
+    let halves = mask-and-complement k (w / 2) (m / 2) (omega (arith, pow-suc 2 k)) (omega (arith, pow-suc 2 k)) in
+    from-halves w _ _ _ _ (and-step w m) (rw (half, lowest) at (and-step w (2 ^ suc k - 1 - m))) halves
+    (one-bit-and-complement (w % 2) (m % 2) (omega arith) (omega arith))
+
 -- `1 << i` in 64 bits
 the-bit : (i : ℕ) → i < 64 → 1 * 2 ^ i % 2 ^ 64 ≡ 2 ^ i
 the-bit i h = shl-exact 1 i 64 (lit< tt) (omega arith) ∙ one-mul (2 ^ i)
@@ -175,8 +192,24 @@ module _ (w i : ℕ) where
   pub or-shuts : i < 64 → bitOr w (1 * 2 ^ i % 2 ^ 64) ≡ with-shut w i
   or-shuts h = ap (bitOr w) (the-bit i h) ∙ or-is-shutting
 
-  pub xor-opens : i < 64 → shut w i ≡ true → bitXor w (1 * 2 ^ i % 2 ^ 64) ≡ with-open w i
-  xor-opens h e = ap (bitXor w) (the-bit i h) ∙ omega (arith, xor-add-and w (2 ^ i), held-in-common e, open-is-taken w i e, shut-is-held w i e)
+  pub and-not-opens : i < 64 → w < 2 ^ 64 → bitAnd w (2 ^ 64 - 1 - 1 * 2 ^ i % 2 ^ 64) ≡ with-open w i
+  and-not-opens h small = ap (λ (m : ℕ). bitAnd w (2 ^ 64 - 1 - m)) (the-bit i h) ∙ by-state (shut w i) refl
+    where
+      parts : bitAnd w (2 ^ i) + bitAnd w (2 ^ 64 - 1 - 2 ^ i) ≡ w
+      parts = mask-and-complement 64 w (2 ^ i) small (pow-lt h)
+
+      by-state : (b : Bool) → shut w i ≡ b → bitAnd w (2 ^ 64 - 1 - 2 ^ i) ≡ with-open w i
+      by-state true e = omega (arith, parts, held-in-common e, open-is-taken w i e)
+      by-state false e = omega (arith, parts, none-in-common e, open-stays w i e)
+
+  pub and-tests : i < 64 → not (eqb (bitAnd w (1 * 2 ^ i % 2 ^ 64)) 0) ≡ shut w i
+  and-tests h = ap (λ (m : ℕ). not (eqb (bitAnd w m) 0)) (the-bit i h) ∙ by-state (shut w i) refl
+    where
+      by-state : (b : Bool) → shut w i ≡ b → not (eqb (bitAnd w (2 ^ i)) 0) ≡ b
+      by-state true e =
+          let some : bitAnd w (2 ^ i) ≡ 0 → ⊥ = omega (arith, held-in-common e, pow-pos i) in
+          simp (ne-eqb _ _ some)
+      by-state false e = simp (eq-eqb _ _ (none-in-common e))
 
   -- a setting for k doors stays one
   pub shutting-keeps-within : (k : ℕ) → i < k → w < 2 ^ k → with-shut w i < 2 ^ k

@@ -8,7 +8,8 @@ pub fn is_shut(setting: u64, i: usize) -> bool
     requires { ⌜ i < 64 ⌝ }
     ensures { λ r. ⌜ r ≡ Setting·shut setting i ⌝ }
 {
-    (setting >> i) % 2 == 1
+    let mask = 1 << i;
+    setting & mask != 0
 }
 
 // The setting with door i shut.
@@ -16,7 +17,8 @@ pub fn shut(setting: u64, i: usize) -> u64
     requires { ⌜ i < 64 ⌝ }
     ensures { λ r. ⌜ r ≡ with-shut setting i ⌝ }
 {
-    setting | (1 << i)
+    let mask = 1 << i;
+    setting | mask
 }
 
 // The setting with door i open.
@@ -24,11 +26,8 @@ pub fn open(setting: u64, i: usize) -> u64
     requires { ⌜ i < 64 ⌝ }
     ensures { λ r. ⌜ r ≡ with-open setting i ⌝ }
 {
-    let bit = 1 << i;
-    if !is_shut(setting, i) {
-        return setting;
-    }
-    setting ^ bit
+    let mask = 1 << i;
+    setting & !mask
 }
 
 // Is a bit at or above the door count one? For 64 doors there is no such bit, and a shift by the word's width is none.

@@ -1,12 +1,13 @@
 -- Laws of the table of lines: it is a table of lines of a checked plan, and the floor that it describes is the plan's.
 use mathlib.Core.Bool.{Bool, true, false}
 use mathlib.Core.List.{List}
-use mathlib.Core.Path.{_≡_, refl, sym, ap, _∙_}
-use Prim.Native.Nat.{ℕ, zero, suc, _+_, _*_, _<_}
+use mathlib.Core.Path.{_≡_, refl, sym, ap, _∙_, subst}
+use Prim.Native.Nat.{ℕ, zero, suc, _+_, _*_, _/_, _%_, _<_}
 use native.Mathlib.Omega.{arith}
 use borrow.Author.Tests.{eq-eqb, ne-eqb}
 use lib.Dec.{eqb}
 use lib.ListN.{length, getD}
+use lib.Seq.{ext-getD}
 use lib.IntN.{ℤ}
 use Rattle.plane.specs.Side.{Point}
 use Rattle.plan.specs.Limits.{wall}
@@ -29,6 +30,24 @@ use Rattle.sight.proofs.Marks.{across-where-sight-ends, across-where-si
 -- the cells and doors of an accepted plan
 pub sound-cells : {cs : List ℤ} {ts ds : List ℕ} → Sound cs ts ds → SoundCells ts ds
 sound-cells {cs} sound = record { corners = cs; sound = sound }
+
+-- the length and every number of a table of lines are fixed: there is one
+pub lined-tables-are-equal : {ts ds : List ℕ} {w : ℕ} {ls ms : List ℕ} → Lined ts ds w ls → Lined ts ds w ms → ls ≡ ms
+lined-tables-are-equal {ts} {ds} {w} {ls} {ms} a b =
+    ext-getD 0 ls ms (a .whole ∙ sym (b .whole)) (λ i h. by-side i h (i % 2) refl)
+  where
+    by-side : (i : ℕ) → i < length ls → (r : ℕ) → i % 2 ≡ r → getD ls i 0 ≡ getD ms i 0
+    by-side i h zero e =
+        let size = a .whole in
+        let is : 2 * (i / 2) ≡ i = omega arith in
+        let f = i / 2 in
+        subst (λ (j : ℕ). getD ls j 0 ≡ getD ms j 0) is (a .start-stands f (omega arith) ∙ sym (b .start-stands f (omega arith)))
+    by-side i h (suc zero) e =
+        let size = a .whole in
+        let is : 2 * (i / 2) + 1 ≡ i = omega arith in
+        let f = i / 2 in
+        subst (λ (j : ℕ). getD ls j 0 ≡ getD ms j 0) is (a .across-stands f (omega arith) ∙ sym (b .across-stands f (omega arith)))
+    by-side i h (suc (suc r)) e = absurd (omega arith)
 
 -- ---- two floors that agree on the faces below N are followed alike
 

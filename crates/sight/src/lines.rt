@@ -5,6 +5,7 @@ ghost use mathlib.Core.Path.{_≡_};
 ghost use lib.ListN.{length, set};
 ghost use Rattle.plan.specs.Limits.{most-cells, wall};
 ghost use Rattle.plan.specs.Lists.{cell-count, face-count, neighbour};
+ghost use Rattle.plan.specs.Meeting.{MeetOnce};
 ghost use Rattle.plan.specs.Sound.{NeighboursRight};
 ghost use Rattle.sight.specs.Lined.{SoundCells, facing as Lined·facing, Facing, Lined, shut-line};
 use plan::Plan;
@@ -67,6 +68,7 @@ fn draw(cells: &[u16], lines: &mut [u16])
 // Sight ends at both faces of a line.
 fn shut(cells: &[u16], f: usize, lines: &mut [u16])
     requires { ⌜ NeighboursRight (now cells) ⌝ }
+    requires { ⌜ MeetOnce (now cells) ⌝ }
     requires { ⌜ f < face-count (now cells) ⌝ }
     requires { ⌜ (neighbour (now cells) f ≡ wall → ⊥) ⌝ }
     requires { ⌜ length (now lines) ≡ 6 * cell-count (now cells) ⌝ }

@@ -27,33 +27,43 @@ pub enum Listed {
     Refused(Refusal),
 }
 
-// Follows the three sides of cell c, each with its two ends as limits; `left` is the cells not yet entered.
+// Follows the three sides of cell c, each with its two ends as limits; `unentered` is how many cells are not yet entered.
 fn sides(
     corners: &[i32],
     lines: &[u16],
     q: [i64; 2],
     table: &mut [u16],
     c: usize,
-    left: usize,
+    unentered: usize,
 ) -> Counts
     requires { ⌜ Lines (now corners) (now lines) × Near (point q) ⌝ }
     requires { ⌜ 6 * c + 5 < length (now lines) ⌝ }
-    requires { ⌜ Whole (cell-tree (now corners) (now lines) (point q) left c) ⌝ }
-    requires { ⌜ 3 * row-count (cell-tree (now corners) (now lines) (point q) left c) ≤ length (now table) ⌝ }
-    requires { ⌜ crossings (cell-tree (now corners) (now lines) (point q) left c) < 2 ^ 63 ⌝ }
-    ensures { λ r. ⌜ r .rows ≡ row-count (cell-tree (now (corners .entry)) (now (lines .entry)) (point q) left c) ⌝ }
-    ensures { λ r. ⌜ r .crossings ≡ crossings (cell-tree (now (corners .entry)) (now (lines .entry)) (point q) left c) ⌝ }
-    ensures { λ r. ⌜ now (table .exit) ≡ sets (now (table .entry)) 0 (numbers (cell-tree (now (corners .entry)) (now (lines .entry)) (point q) left c)) ⌝ }
+    requires { ⌜ Whole (cell-tree (now corners) (now lines) (point q) unentered c) ⌝ }
+    requires { ⌜ 3 * row-count (cell-tree (now corners) (now lines) (point q) unentered c) ≤ length (now table) ⌝ }
+    requires { ⌜ crossings (cell-tree (now corners) (now lines) (point q) unentered c) < 2 ^ 63 ⌝ }
+    ensures { λ r. ⌜ r .rows ≡ row-count (cell-tree (now (corners .entry)) (now (lines .entry)) (point q) unentered c) ⌝ }
+    ensures { λ r. ⌜ r .crossings ≡ crossings (cell-tree (now (corners .entry)) (now (lines .entry)) (point q) unentered c) ⌝ }
+    ensures { λ r. ⌜ now (table .exit) ≡ sets (now (table .entry)) 0 (numbers (cell-tree (now (corners .entry)) (now (lines .entry)) (point q) unentered c)) ⌝ }
 {
     let f = 3 * c;
     let a = lines[2 * f];
     let b = lines[2 * f + 2];
     let d = lines[2 * f + 4];
-    let first = cross(corners, lines, q, table, f, a, b, 0, left);
-    let second = cross(corners, lines, q, table, f + 1, b, d, 3 * first.rows, left);
+    let first = cross(corners, lines, q, table, f, a, b, 0, unentered);
+    let second = cross(
+        corners,
+        lines,
+        q,
+        table,
+        f + 1,
+        b,
+        d,
+        3 * first.rows,
+        unentered,
+    );
     let rows = first.rows + second.rows;
     let passed = first.crossings + second.crossings;
-    let third = cross(corners, lines, q, table, f + 2, d, a, 3 * rows, left);
+    let third = cross(corners, lines, q, table, f + 2, d, a, 3 * rows, unentered);
     Counts {
         rows: rows + third.rows,
         crossings: passed + third.crossings,

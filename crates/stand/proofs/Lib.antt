@@ -1,4 +1,8 @@
+-- points and offsets, by what the code read; an accepted stand is within the limits
 pub mod Spots
+-- finding, way out by way out: what was found, and the reply
 pub mod Finds
+-- what each answer says of the stand and the cells; the cell found goes around the stand
 pub mod Located
+-- the promise of finding leaves one reply, as does every promise that is an equation
 pub mod Unique

@@ -22,7 +22,7 @@ use Rattle.number.specs.Whole.{whole}
 use Rattle.number.specs.declared.Millimetres.{Millimetres}
 use Rattle.number.specs.declared.Millimetres.the-variants as M
 use Rattle.number.proofs.Whole.{accepted-is-within}
-use Rattle.stand.specs.Spot.{pair, whole-point, unless, within-limits, offset-by, stood}
+use Rattle.stand.specs.Spot.{pair, whole-point, within-limits, offset-by, stood}
 use Rattle.stand.specs.declared.spot.Stand.{Stand}
 use Rattle.stand.specs.declared.spot.Stand.the-variants as S
 use Rattle.stand.specs.declared.spot.Spot.{Spot}
@@ -63,7 +63,7 @@ module _ (x y : ℤ) where
   unfolding within-limits
   bounded-is-near {u} {v} e = by-cases (outside x || outside y) refl e
     where
-      by-cases : (b : Bool) → (outside x || outside y) ≡ b → unless b (At x y) ≡ At u v → Near (record { x = u; y = v })
+      by-cases : (b : Bool) → (outside x || outside y) ≡ b → elim b [ true ↦ Refused | false ↦ At x y ] ≡ At u v → Near (record { x = u; y = v })
       by-cases true h p = absurd (let z : _≡_ {A = ℕ} 0 1 = cc in omega arith)
       by-cases false h p =
           let both = neither-true (outside x) (outside y) h in
@@ -75,7 +75,7 @@ module _ (x y : ℤ) where
 module _ {x y X Y : ℤ} (is-x : X ≡ x) (is-y : Y ≡ y) where
   pub below-x : ltZ X (negℤ (pos limit)) ≡ true → Refused ≡ within-limits x y
   unfolding within-limits outside
-  below-x h = let k : ltZ x (negℤ (pos limit)) ≡ true = rw is-x at h in simp k
+  below-x h = let k : ltZ x (negℤ (pos limit)) ≡ true = rw is-x at h in rw (k, outside, within-limits)
 
   module _ (h : ltZ X (negℤ (pos limit)) ≡ false) where
     pub above-x : ltZ (pos limit) X ≡ true → Refused ≡ within-limits x y
@@ -83,7 +83,7 @@ module _ {x y X Y : ℤ} (is-x : X ≡ x) (is-y : Y ≡ y) where
     above-x k =
         let h′ : ltZ x (negℤ (pos limit)) ≡ false = rw is-x at h in
         let k′ : ltZ (pos limit) x ≡ true = rw is-x at k in
-        simp (h′, k′)
+        rw (h′, k′, outside, within-limits)
 
     module _ (k : ltZ (pos limit) X ≡ false) where
       pub below-y : ltZ Y (negℤ (pos limit)) ≡ true → Refused ≡ within-limits x y
@@ -92,7 +92,7 @@ module _ {x y X Y : ℤ} (is-x : X ≡ x) (is-y : Y ≡ y) where
           let h′ : ltZ x (negℤ (pos limit)) ≡ false = rw is-x at h in
           let k′ : ltZ (pos limit) x ≡ false = rw is-x at k in
           let l′ : ltZ y (negℤ (pos limit)) ≡ true = rw is-y at l in
-          simp (h′, k′, l′)
+          rw (h′, k′, l′, outside, within-limits)
 
       module _ (l : ltZ Y (negℤ (pos limit)) ≡ false) where
         pub above-y : ltZ (pos limit) Y ≡ true → Refused ≡ within-limits x y
@@ -102,7 +102,7 @@ module _ {x y X Y : ℤ} (is-x : X ≡ x) (is-y : Y ≡ y) where
             let k′ : ltZ (pos limit) x ≡ false = rw is-x at k in
             let l′ : ltZ y (negℤ (pos limit)) ≡ false = rw is-y at l in
             let m′ : ltZ (pos limit) y ≡ true = rw is-y at m in
-            simp (h′, k′, l′, m′)
+            rw (h′, k′, l′, m′, outside, within-limits)
 
         pub within-both : ltZ (pos limit) Y ≡ false → At X Y ≡ within-limits x y
         unfolding within-limits outside
@@ -111,7 +111,7 @@ module _ {x y X Y : ℤ} (is-x : X ≡ x) (is-y : Y ≡ y) where
             let k′ : ltZ (pos limit) x ≡ false = rw is-x at k in
             let l′ : ltZ y (negℤ (pos limit)) ≡ false = rw is-y at l in
             let m′ : ltZ (pos limit) y ≡ false = rw is-y at m in
-            ap₂ At is-x is-y ∙ simp (h′, k′, l′, m′)
+            ap₂ At is-x is-y ∙ rw (h′, k′, l′, m′, outside, within-limits)
 
 -- ---- stands
 

@@ -1,5 +1,5 @@
 -- The stand in whole millimetres (document 01, "The stand").
-use mathlib.Core.Bool.{Bool, true, false, _||_}
+use mathlib.Core.Bool.{true, false, _||_}
 use mathlib.Core.List.{List}
 use lib.Dec.{ltb}
 use lib.IntN.{ℤ, _+ℤ_}
@@ -23,14 +23,9 @@ pair M.Refused m = Refused
 unfoldable pub whole-point : Float → Float → Spot
 whole-point x y = pair (whole x) (whole y)
 
--- refused where the test holds
-abbrev pub unless : Bool → Spot → Spot
-unless true s = Refused
-unless false s = s
-
--- x and y lie within the limits
+-- the point (x, y), refused where a coordinate is outside the limits
 unfoldable pub within-limits : ℤ → ℤ → Spot
-within-limits x y = unless (outside x || outside y) (At x y)
+within-limits x y = elim (outside x || outside y) [ true ↦ Refused | false ↦ At x y ]
 
 -- an accepted offset from the point (x, y)
 abbrev pub offset-by : Spot → ℤ → ℤ → Spot

@@ -60,12 +60,12 @@ ground t s = floor-of (now (s .args .corners)) (now (s .args .lines)) (point (s 
 
 -- what the line is followed to
 abbrev line : (t : ℕ) → cross-lts.Start (cross-calls t) (cross-at t) cross.Post → Sight
-line t s = follow (ground t s) (s .args .left) (s .args .f) (s .args .r) (s .args .l)
+line t s = follow (ground t s) (s .args .unentered) (s .args .f) (s .args .r) (s .args .l)
 
 is-row : (t : ℕ) (c : cross-lts.Then1 (cross-calls t) (cross-at t) cross.Post) →
     let s = c .before .before .before .before in
     line t s ≡ row (s .args .f) (s .args .r) (s .args .l)
-is-row t c = let s = c .before .before .before .before in follow-a-wall _ (s .args .left) _ _ _ (eq-eqb _ _ (c .if1 .taken))
+is-row t c = let s = c .before .before .before .before in follow-a-wall _ (s .args .unentered) _ _ _ (eq-eqb _ _ (c .if1 .taken))
 
 row-fits : (t : ℕ) (c : cross-lts.Then1 (cross-calls t) (cross-at t) cross.Post) →
     let s = c .before .before .before .before in
@@ -74,8 +74,8 @@ row-fits t c = room-for-a-row _ _ (is-row t c) (c .before .before .before .befor
 
 is-passed : (t : ℕ) (c : cross-lts.Else1 (cross-calls t) (cross-at t) cross.Post) →
     let s = c .before .before .before .before in
-    Passed (ground t s) (s .args .left) (s .args .f) (s .args .r) (s .args .l)
-is-passed t c = let s = c .before .before .before .before in passed _ (s .args .left) _ _ _ (ne-eqb _ _ (c .if1 .left)) (s .pre .1 .1 .1 .0)
+    Passed (ground t s) (s .args .unentered) (s .args .f) (s .args .r) (s .args .l)
+is-passed t c = let s = c .before .before .before .before in passed _ (s .args .unentered) _ _ _ (ne-eqb _ _ (c .if1 .left)) (s .pre .1 .1 .1 .0)
 
 back-exists : (t : ℕ) (c : cross-lts.Else1 (cross-calls t) (cross-at t) cross.Post) →
     let s = c .before .before .before .before in
@@ -84,7 +84,7 @@ back-exists t c = let s = c .before .before .before .before in s .pre .1 .0 .0 .
 
 beyond : (t : ℕ) (c : cross-lts.Else1 (cross-calls t) (cross-at t) cross.Post) →
     let s = c .before .before .before .before in
-    let u : Sight = hand-on (ground t s) (s .args .left - 1) (ground t s .back (s .args .f)) (s .args .r) (s .args .l) in
+    let u : Sight = hand-on (ground t s) (s .args .unentered - 1) (ground t s .back (s .args .f)) (s .args .r) (s .args .l) in
     Room (s .args .at) (length (now (s .args .table))) u × (crossings u + 1 < 2 ^ 63)
 beyond t c = room-beyond _ _ (is-passed t c .is) (c .before .before .before .before .pre .1 .1 .1)
 
@@ -137,12 +137,12 @@ cross-cast-hand-on : (t : ℕ) → cross-lts.Need-cast-hand-on (cross-calls t) (
 cross-cast-hand-on t c = omega (arith, back-exists t (c .before))
 
 cross-sub-hand-on : (t : ℕ) → cross-lts.Need-sub-hand-on (cross-calls t) (cross-at t) cross.Post
-cross-sub-hand-on t c = is-passed t (c .before) .one-left
+cross-sub-hand-on t c = is-passed t (c .before) .one-unentered
 
 cross-hand-on-requires : (t : ℕ) → cross-lts.Need-hand-on-requires (cross-calls t) (cross-at t) cross.Post
 cross-hand-on-requires t c κs =
     let s = c .before .before .before .before .before in
-    let n : 1 ≤ s .args .left = is-passed t (c .before) .one-left in (
+    let n : 1 ≤ s .args .unentered = is-passed t (c .before) .one-unentered in (
       omega (arith, s .pre .0),
       (s .pre .1 .0, ((back-exists t (c .before), s .pre .1 .1 .0 .1, s .pre .1 .1 .0 .2), beyond t (c .before) .0)),
     )
@@ -163,7 +163,7 @@ floor t s = floor-of (now (s .args .corners)) (now (s .args .lines)) (point (s .
 
 -- what the cell hands on
 abbrev cell : (t : ℕ) → hand-lts.Start (hand-calls t) (hand-at t) hand.Post → Sight
-cell t s = hand-on (floor t s) (s .args .left) (s .args .g) (s .args .r) (s .args .l)
+cell t s = hand-on (floor t s) (s .args .unentered) (s .args .g) (s .args .r) (s .args .l)
 
 -- its line on the right of the apex, its line on the left, which starts at the apex, and that corner
 right-exists : (t : ℕ) (c : hand-lts.After-next (hand-calls t) (hand-at t) hand.Post) → 2 * c .next .result + 1 < length (now (c .before .before .before .args .lines))
@@ -219,29 +219,29 @@ apex-told t c = sym (c .place .ensures)
 hands-left : (t : ℕ) (c : hand-lts.After-enum-told (hand-calls t) (hand-at t) hand.Post) →
     let d = c .before .before .before .before in
     let s = d .before .before .before .before in
-    cell t s ≡ follow (floor t s) (s .args .left) (d .next2 .result) (s .args .r) (s .args .l)
+    cell t s ≡ follow (floor t s) (s .args .unentered) (d .next2 .result) (s .args .r) (s .args .l)
 hands-left t c =
     let d = c .before .before .before .before in
     let s = d .before .before .before .before in
-    right-of-r-hands-on (now (s .args .corners)) (now (s .args .lines)) (point (s .args .q)) (s .args .left) (s .args .g) (s .args .r) (s .args .l) (d .before .next .ensures) (d .next2 .ensures) (apex-told t (c .before .before) ∙ ap apex-place (c .enum-told .given .1))
+    right-of-r-hands-on (now (s .args .corners)) (now (s .args .lines)) (point (s .args .q)) (s .args .unentered) (s .args .g) (s .args .r) (s .args .l) (d .before .next .ensures) (d .next2 .ensures) (apex-told t (c .before .before) ∙ ap apex-place (c .enum-told .given .1))
 
 hands-right : (t : ℕ) (c : hand-lts.After-enum-told2 (hand-calls t) (hand-at t) hand.Post) →
     let d = c .before .before .before .before in
     let s = d .before .before .before .before in
-    cell t s ≡ follow (floor t s) (s .args .left) (d .before .next .result) (s .args .r) (s .args .l)
+    cell t s ≡ follow (floor t s) (s .args .unentered) (d .before .next .result) (s .args .r) (s .args .l)
 hands-right t c =
     let d = c .before .before .before .before in
     let s = d .before .before .before .before in
-    left-of-l-hands-on (now (s .args .corners)) (now (s .args .lines)) (point (s .args .q)) (s .args .left) (s .args .g) (s .args .r) (s .args .l) (d .before .next .ensures) (d .next2 .ensures) (apex-told t (c .before .before) ∙ ap apex-place (c .enum-told2 .given .1))
+    left-of-l-hands-on (now (s .args .corners)) (now (s .args .lines)) (point (s .args .q)) (s .args .unentered) (s .args .g) (s .args .r) (s .args .l) (d .before .next .ensures) (d .next2 .ensures) (apex-told t (c .before .before) ∙ ap apex-place (c .enum-told2 .given .1))
 
 hands-both : (t : ℕ) (c : hand-lts.After-enum-told3 (hand-calls t) (hand-at t) hand.Post) →
     let d = c .before .before .before .before in
     let s = d .before .before .before .before in
-    cell t s ≡ both (follow (floor t s) (s .args .left) (d .before .next .result) (s .args .r) (apex t d)) (follow (floor t s) (s .args .left) (d .next2 .result) (apex t d) (s .args .l))
+    cell t s ≡ both (follow (floor t s) (s .args .unentered) (d .before .next .result) (s .args .r) (apex t d)) (follow (floor t s) (s .args .unentered) (d .next2 .result) (apex t d) (s .args .l))
 hands-both t c =
     let d = c .before .before .before .before in
     let s = d .before .before .before .before in
-    between-hands-on (now (s .args .corners)) (now (s .args .lines)) (point (s .args .q)) (s .args .left) (s .args .g) (s .args .r) (s .args .l) (d .before .next .ensures) (d .next2 .ensures) (apex-told t (c .before .before) ∙ ap apex-place (c .enum-told3 .given .1))
+    between-hands-on (now (s .args .corners)) (now (s .args .lines)) (point (s .args .q)) (s .args .unentered) (s .args .g) (s .args .r) (s .args .l) (d .before .next .ensures) (d .next2 .ensures) (apex-told t (c .before .before) ∙ ap apex-place (c .enum-told3 .given .1))
 
 hand-enum-told : (t : ℕ) → hand-lts.Need-enum-told (hand-calls t) (hand-at t) hand.Post
 hand-enum-told t c = search needs
@@ -271,13 +271,13 @@ hand-enum-told-3 t c = search needs
 first-fits : (t : ℕ) (c : hand-lts.After-enum-told3 (hand-calls t) (hand-at t) hand.Post) →
     let d = c .before .before .before .before in
     let s = d .before .before .before .before in
-    Room (s .args .at) (length (now (s .args .table))) (follow (floor t s) (s .args .left) (d .before .next .result) (s .args .r) (apex t d))
+    Room (s .args .at) (length (now (s .args .table))) (follow (floor t s) (s .args .unentered) (d .before .next .result) (s .args .r) (apex t d))
 first-fits t c = room-for-the-first _ _ (hands-both t c) (c .before .before .before .before .before .before .before .before .pre .1 .1 .1)
 
 second-fits : (t : ℕ) (c : hand-lts.After-cross3 (hand-calls t) (hand-at t) hand.Post) →
     let d = c .before .before .before .before .before .before in
     let s = d .before .before .before .before in
-    Room (s .args .at + 3 * c .cross3 .result .rows) (length (c .cross3 .last .1 .1 .1 .0)) (follow (floor t s) (s .args .left) (d .next2 .result) (apex t d) (s .args .l))
+    Room (s .args .at + 3 * c .cross3 .result .rows) (length (c .cross3 .last .1 .1 .1 .0)) (follow (floor t s) (s .args .unentered) (d .next2 .result) (apex t d) (s .args .l))
 second-fits t c =
     let s = c .before .before .before .before .before .before .before .before .before .before in
     room-for-the-second _ _ (hands-both t (c .before .before)) (s .pre .1 .1 .1) (c .cross3 .ensures .0) (c .cross3 .kept .1 .1 .1 .0)

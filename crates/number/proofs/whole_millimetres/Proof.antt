@@ -1,67 +1,84 @@
--- Both comparisons hold of a small double alone, and of a small double the one that comes back decides.
-use mathlib.Core.Path.{_≡_, sym, ap, _∙_}
-use mathlib.Core.Bool.{Bool}
-use lib.IntN.{ℤ}
-use lib.Ieee.{binary64, eq, ofInt, toSigned}
+-- Each test that fails refuses. A double that passed all three is within the machine's integers, and truncation leaves its integer.
+use mathlib.Core.Path.{_≡_, refl, sym, ap, _∙_}
+use mathlib.Core.Bool.{Bool, true, _&&_}
+use lib.Ieee.{Float}
 use mir.Syntax.{w64}
 use mir.Val.{toZ, ofZ}
 use borrow.Author.Needs.{needs}
+use borrow.Author.Tests.{not-true, not-false}
 use Rattle.exact.proofs.Bounds.{handed}
-use Rattle.number.specs.Whole.{accepted, whole}
-use Rattle.number.proofs.Limits.{Small, both-hold-of-small, refused-below, refused-above}
-use Rattle.number.proofs.Back.{decided-by-coming-back, small-in-float, small-in-range}
+use Rattle.number.specs.Whole.{is-finite, is-whole, is-within, integer, accepted, whole}
+use Rattle.number.specs.declared.Millimetres.the-variants.{Whole}
+use Rattle.number.proofs.Limits.{within-is-far-below}
+use Rattle.number.proofs.Back.{truncated-is-its-integer, small-in-range}
 use Rattle.number.proofs.whole_millimetres.Statement.{statement}
 use Rattle.number.proofs.whole_millimetres.Tie as tie
 
--- ---- a comparison with a limit fails
+-- ---- the tests
 
-returns-3 : tie.Need-returns-3
-returns-3 c = refused-above (c .before .before .args .x) (c .if2 .left)
+finite : (c : tie.Else1) → is-finite (c .before .before .args .x) ≡ true
+finite c = sym (c .before .is-finite .ensures) ∙ not-false _ (c .if1 .left)
 
-returns-4 : tie.Need-returns-4
-returns-4 c = refused-below (c .before .args .x) (c .if1 .left)
+a-whole-number : (c : tie.Else2) → is-whole (c .before .before .before .before .args .x) ≡ true
+a-whole-number c = sym (c .before .is-whole .ensures) ∙ not-false _ (c .if2 .left)
 
--- ---- both hold
+within : (c : tie.Else3) → is-within (c .before .before .before .before .before .before .args .x) ≡ true
+within c = sym (c .before .is-within .ensures) ∙ not-false _ (c .if3 .left)
 
--- past both comparisons the double is small
-small : (c : tie.Then2) → Small (c .before .before .args .x)
-small c = both-hold-of-small (c .before .before .args .x) (c .before .if1 .taken) (c .if2 .taken)
+is-finite-requires : tie.Need-is-finite-requires
+is-finite-requires c κs = search needs
 
--- the code's integer
-abbrev integer : tie.After-row-known → ℤ
-integer c = toZ w64 (ofZ w64 (c .before .truncating-f64-to-i64 .result))
+is-whole-requires : tie.Need-is-whole-requires
+is-whole-requires c κs = finite c
 
-truncated : (c : tie.After-row-known) → integer c ≡ toSigned 63 (c .before .before .before .before .args .x)
-truncated c = handed w64 (c .before .truncating-f64-to-i64 .ok) (c .before .truncating-f64-to-i64 .ensures)
+is-within-requires : tie.Need-is-within-requires
+is-within-requires c κs = search needs
 
-decided : (c : tie.After-row-known)
-    → whole (c .before .before .before .before .args .x)
-    ≡ accepted (eq (ofInt binary64 (integer c)) (c .before .before .before .before .args .x)) (integer c)
-decided c = rw (truncated c) (decided-by-coming-back (c .before .before .before .before .args .x) (small (c .before .before)))
+-- what the tests' answers make of a double
+answered : (x : Float) {f w i : Bool} → is-finite x ≡ f → is-whole x ≡ w → is-within x ≡ i → accepted (f && w && i) (integer x) ≡ whole x
+unfolding whole
+answered x h k l = sym (rw (h, k, l))
 
-int-to-float-limit : tie.Need-int-to-float-limit
-int-to-float-limit c = search needs
-
-truncating-f64-to-i64-requires : tie.Need-truncating-f64-to-i64-requires
-truncating-f64-to-i64-requires c κs = small-in-range (c .before .before .args .x) (small c)
-
-int-to-float-back : tie.Need-int-to-float-back
-int-to-float-back c = rw (truncated c) (small-in-float (c .before .before .before .before .args .x) (small (c .before .before)))
+-- ---- one fails
 
 returns : tie.Need-returns
-returns c = sym (decided (c .before) ∙ ap (λ (t : Bool). accepted t (integer (c .before))) (c .if3 .taken))
+returns c = answered (c .before .before .args .x) (sym (c .before .is-finite .ensures) ∙ not-true _ (c .if1 .taken)) refl refl
 
 returns-2 : tie.Need-returns-2
-returns-2 c = sym (decided (c .before) ∙ ap (λ (t : Bool). accepted t (integer (c .before))) (c .if3 .left))
+returns-2 c =
+    answered (c .before .before .before .before .args .x) (finite (c .before .before))
+    (sym (c .before .is-whole .ensures) ∙ not-true _ (c .if2 .taken)) refl
+
+returns-3 : tie.Need-returns-3
+returns-3 c =
+    answered (c .before .before .before .before .before .before .args .x) (finite (c .before .before .before .before))
+    (a-whole-number (c .before .before)) (sym (c .before .is-within .ensures) ∙ not-true _ (c .if3 .taken))
+
+-- ---- all hold
+
+truncating-f64-to-i64-requires : tie.Need-truncating-f64-to-i64-requires
+truncating-f64-to-i64-requires c κs =
+    small-in-range (c .before .before .before .before .before .before .args .x)
+    (within-is-far-below (c .before .before .before .before .before .before .args .x) (within c))
+
+returns-4 : tie.Need-returns-4
+returns-4 c =
+    let x = c .before .before .before .before .before .before .before .args .x in
+    let number : toZ w64 (ofZ w64 (c .truncating-f64-to-i64 .result)) ≡ integer x =
+    handed w64 (c .truncating-f64-to-i64 .ok) (c .truncating-f64-to-i64 .ensures)
+    ∙ truncated-is-its-integer x (within-is-far-below x (within (c .before))) in
+    ap Whole number
+    ∙ answered x (finite (c .before .before .before .before .before)) (a-whole-number (c .before .before .before)) (within (c .before))
 
 pub whole-millimetres-spec : {M : Type 1} → statement M
 whole-millimetres-spec =
     tie.close
     (tie.spec
-    int-to-float-limit
-    truncating-f64-to-i64-requires
-    int-to-float-back
+    is-finite-requires
     returns
+    is-whole-requires
     returns-2
+    is-within-requires
     returns-3
+    truncating-f64-to-i64-requires
     returns-4)

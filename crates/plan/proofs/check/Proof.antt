@@ -5,6 +5,9 @@ use borrow.Author.Tests.{not-true, not-false}
 use denote.Ref.{now}
 use lib.ListN.{length}
 use Rattle.plan.specs.Lists.{corner-count, cell-count, face-count}
+use Rattle.plan.specs.Meeting.{MeetOnce}
+use Rattle.plan.proofs.Least.{none-holds}
+use Rattle.plan.proofs.Plans.{meet-once}
 use Rattle.plan.proofs.Checks.{corners-near, neighbours-right, odd-corners, odd-cells, out-of-size, at-a-corner, at-a-cell, at-a-face, at-a-door, accepted}
 use borrow.Author.Needs.{needs}
 use Rattle.plan.proofs.check.Statement.{statement}
@@ -34,8 +37,14 @@ least-wrong-requires-2 c κs = corners-near _ (subst (λ (i : ℕ). corner-count
 returns-5 : tie.Need-returns-5
 returns-5 c = at-a-cell (now (c .before .before .before .before .before .before .before .before .before .before .args .corners)) (now (c .before .before .before .before .before .before .before .before .before .before .args .cells)) (now (c .before .before .before .before .before .before .before .before .before .before .args .doors)) (c .before .before .before .before .before .before .before .if1 .left) (c .before .before .before .before .before .before .if2 .left) (sym (c .before .before .before .before .before .is-sized .ensures) ∙ not-false _ (c .before .before .before .before .if3 .left)) (subst (λ (i : ℕ). corner-count (now (c .before .before .before .before .before .before .before .before .before .before .args .corners)) ≤ i) (c .before .before .before .least-wrong .ensures) (c .before .before .if4 .left)) (c .before .least-wrong2 .ensures) (c .if5 .taken)
 
+-- every cell is right where the least wrong one is the count, so two cells meet at most once
+cells-meet : (c : tie.Else5) → MeetOnce (now (c .before .before .before .before .before .before .before .before .before .before .args .cells))
+cells-meet c =
+    let start = c .before .before .before .before .before .before .before .before .before .before in
+    meet-once (now (start .args .corners)) (now (start .args .cells)) (none-holds _ _ (subst (λ (i : ℕ). cell-count (now (start .args .cells)) ≤ i) (c .before .least-wrong2 .ensures) (c .if5 .left)))
+
 least-wrong-requires-3 : tie.Need-least-wrong-requires-3
-least-wrong-requires-3 c κs = search needs
+least-wrong-requires-3 c κs = cells-meet c
 
 mul-if6 : tie.Need-mul-if6
 mul-if6 c = search needs
@@ -44,7 +53,8 @@ returns-6 : tie.Need-returns-6
 returns-6 c = at-a-face (now (c .before .before .before .before .before .before .before .before .before .before .before .before .args .corners)) (now (c .before .before .before .before .before .before .before .before .before .before .before .before .args .cells)) (now (c .before .before .before .before .before .before .before .before .before .before .before .before .args .doors)) (c .before .before .before .before .before .before .before .before .before .if1 .left) (c .before .before .before .before .before .before .before .before .if2 .left) (sym (c .before .before .before .before .before .before .before .is-sized .ensures) ∙ not-false _ (c .before .before .before .before .before .before .if3 .left)) (subst (λ (i : ℕ). corner-count (now (c .before .before .before .before .before .before .before .before .before .before .before .before .args .corners)) ≤ i) (c .before .before .before .before .before .least-wrong .ensures) (c .before .before .before .before .if4 .left)) (subst (λ (i : ℕ). cell-count (now (c .before .before .before .before .before .before .before .before .before .before .before .before .args .cells)) ≤ i) (c .before .before .before .least-wrong2 .ensures) (c .before .before .if5 .left)) (c .before .least-wrong3 .ensures) (c .if6 .taken)
 
 least-wrong-requires-4 : tie.Need-least-wrong-requires-4
-least-wrong-requires-4 c κs = neighbours-right _ (subst (λ (i : ℕ). face-count (now (c .before .before .before .before .before .before .before .before .before .before .before .before .args .cells)) ≤ i) (c .before .least-wrong3 .ensures) (c .if6 .left))
+least-wrong-requires-4 c κs =
+    (neighbours-right _ (subst (λ (i : ℕ). face-count (now (c .before .before .before .before .before .before .before .before .before .before .before .before .args .cells)) ≤ i) (c .before .least-wrong3 .ensures) (c .if6 .left)), cells-meet (c .before .before))
 
 returns-7 : tie.Need-returns-7
 returns-7 c = at-a-door (now (c .before .before .before .before .before .before .before .before .before .before .before .before .before .before .args .corners)) (now (c .before .before .before .before .before .before .before .before .before .before .before .before .before .before .args .cells)) (now (c .before .before .before .before .before .before .before .before .before .before .before .before .before .before .args .doors)) (c .before .before .before .before .before .before .before .before .before .before .before .if1 .left) (c .before .before .before .before .before .before .before .before .before .before .if2 .left) (sym (c .before .before .before .before .before .before .before .before .before .is-sized .ensures) ∙ not-false _ (c .before .before .before .before .before .before .before .before .if3 .left)) (subst (λ (i : ℕ). corner-count (now (c .before .before .before .before .before .before .before .before .before .before .before .before .before .before .args .corners)) ≤ i) (c .before .before .before .before .before .before .before .least-wrong .ensures) (c .before .before .before .before .before .before .if4 .left)) (subst (λ (i : ℕ). cell-count (now (c .before .before .before .before .before .before .before .before .before .before .before .before .before .before .args .cells)) ≤ i) (c .before .before .before .before .before .least-wrong2 .ensures) (c .before .before .before .before .if5 .left)) (subst (λ (i : ℕ). face-count (now (c .before .before .before .before .before .before .before .before .before .before .before .before .before .before .args .cells)) ≤ i) (c .before .before .before .least-wrong3 .ensures) (c .before .before .if6 .left)) (c .before .least-wrong4 .ensures) (c .if7 .taken)

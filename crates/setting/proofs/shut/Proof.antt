@@ -4,11 +4,11 @@ use borrow.Author.Needs.{needs}
 use Rattle.setting.proofs.shut.Statement.{statement}
 use Rattle.setting.proofs.shut.Tie as tie
 
-shl-result : tie.Need-shl-result
-shl-result c = search needs
+shl-mask : tie.Need-shl-mask
+shl-mask c = search needs
 
 returns : tie.Need-returns
 returns c = or-shuts (c .args .setting) (c .args .i) (c .pre)
 
 pub shut-spec : {M : Type 1} → statement M
-shut-spec = tie.close (tie.spec shl-result returns)
+shut-spec = tie.close (tie.spec shl-mask returns)

@@ -2,7 +2,6 @@
 use mathlib.Core.Path.{_∙_}
 use native.Mathlib.Omega.{arith}
 use denote.Ref.{now}
-use Rattle.plan.proofs.Neighbours.{right-and-free}
 use Rattle.plan.proofs.Doors.{no-such-face, on-a-wall, by-earlier}
 use borrow.Author.Needs.{needs}
 use Rattle.plan.proofs.door.is_wrong.Statement.{statement}
@@ -33,7 +32,9 @@ returns-2 : tie.Need-returns-2
 returns-2 c = on-a-wall (now (c .before .before .before .before .before .before .args .cells)) (now (c .before .before .before .before .before .before .args .doors)) (c .before .before .before .before .before .before .args .i) (c .before .before .if1 .left) (c .before .neighbour .ensures) (c .if2 .taken)
 
 back-requires : tie.Need-back-requires
-back-requires c κs = (c .before .before .if1 .left, right-and-free (now (c .before .before .before .before .before .before .args .cells)) _ (c .before .before .before .before .before .before .pre .0 .right _ (c .before .before .if1 .left)) (λ w. c .if2 .left (c .before .neighbour .ensures ∙ w)) .0)
+back-requires c κs =
+    let start = c .before .before .before .before .before .before in
+    (start .pre .0, (start .pre .1 .0, (c .before .before .if1 .left, λ w. c .if2 .left (c .before .neighbour .ensures ∙ w))))
 
 named-requires : tie.Need-named-requires
 named-requires c κs = search needs

@@ -1,52 +1,42 @@
 -- `plan::neighbour::least_wrong` meets its contract.
-use mathlib.Core.Path.{_≡_, _∙_, subst}
-use Prim.Native.Nat.{ℕ, _+_, _*_, _-_, _≤_}
+use mathlib.Core.Path.{sym, _∙_}
+use Prim.Native.Nat.{_-_}
 use native.Mathlib.Omega.{arith}
 use borrow.Author.Needs.{needs}
-use denote.Ref.{now}
+use Rattle.plan.proofs.Least.{Seeks, seek-begins, seek-goes-on, seek-found, seek-ends}
 use Rattle.plan.specs.Check.{wrong-neighbour}
-use Rattle.plan.proofs.Least.{Clear, clear-begins, clear-extends, clear-found, clear-ends}
 use Rattle.plan.proofs.neighbour.least_wrong.Statement.{statement}
 use Rattle.plan.proofs.neighbour.least_wrong.Tie as tie
 
 abbrev Inv-loop : tie.InvT-loop
-Inv-loop cells m c₀ c = (c ≤ m) × Clear (wrong-neighbour cells) 0 (3 * c)
+Inv-loop cells n f₀ f = Seeks (wrong-neighbour cells) n f
 
 abbrev μ-loop : tie.MeasureT-loop
-μ-loop cells m c₀ c = m - c
+μ-loop cells n f₀ f = n - f
 
-three-more : (c : ℕ) → 3 * c + 3 ≡ 3 * (c + 1)
-three-more c = omega arith
+mul-n : tie.Need-mul-n Inv-loop μ-loop
+mul-n c = omega arith
 
 loop-holds : tie.Need-loop-holds Inv-loop μ-loop
-loop-holds c = (omega arith, clear-begins _ _)
+loop-holds c = seek-begins _ _
 
-wrong-in-cell-requires : tie.Need-wrong-in-cell-requires Inv-loop μ-loop
-wrong-in-cell-requires c κs = search needs
-
-mul-if1 : tie.Need-mul-if1 Inv-loop μ-loop
-mul-if1 c = omega arith
-
-add-if1 : tie.Need-add-if1 Inv-loop μ-loop
-add-if1 c = omega arith
+is-wrong-requires : tie.Need-is-wrong-requires Inv-loop μ-loop
+is-wrong-requires c κs = search needs
 
 returns : tie.Need-returns Inv-loop μ-loop
-returns c = c .before .wrong-in-cell .ensures ∙ clear-found (c .before .before .before .loop .inv .1) 3 _ (rw (c .before .wrong-in-cell .ensures) at (c .if1 .taken)) (omega (arith, c .before .before .loop-test .taken))
+returns c = seek-found (c .before .before .before .loop .inv) (c .before .before .loop-test .taken) (sym (c .before .is-wrong .ensures) ∙ c .if1 .taken)
 
-add-c : tie.Need-add-c Inv-loop μ-loop
-add-c c = omega arith
+add-f : tie.Need-add-f Inv-loop μ-loop
+add-f c = omega arith
 
 loop-less : tie.Need-loop-less Inv-loop μ-loop
 loop-less c = omega arith
 
 loop-again : tie.Need-loop-again Inv-loop μ-loop
-loop-again c = (omega arith, subst (Clear (wrong-neighbour (now (c .before .before .before .before .before .args .cells))) 0) (three-more (c .before .before .before .loop .c)) (clear-extends (c .before .before .before .loop .inv .1) 3 (rw (c .before .wrong-in-cell .ensures) at (c .if1 .left))))
-
-mul-result : tie.Need-mul-result Inv-loop μ-loop
-mul-result c = omega arith
+loop-again c = seek-goes-on (c .before .before .before .loop .inv) (c .before .before .loop-test .taken) (sym (c .before .is-wrong .ensures) ∙ c .if1 .left)
 
 returns-2 : tie.Need-returns-2 Inv-loop μ-loop
-returns-2 c = clear-ends (c .before .loop .inv .1) _ (omega arith)
+returns-2 c = seek-ends (c .before .loop .inv) (c .loop-test .left)
 
 pub least-wrong-spec : {M : Type 1} → statement M
 least-wrong-spec =
@@ -54,13 +44,11 @@ least-wrong-spec =
     (tie.spec
     Inv-loop
     μ-loop
+    mul-n
     loop-holds
-    wrong-in-cell-requires
-    mul-if1
-    add-if1
+    is-wrong-requires
     returns
-    add-c
+    add-f
     loop-less
     loop-again
-    mul-result
     returns-2)

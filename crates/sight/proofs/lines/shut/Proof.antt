@@ -6,15 +6,13 @@ use denote.Ref.{now}
 use lib.ListN.{length-set}
 use Rattle.plan.specs.Lists.{face-count}
 use Rattle.sight.specs.Lined.{shut-line}
-use Rattle.sight.proofs.Marks.{neighbour-exists, back-is-a-face}
+use Rattle.sight.proofs.Marks.{back-is-a-face}
 use borrow.Author.Needs.{needs}
 use Rattle.sight.proofs.lines.shut.Statement.{statement}
 use Rattle.sight.proofs.lines.shut.Tie as tie
 
 back-requires : tie.Need-back-requires
-back-requires c κs =
-    let start = c .before .before in
-    (start .pre .1 .0, neighbour-exists (start .pre .0) _ (start .pre .1 .0) (start .pre .1 .1 .0))
+back-requires c κs = search needs
 
 mul-lines : tie.Need-mul-lines
 mul-lines c = search needs
@@ -32,7 +30,7 @@ slice-write-lines c = search needs
 g-below : (c : tie.After-back) → c .back .result < face-count (now (c .before .before .before .args .cells))
 g-below c =
     let start = c .before .before .before in
-    rw (c .back .ensures) (back-is-a-face (start .pre .0) _ (start .pre .1 .0) (start .pre .1 .1 .0))
+    rw (c .back .ensures) (back-is-a-face (start .pre .0) _ (start .pre .1 .1 .0) (start .pre .1 .1 .1 .0))
 
 mul-lines-3 : tie.Need-mul-lines-3
 mul-lines-3 c = omega (arith, g-below c)

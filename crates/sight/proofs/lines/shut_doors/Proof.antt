@@ -4,7 +4,7 @@ use mathlib.Core.Logic.{⊎-elim}
 use Prim.Native.Nat.{_≤_, _-_, _+_}
 use native.Mathlib.Omega.{arith}
 use denote.Ref.{now}
-use Rattle.plan.proofs.Plans.{counts, door-exists, door-is-free}
+use Rattle.plan.proofs.Plans.{counts, meet-once, door-exists, door-is-free}
 use Rattle.sight.proofs.Marks.{Marked, marks-begin, marks-end, past-an-open-door, past-a-shut-door}
 use Rattle.sight.proofs.lines.shut_doors.Statement.{statement}
 use Rattle.sight.proofs.lines.shut_doors.Tie as tie
@@ -35,7 +35,7 @@ shut-requires c κs =
     let at-test = c .before .before .before .before in
     let sound = at-test .before .before .before .before .before .pre .0 .sound in
     let here = at-test .loop-test .taken in
-    (sound .neighbours, (door-exists sound _ here, (door-is-free sound _ here, at-test .before .loop .inv .1 .whole)))
+    (sound .neighbours, (meet-once _ _ (sound .cells), (door-exists sound _ here, (door-is-free sound _ here, at-test .before .loop .inv .1 .whole))))
 
 add-i : tie.Need-add-i Inv-loop μ-loop
 add-i c = omega arith

@@ -2,6 +2,7 @@
 use mathlib.Core.List.{List}
 use mathlib.Core.Path.{_≡_, sym, _∙_, ap, subst}
 use Prim.Native.Nat.{ℕ, _<_}
+use native.Mathlib.Omega.{arith}
 use denote.Ref.{now}
 use lib.Ieee.{Float}
 use lib.IntN.{ℤ, pos, _+ℤ_}
@@ -23,7 +24,7 @@ use Rattle.stand.proofs.spot.offset_spot.Statement.{statement}
 use Rattle.stand.proofs.spot.offset_spot.Tie as tie
 
 returns : tie.Need-returns
-returns c = no-such-corner (now (c .before .args .corners)) (c .before .args .i) (c .before .args .dx) (c .before .args .dy) (c .if1 .taken)
+returns c = no-such-corner (now (c .before .args .corners)) (c .before .args .i) (c .before .args .dx) (c .before .args .dy) (omega arith)
 
 -- a corner's coordinate and an accepted offset, and their sum as the code has it
 module _ (cs : List ℤ) (i : ℕ) (p : List ℤ) (x y : Float) {u v : ℤ} (h : i < corner-count cs) (near : CornersNear cs) (is-p : point p ≡ corner-at cs i) (whole : whole-point x y ≡ At u v) where
@@ -54,7 +55,7 @@ enum-told : tie.Need-enum-told
 enum-told c = search needs
 
 returns-2 : tie.Need-returns-2
-returns-2 c = offset-refused (now (c .before .before .before .before .args .corners)) (c .before .before .before .before .args .i) (c .before .before .before .before .args .dx) (c .before .before .before .before .args .dy) (c .before .before .before .if1 .left) (sym (c .before .before .whole-spot .ensures) ∙ c .enum-told .given .1)
+returns-2 c = offset-refused (now (c .before .before .before .before .args .corners)) (c .before .before .before .before .args .i) (c .before .before .before .before .args .dx) (c .before .before .before .before .args .dy) (omega arith) (sym (c .before .before .whole-spot .ensures) ∙ c .enum-told .given .1)
 
 at-requires : tie.Need-at-requires
 at-requires c κs = search needs

@@ -1,0 +1,35 @@
+-- `doors::is_true_list_with_room` meets its contract.
+use mathlib.Core.Path.{ap, _∙_}
+use native.Mathlib.Omega.{arith}
+use denote.Ref.{now}
+use Rattle.plane.specs.Side.{point}
+use Rattle.doors.specs.Change.{same-list}
+use Rattle.doors.proofs.Changes.{numbers-fit, few-numbers, listed-anew}
+use borrow.Author.Needs.{needs}
+use Rattle.doors.proofs.is_true_list_with_room.Statement.{statement}
+use Rattle.doors.proofs.is_true_list_with_room.Tie as tie
+
+list-from-requires : tie.Need-list-from-requires
+list-from-requires c κs = search needs
+
+mul-n : tie.Need-mul-n
+mul-n c =
+    let fit = numbers-fit (c .before .before .before .before .before .before .before .before .before .pre .0) (c .before .before .before .before .before .before .before .before .before .args .setting) (point (c .before .before .before .before .before .before .before .before .before .args .q)) (c .before .before .before .before .before .before .before .before .before .args .c) (c .before .before .before .before .before .before .before .before .before .pre .1 .0 .1) (c .before .before .before .list-from .ensures .0) in
+    let few = few-numbers (c .before .before .before .before .before .before .before .before .before .pre .0) (c .before .before .before .before .before .before .before .before .before .args .setting) (point (c .before .before .before .before .before .before .before .before .before .args .q)) (c .before .before .before .before .before .before .before .before .before .args .c) (c .before .before .before .before .before .before .before .before .before .pre .1 .0 .1) in
+    record { fits = omega arith }
+
+is-same-list-requires : tie.Need-is-same-list-requires
+is-same-list-requires c κs =
+    let fit = numbers-fit (c .before .before .before .before .before .before .before .before .before .before .pre .0) (c .before .before .before .before .before .before .before .before .before .before .args .setting) (point (c .before .before .before .before .before .before .before .before .before .before .args .q)) (c .before .before .before .before .before .before .before .before .before .before .args .c) (c .before .before .before .before .before .before .before .before .before .before .pre .1 .0 .1) (c .before .before .before .before .list-from .ensures .0) in
+    let room = c .before .before .before .before .before .before .before .before .before .before .pre .1 .1 in
+    let kept = c .before .before .before .before .list-from .kept .1 .1 .1 .1 .1 .0 in
+    omega arith
+
+same-length : tie.Need-same-length
+same-length c = search needs
+
+returns : tie.Need-returns
+returns c = c .is-same-list .ensures ∙ ap (same-list (now (c .before .before .before .before .before .before .before .before .before .before .before .args .given))) (listed-anew (c .before .before .before .before .before .before .before .before .before .before .before .pre .0) (c .before .before .before .before .before .before .before .before .before .before .before .args .setting) (point (c .before .before .before .before .before .before .before .before .before .before .before .args .q)) (c .before .before .before .before .before .before .before .before .before .before .before .args .c) (c .before .before .before .before .before .before .before .before .before .before .before .pre .1 .0 .1) (now (c .before .before .before .before .before .before .before .before .before .before .before .args .table)) (c .before .before .before .before .before .list-from .ensures .0) (c .before .before .before .before .before .before .before .before .before .before .before .pre .1 .1) (c .before .before .before .before .before .list-from .ensures .1 .1))
+
+pub is-true-list-with-room-spec : {M : Type 1} → statement M
+is-true-list-with-room-spec = tie.close (tie.spec list-from-requires mul-n is-same-list-requires same-length returns)
