@@ -9,9 +9,9 @@ use lib.IntN.{ℤ}
 use Rattle.plane.specs.Side.{Point}
 use Rattle.setting.specs.Setting.{wrong-setting}
 use Rattle.plan.specs.Check.{checked}
-use Rattle.plan.specs.declared.Refusal.the-variants as R
-use Rattle.plan.specs.declared.Checked.{Checked}
-use Rattle.plan.specs.declared.Checked.the-variants as C
+use Rattle.limits.specs.declared.Refusal.the-variants as R
+use Rattle.limits.specs.declared.Checked.{Checked}
+use Rattle.limits.specs.declared.Checked.the-variants as C
 use Rattle.setting.proofs.Settings.{shutting-keeps-within, opening-keeps-within}
 use Rattle.stand.specs.Spot.{stood}
 use Rattle.stand.specs.declared.spot.Stand.{Stand}

@@ -16,8 +16,8 @@ use Rattle.exact.proofs.Truth.{both-true}
 use Rattle.plane.specs.Side.{Point}
 use Rattle.plan.specs.Lists.{corner-count}
 use Rattle.plan.specs.Sound.{Sound}
-use Rattle.plan.specs.declared.Refusal.{Refusal}
-use Rattle.plan.specs.declared.Refusal.the-variants as R
+use Rattle.limits.specs.declared.Refusal.{Refusal}
+use Rattle.limits.specs.declared.Refusal.the-variants as R
 use Rattle.plan.proofs.Plans.{counts}
 use Rattle.stand.specs.Find.{located}
 use Rattle.stand.specs.declared.spot.Stand.{Stand}

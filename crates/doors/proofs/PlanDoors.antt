@@ -8,7 +8,7 @@ use native.Mathlib.Omega.{arith}
 use lib.ListN.{length, getD}
 use lib.IntN.{ℤ}
 use Rattle.plane.specs.Side.{Point}
-use Rattle.plan.specs.Limits.{wall}
+use Rattle.limits.specs.Limits.{wall}
 use Rattle.plan.specs.Lists.{cell-count, face-count, next, start, neighbour, back}
 use Rattle.setting.specs.Setting.{shut, with-shut, ends}
 use Rattle.plan.specs.Sound.{Sound}

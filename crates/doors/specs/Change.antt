@@ -6,8 +6,8 @@ use lib.Dec.{eqb, ltb}
 use lib.ListN.{length}
 use lib.IntN.{ℤ}
 use Rattle.setting.specs.Setting.{shut, with-shut, with-open}
-use Rattle.plan.specs.declared.Refusal.{Refusal}
-use Rattle.plan.specs.declared.Refusal.the-variants.{Change, Rows}
+use Rattle.limits.specs.declared.Refusal.{Refusal}
+use Rattle.limits.specs.declared.Refusal.the-variants.{Change, Rows}
 use Rattle.stand.specs.declared.spot.Stand.{Stand}
 use Rattle.sight.specs.Listing.{listing-numbers, listed-from, viewed}
 use Rattle.sight.specs.declared.view.View.{View}

@@ -9,7 +9,7 @@ use lib.ListN.{length, getD}
 use lib.IntN.{ℤ, pos}
 use lib.Signed.{leZ}
 use Rattle.plane.specs.Side.{Point, side}
-use Rattle.plan.specs.Limits.{most-corners, most-cells, wall}
+use Rattle.limits.specs.Limits.{most-corners, most-cells, wall}
 use Rattle.plan.specs.Lists.{corner-count, corner-at, next}
 use Rattle.plan.specs.Sound.{CornersNear}
 use Rattle.expand.specs.Sight.{Floor, Place}

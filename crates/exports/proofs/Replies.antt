@@ -6,8 +6,8 @@ use Prim.Native.Nat.{ℕ, _<_, _≤_}
 use borrow.Author.Tests.{le-leb, lt-leb}
 use lib.ListN.{length}
 use lib.Seq.{sets}
-use Rattle.plan.specs.Reply.{Reply, number, place, refused}
-use Rattle.plan.specs.declared.Refusal.{Refusal}
+use Rattle.limits.specs.Reply.{Reply, number, place, refused}
+use Rattle.limits.specs.declared.Refusal.{Refusal}
 use Rattle.exports.specs.Reply.{five, numbers-of, has-five, replied, left}
 
 -- an answer's numbers, put by its variant

@@ -6,7 +6,7 @@ use lib.Dec.{leb}
 use lib.ListN.{length, getD}
 use lib.Seq.{sets}
 use lib.IntN.{ℤ}
-use Rattle.plan.specs.Reply.{Reply}
+use Rattle.limits.specs.Reply.{Reply}
 use Rattle.stand.specs.declared.spot.Stand.{Stand}
 use Rattle.manopluea.specs.Calls.{check-replies, read-replies, write-replies, find-replies, list-replies, change-replies}
 use Rattle.printing.specs.Reply.{print-replies}

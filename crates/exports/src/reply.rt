@@ -3,15 +3,15 @@ ghost use Prim.Native.Nat.{_≤_};
 ghost use mathlib.Core.Path.{_≡_};
 ghost use lib.ListN.{length};
 ghost use lib.Seq.{sets};
-ghost use Rattle.plan.specs.Reply.{checked-reply};
+ghost use Rattle.limits.specs.Reply.{checked-reply};
 ghost use Rattle.stand.specs.Reply.{found-reply};
 ghost use Rattle.sight.specs.Reply.{listed-reply};
 ghost use Rattle.printing.specs.Reply.{printed-reply};
 ghost use Rattle.exports.specs.Reply.{five, numbers-of};
+use limits::reply;
 use manopluea::Checked;
 use manopluea::Found;
 use manopluea::Listed;
-use plan::reply;
 use printing::Printed;
 
 fn put(reply: &mut [u64], n: u64, p: u64, a: u64, b: u64, c: u64)

@@ -6,12 +6,12 @@ use Prim.Native.Nat.{ℕ}
 use lib.Ieee.{ofBits}
 use Rattle.plane.specs.Side.{side}
 use Rattle.plane.specs.Tests.{by-sides}
-use Rattle.plan.specs.Limits.{sized}
+use Rattle.limits.specs.Limits.{sized}
 use Rattle.plan.specs.Least.{least}
 use Rattle.plan.specs.Lists.{next, start, neighbour, answers, back}
 use Rattle.plan.specs.Check.{outside, wrong-corner, wrong-cell, wrong-neighbour, names, wrong-door, checked}
 use Rattle.setting.specs.Setting.{shut, with-shut, with-open, wrong-setting, bars, ends}
-use Rattle.plan.specs.declared.Refusal.the-variants.{Change, Rows as Untrue}
+use Rattle.limits.specs.declared.Refusal.the-variants.{Change, Rows as Untrue}
 use Rattle.number.specs.Whole.{whole}
 use Rattle.stand.specs.Spot.{whole-point, stood}
 use Rattle.stand.specs.Find.{against, located}

@@ -12,7 +12,7 @@ use Rattle.exact.proofs.Lent.{rest-is-kept}
 use Rattle.exact.proofs.Truth.{neither-true}
 use Rattle.plane.specs.Side.{Point}
 use Rattle.plan.specs.Lists.{back}
-use Rattle.plan.specs.declared.Refusal.{Refusal}
+use Rattle.limits.specs.declared.Refusal.{Refusal}
 use Rattle.setting.specs.Setting.{with-open}
 use Rattle.setting.proofs.Settings.{opening-opens-the-door, shutting-undoes-opening}
 use Rattle.stand.specs.declared.spot.Stand.{Stand}

@@ -7,15 +7,15 @@ use lib.Dec.{ltb, leb}
 use lib.ListN.{length, getD}
 use lib.IntN.{ℤ}
 use Rattle.plane.specs.Side.{Point}
-use Rattle.plan.specs.Limits.{sized}
+use Rattle.limits.specs.Limits.{sized}
 use Rattle.plan.specs.Lists.{corner-count, cell-count, face-count}
 use Rattle.plan.specs.Check.{framed, first-wrong-corner, first-wrong-cell, first-wrong-face, first-wrong-door, refuse-if, checked}
-use Rattle.plan.specs.Reply.{Reply, number, place, checked-reply}
-use Rattle.plan.specs.declared.Plan.{Plan}
-use Rattle.plan.specs.declared.Refusal.{Refusal}
-use Rattle.plan.specs.declared.Refusal.the-variants.{Frame, Size, Corner, Cell, Neighbour, Door, Setting, Stand as NoStand, Line, Outside, Room, Change, Rows}
-use Rattle.plan.specs.declared.Checked.{Checked}
-use Rattle.plan.specs.declared.Checked.the-variants as C
+use Rattle.limits.specs.Reply.{Reply, number, place, checked-reply}
+use Rattle.limits.specs.declared.Plan.{Plan}
+use Rattle.limits.specs.declared.Refusal.{Refusal}
+use Rattle.limits.specs.declared.Refusal.the-variants.{Frame, Size, Corner, Cell, Neighbour, Door, Setting, Stand as NoStand, Line, Outside, Room, Change, Rows}
+use Rattle.limits.specs.declared.Checked.{Checked}
+use Rattle.limits.specs.declared.Checked.the-variants as C
 use Rattle.setting.specs.Setting.{wrong-setting}
 use Rattle.records.specs.Record.{framed as framed-records}
 use Rattle.planfile.specs.File.{file-of, corners-in, cells-in, doors-in}

@@ -14,14 +14,14 @@ use lib.Signed.{_<ℤ_}
 use Rattle.plane.specs.Side.{Point as Vector, side}
 use Rattle.plane.specs.Cone.{minus, cross, Holds, Direction}
 use Rattle.plane.specs.Tests.{by-sides}
-use Rattle.plan.specs.Limits.{sized}
+use Rattle.limits.specs.Limits.{sized}
 use Rattle.plan.specs.Least.{least}
 use Rattle.plan.specs.Lists.{corner-at, next, start, neighbour, answers, back}
 use Rattle.plan.specs.Check.{outside, wrong-corner, wrong-cell, wrong-neighbour, names, wrong-door, checked}
-use Rattle.plan.specs.Reply.{number, refused}
+use Rattle.limits.specs.Reply.{number, refused}
 use Rattle.plan.specs.PlanQ.{corners-of-Q, cells-of-Q, doors-of-Q}
-use Rattle.plan.specs.declared.Refusal.{Refusal}
-use Rattle.plan.specs.declared.Refusal.the-variants.{Frame, Size, Corner, Cell as NoCell, Neighbour, Door, Setting, Stand as NoStand, Line, Outside, Room, Change, Rows as Untrue}
+use Rattle.limits.specs.declared.Refusal.{Refusal}
+use Rattle.limits.specs.declared.Refusal.the-variants.{Frame, Size, Corner, Cell as NoCell, Neighbour, Door, Setting, Stand as NoStand, Line, Outside, Room, Change, Rows as Untrue}
 use Rattle.setting.specs.Setting.{shut, with-shut, wrong-setting, bars, ends}
 use Rattle.number.specs.Whole.{whole}
 use Rattle.stand.specs.Spot.{whole-point, stood}

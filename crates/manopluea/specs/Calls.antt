@@ -4,7 +4,7 @@ use mathlib.Core.List.{List}
 use Prim.Native.Nat.{ℕ}
 use lib.IntN.{ℤ}
 use Rattle.plan.specs.Check.{checked}
-use Rattle.plan.specs.Reply.{Reply, checked-reply}
+use Rattle.limits.specs.Reply.{Reply, checked-reply}
 use Rattle.planfile.specs.Calls as File
 use Rattle.stand.specs.Find.{found}
 use Rattle.stand.specs.Reply.{found-reply}

@@ -6,7 +6,7 @@ use lib.ListN.{replicate}
 use lib.IntN.{ℤ, pos, negsuc}
 use Rattle.plan.specs.Lists.{corner-count}
 use Rattle.plan.specs.PlanQ.{corners-of-Q, cells-of-Q, doors-of-Q}
-use Rattle.plan.specs.declared.Refusal.the-variants.{Setting, Stand as NoStand, Line, Outside}
+use Rattle.limits.specs.declared.Refusal.the-variants.{Setting, Stand as NoStand, Line, Outside}
 use Rattle.stand.specs.declared.spot.Stand.{Stand}
 use Rattle.stand.specs.declared.spot.Stand.the-variants.{Point}
 use Rattle.sight.specs.Listing.{listed}

@@ -8,10 +8,10 @@ use lib.Dec.{ltb, leb}
 use lib.ListN.{length}
 use lib.IntN.{ℤ}
 use Rattle.plane.specs.Side.{Point}
-use Rattle.plan.specs.Limits.{sized}
+use Rattle.limits.specs.Limits.{sized}
 use Rattle.plan.specs.Lists.{corner-count, cell-count, face-count}
 use Rattle.plan.specs.Check.{framed, first-wrong-corner, first-wrong-cell, first-wrong-face, first-wrong-door}
-use Rattle.plan.specs.Reply.{Reply}
+use Rattle.limits.specs.Reply.{Reply}
 use Rattle.setting.specs.Setting.{wrong-setting}
 use Rattle.records.specs.Record.{framed as framed-records}
 use Rattle.planfile.specs.File.{file-of, corners-in, cells-in, doors-in}

@@ -9,9 +9,9 @@ use lib.IntN.{ℤ}
 use Rattle.plane.specs.Side.{Point}
 use Rattle.plane.specs.Cone.{Meets, Direction}
 use Rattle.plan.specs.Lists.{corner-count, start, back}
-use Rattle.plan.specs.Reply.{number, place}
-use Rattle.plan.specs.declared.Refusal.{Refusal}
-use Rattle.plan.specs.declared.Refusal.the-variants.{Rows as Untrue}
+use Rattle.limits.specs.Reply.{number, place}
+use Rattle.limits.specs.declared.Refusal.{Refusal}
+use Rattle.limits.specs.declared.Refusal.the-variants.{Rows as Untrue}
 use Rattle.stand.specs.Spot.{stood}
 use Rattle.stand.specs.Find.{located}
 use Rattle.stand.specs.declared.spot.Stand.{Stand}

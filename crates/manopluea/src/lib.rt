@@ -14,7 +14,7 @@ ghost use Rattle.planfile.specs.Calls.{written, read as Calls·read};
 ghost use Rattle.stand.specs.Find.{found};
 ghost use Rattle.sight.specs.Listing.{listed};
 ghost use Rattle.doors.specs.Change.{changed};
-ghost use Rattle.plan.specs.Reply.{checked-reply};
+ghost use Rattle.limits.specs.Reply.{checked-reply};
 ghost use Rattle.stand.specs.Reply.{found-reply};
 ghost use Rattle.sight.specs.Reply.{listed-reply};
 ghost use Rattle.manopluea.specs.Calls.{check-replies, read-replies, write-replies, find-replies, list-replies, change-replies};

@@ -2,7 +2,7 @@
 ghost use mathlib.Core.Bool.{true};
 ghost use mathlib.Core.Path.{_≡_};
 ghost use Rattle.number.specs.Whole.{is-finite, is-whole, is-within, whole};
-use plan::Plan;
+use limits::Plan;
 
 // What a double reads as: a whole number of millimetres, or nothing that is accepted.
 pub enum Millimetres {

@@ -9,15 +9,15 @@ use lib.Dec.{eqb, ltb}
 use lib.ListN.{length}
 use lib.IntN.{ℤ}
 use Rattle.exact.proofs.Truth.{both-true}
-use Rattle.plan.specs.Limits.{sized}
+use Rattle.limits.specs.Limits.{sized}
 use Rattle.plan.specs.Lists.{corner-count, cell-count, face-count}
 use Rattle.plan.specs.Check.{framed, wrong-cell, wrong-door, refuse-if, checked, first-wrong-corner, first-wrong-cell, first-wrong-face, first-wrong-door}
 use Rattle.plan.specs.Sound.{Sound}
-use Rattle.plan.specs.declared.Plan.{Plan}
-use Rattle.plan.specs.declared.Refusal.{Refusal}
-use Rattle.plan.specs.declared.Refusal.the-variants.{Frame, Size, Corner, Cell, Neighbour, Door}
-use Rattle.plan.specs.declared.Checked.{Checked}
-use Rattle.plan.specs.declared.Checked.the-variants.{Accepted, Refused}
+use Rattle.limits.specs.declared.Plan.{Plan}
+use Rattle.limits.specs.declared.Refusal.{Refusal}
+use Rattle.limits.specs.declared.Refusal.the-variants.{Frame, Size, Corner, Cell, Neighbour, Door}
+use Rattle.limits.specs.declared.Checked.{Checked}
+use Rattle.limits.specs.declared.Checked.the-variants.{Accepted, Refused}
 use Rattle.plan.proofs.Least.{none-holds}
 use Rattle.plan.proofs.Checks.{corners-near, neighbours-right}
 

@@ -12,12 +12,12 @@ use lib.Signed.{_≤ℤ_, ltZ}
 use Rattle.exact.specs.Within.{Within}
 use Rattle.exact.proofs.Order.{ltZ-false}
 use Rattle.exact.proofs.Truth.{neither-true}
-use Rattle.plan.specs.Limits.{sized, coordinate-limit}
+use Rattle.limits.specs.Limits.{sized, coordinate-limit}
 use Rattle.plan.specs.Lists.{corner-count, cell-count, face-count, corner-at}
 use Rattle.plan.specs.Check.{outside, wrong-corner, checked, first-wrong-corner, first-wrong-cell, first-wrong-face, first-wrong-door}
 use Rattle.plan.specs.Sound.{CornersNear, NeighboursRight}
-use Rattle.plan.specs.declared.Refusal.the-variants.{Frame, Size, Corner, Cell, Neighbour, Door}
-use Rattle.plan.specs.declared.Checked.the-variants.{Accepted, Refused}
+use Rattle.limits.specs.declared.Refusal.the-variants.{Frame, Size, Corner, Cell, Neighbour, Door}
+use Rattle.limits.specs.declared.Checked.the-variants.{Accepted, Refused}
 use Rattle.plan.proofs.Least.{none-holds}
 
 -- ---- what passed

@@ -6,7 +6,7 @@ use Prim.Native.Nat.{ℕ, _<_, _≤_}
 use borrow.Author.Tests.{eq-eqb, ne-eqb, lt-ltb, le-ltb}
 use lib.Dec.{eqb}
 use lib.ListN.{getD}
-use Rattle.plan.specs.Limits.{wall}
+use Rattle.limits.specs.Limits.{wall}
 use Rattle.plan.specs.Least.{least}
 use Rattle.plan.specs.Lists.{neighbour, back, face-count}
 use Rattle.plan.specs.Check.{names, wrong-door}

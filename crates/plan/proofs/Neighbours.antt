@@ -8,7 +8,7 @@ use native.Mathlib.Omega.{arith}
 use borrow.Author.Tests.{eq-eqb, ne-eqb, lt-ltb, le-ltb, eqb-true, ltb-true, not-false}
 use lib.Dec.{eqb, ltb}
 use Rattle.exact.proofs.Truth.{both-true}
-use Rattle.plan.specs.Limits.{wall}
+use Rattle.limits.specs.Limits.{wall}
 use Rattle.plan.specs.Least.{least}
 use Rattle.plan.specs.Lists.{cell-count, next, start, neighbour, answers, back}
 use Rattle.plan.specs.Meeting.{Answered}

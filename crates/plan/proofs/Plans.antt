@@ -13,7 +13,7 @@ use Rattle.exact.proofs.Order.{𝟘, ltZ-true}
 use Rattle.exact.proofs.Truth.{both-true}
 use Rattle.plane.specs.Side.{Point, side}
 use Rattle.plane.proofs.Found.{side-turns-with-its-corners, flat-first-two, no-area-both-ways}
-use Rattle.plan.specs.Limits.{least-corners, most-corners, least-cells, most-cells, most-doors, sized, wall}
+use Rattle.limits.specs.Limits.{least-corners, most-corners, least-cells, most-cells, most-doors, sized, wall}
 use Rattle.plan.specs.Least.{least}
 use Rattle.plan.specs.Lists.{corner-count, cell-count, face-count, corner-at, next, start, neighbour, back}
 use Rattle.plan.specs.Meeting.{Answered, MeetOnce}

@@ -4,7 +4,7 @@ use mathlib.Core.Path.{_≡_, sym, _∙_}
 use Prim.Native.Nat.{ℕ}
 use lib.IntN.{ℤ}
 use Rattle.plan.specs.Check.{checked}
-use Rattle.plan.specs.declared.Checked.{Checked}
+use Rattle.limits.specs.declared.Checked.{Checked}
 
 pub check-has-one-reply : (cs : List ℤ) (ts ds : List ℕ) {r s : Checked} → r ≡ checked cs ts ds → s ≡ checked cs ts ds → r ≡ s
 check-has-one-reply cs ts ds h k = h ∙ sym k

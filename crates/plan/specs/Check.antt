@@ -7,13 +7,13 @@ use lib.ListN.{length, getD}
 use lib.IntN.{ℤ, pos, negℤ}
 use lib.Signed.{ltZ}
 use Rattle.plane.specs.Side.{side}
-use Rattle.plan.specs.Limits.{sized, wall, coordinate-limit}
+use Rattle.limits.specs.Limits.{sized, wall, coordinate-limit}
 use Rattle.plan.specs.Least.{least}
 use Rattle.plan.specs.Lists.{corner-count, cell-count, face-count, corner-at, start, neighbour, answers, back}
-use Rattle.plan.specs.declared.Refusal.{Refusal}
-use Rattle.plan.specs.declared.Refusal.the-variants.{Frame, Size, Corner, Cell, Neighbour, Door}
-use Rattle.plan.specs.declared.Checked.{Checked}
-use Rattle.plan.specs.declared.Checked.the-variants.{Accepted, Refused}
+use Rattle.limits.specs.declared.Refusal.{Refusal}
+use Rattle.limits.specs.declared.Refusal.the-variants.{Frame, Size, Corner, Cell, Neighbour, Door}
+use Rattle.limits.specs.declared.Checked.{Checked}
+use Rattle.limits.specs.declared.Checked.the-variants.{Accepted, Refused}
 
 -- the lists are multiples of 2, 6 and 1
 abbrev pub framed : List ℤ → List ℕ → Bool

@@ -6,7 +6,7 @@ use Prim.Native.Nat.{ℕ, _%_, _<_}
 use lib.ListN.{length}
 use lib.IntN.{ℤ}
 use Rattle.plane.specs.Side.{Near}
-use Rattle.plan.specs.Limits.{sized}
+use Rattle.limits.specs.Limits.{sized}
 use Rattle.plan.specs.Lists.{corner-count, corner-at, cell-count, face-count, start}
 use Rattle.plan.specs.Check.{wrong-cell, wrong-neighbour, wrong-door}
 

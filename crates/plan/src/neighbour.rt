@@ -1,7 +1,7 @@
 // Neighbours: wall, or an existing cell with a side that answers.
 ghost use Prim.Native.Nat.{_<_};
 ghost use mathlib.Core.Path.{_≡_};
-ghost use Rattle.plan.specs.Limits.{wall};
+ghost use Rattle.limits.specs.Limits.{wall};
 ghost use Rattle.plan.specs.Least.{least};
 ghost use Rattle.plan.specs.Lists.{cell-count, face-count, neighbour, back as Lists·back};
 ghost use Rattle.plan.specs.Meeting.{reversed, Meeting, MeetOnce};

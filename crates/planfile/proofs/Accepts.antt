@@ -6,12 +6,12 @@ use Prim.Native.Nat.{ℕ, _*_, _≤_}
 use native.Mathlib.Omega.{arith}
 use lib.ListN.{length}
 use lib.IntN.{ℤ}
-use Rattle.plan.specs.Limits.{most-corners, most-cells, most-doors}
+use Rattle.limits.specs.Limits.{most-corners, most-cells, most-doors}
 use Rattle.plan.specs.Check.{checked}
-use Rattle.plan.specs.declared.Plan.{Plan}
-use Rattle.plan.specs.declared.Refusal.{Refusal}
-use Rattle.plan.specs.declared.Checked.{Checked}
-use Rattle.plan.specs.declared.Checked.the-variants.{Accepted, Refused}
+use Rattle.limits.specs.declared.Plan.{Plan}
+use Rattle.limits.specs.declared.Refusal.{Refusal}
+use Rattle.limits.specs.declared.Checked.{Checked}
+use Rattle.limits.specs.declared.Checked.the-variants.{Accepted, Refused}
 use Rattle.plan.proofs.Accepted.{accepted-is-sound}
 use Rattle.plan.proofs.Plans.{counts}
 use Rattle.planfile.specs.Calls.{given-room}

@@ -9,8 +9,8 @@ use lib.IntN.{ℤ, pos, negsuc}
 use lib.Signed.{mag}
 use Rattle.plan.specs.Check.{checked}
 use Rattle.plan.specs.Sound.{Sound}
-use Rattle.plan.specs.declared.Plan.{Plan}
-use Rattle.plan.specs.declared.Checked.the-variants.{Accepted}
+use Rattle.limits.specs.declared.Plan.{Plan}
+use Rattle.limits.specs.declared.Checked.the-variants.{Accepted}
 use Rattle.plan.proofs.Accepted.{accepted-is-sound}
 use Rattle.records.specs.Bytes.{all-bytes, numbers-at, complement, signed}
 use Rattle.records.specs.Record.{record-of, corner-record, cell-record, door-record, body-length, second, third, framed}

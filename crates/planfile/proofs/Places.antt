@@ -5,7 +5,7 @@ use mathlib.Core.Path.{_≡_, sym, ap, _∙_}
 use Prim.Native.Nat.{ℕ, _+_, _-_, _*_, _/_, _%_, _≤_}
 use native.Mathlib.Omega.{arith}
 use lib.ListN.{length}
-use Rattle.plan.specs.Limits.{most-corners, most-cells, most-doors, sized}
+use Rattle.limits.specs.Limits.{most-corners, most-cells, most-doors, sized}
 use Rattle.plan.proofs.Plans.{counts}
 use Rattle.records.specs.Bytes.{numbers-at, signed}
 use Rattle.records.specs.Record.{body-length, end-of, second, third, framed}

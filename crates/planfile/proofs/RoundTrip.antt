@@ -13,10 +13,10 @@ use lib.IntN.{ℤ}
 use Rattle.exact.proofs.Lent.{Leaves, first-is-new, rest-is-kept, written-leaves}
 use Rattle.exact.proofs.Truth.{both-true}
 use Rattle.plan.specs.Check.{checked}
-use Rattle.plan.specs.declared.Plan.{Plan}
-use Rattle.plan.specs.declared.Refusal.the-variants.{Frame}
-use Rattle.plan.specs.declared.Checked.{Checked}
-use Rattle.plan.specs.declared.Checked.the-variants.{Accepted}
+use Rattle.limits.specs.declared.Plan.{Plan}
+use Rattle.limits.specs.declared.Refusal.the-variants.{Frame}
+use Rattle.limits.specs.declared.Checked.{Checked}
+use Rattle.limits.specs.declared.Checked.the-variants.{Accepted}
 use Rattle.plan.proofs.Accepted.{passed}
 use Rattle.records.specs.Bytes.{complement, AllBytes}
 use Rattle.records.specs.Record.{corner-record, cell-record, door-record, framed}

@@ -7,7 +7,7 @@ use native.Mathlib.Omega.{arith}
 use lib.ListN.{length, getD, List·getD-eq-default}
 use lib.IntN.{ℤ, pos, negsuc, natAbs}
 use lib.Signed.{mag}
-use Rattle.plan.specs.Limits.{wall}
+use Rattle.limits.specs.Limits.{wall}
 use Rattle.plan.specs.Lists.{corner-count, cell-count, face-count, start, neighbour}
 use Rattle.plan.specs.Sound.{Sound}
 use Rattle.plan.proofs.Neighbours.{right-and-free}

@@ -9,11 +9,11 @@ use lib.ListN.{length, length-append}
 use lib.Seq.{sets}
 use lib.IntN.{ℤ}
 use Rattle.plan.specs.Check.{checked}
-use Rattle.plan.specs.declared.Plan.{Plan}
-use Rattle.plan.specs.declared.Refusal.{Refusal}
-use Rattle.plan.specs.declared.Refusal.the-variants.{Room}
-use Rattle.plan.specs.declared.Checked.{Checked}
-use Rattle.plan.specs.declared.Checked.the-variants.{Accepted, Refused}
+use Rattle.limits.specs.declared.Plan.{Plan}
+use Rattle.limits.specs.declared.Refusal.{Refusal}
+use Rattle.limits.specs.declared.Refusal.the-variants.{Room}
+use Rattle.limits.specs.declared.Checked.{Checked}
+use Rattle.limits.specs.declared.Checked.the-variants.{Accepted, Refused}
 use Rattle.records.specs.Bytes.{all-bytes}
 use Rattle.records.specs.Record.{record-of, corner-record, cell-record, door-record}
 use Rattle.records.proofs.Spelled.{length-corner-record, length-number-record}

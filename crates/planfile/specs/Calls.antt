@@ -7,9 +7,9 @@ use lib.ListN.{length}
 use lib.Seq.{sets}
 use lib.IntN.{ℤ}
 use Rattle.plan.specs.Check.{checked, refuse-if}
-use Rattle.plan.specs.declared.Refusal.the-variants.{Frame, Room}
-use Rattle.plan.specs.declared.Checked.{Checked}
-use Rattle.plan.specs.declared.Checked.the-variants.{Accepted, Refused}
+use Rattle.limits.specs.declared.Refusal.the-variants.{Frame, Room}
+use Rattle.limits.specs.declared.Checked.{Checked}
+use Rattle.limits.specs.declared.Checked.the-variants.{Accepted, Refused}
 use Rattle.records.specs.Record.{framed}
 use Rattle.planfile.specs.File.{file-of, corners-in, cells-in, doors-in}
 

@@ -3,7 +3,7 @@ ghost use mathlib.Core.Bool.{true};
 ghost use mathlib.Core.Path.{_≡_};
 ghost use Prim.Native.Nat.{_*_, _≤_};
 ghost use lib.ListN.{length};
-ghost use Rattle.plan.specs.Limits.{most-corners, most-cells, most-doors};
+ghost use Rattle.limits.specs.Limits.{most-corners, most-cells, most-doors};
 ghost use Rattle.records.specs.Record.{framed};
 ghost use Rattle.planfile.specs.Calls.{written, lists-reply, handed-over, read as Calls·read};
 use plan::Checked;

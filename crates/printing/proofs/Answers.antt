@@ -11,7 +11,7 @@ use lib.Ieee.{Float}
 use lib.ListN.{length, take, drop, length-drop}
 use lib.Seq.{take-all}
 use Rattle.exact.proofs.Truth.{both-true}
-use Rattle.plan.specs.declared.Refusal.the-variants as R
+use Rattle.limits.specs.declared.Refusal.the-variants as R
 use Rattle.records.specs.Bytes.{number-at}
 use Rattle.records.specs.Bits.{bits-at}
 use Rattle.stand.specs.declared.spot.Stand.the-variants.{Point, Offset}

@@ -9,13 +9,13 @@ use lib.ListN.{length, take}
 use lib.Seq.{sets, length-sets}
 use lib.IntN.{ℤ}
 use Rattle.exact.proofs.Lent.{first-is-new}
-use Rattle.plan.specs.Limits.{most-corners, most-cells, most-doors}
+use Rattle.limits.specs.Limits.{most-corners, most-cells, most-doors}
 use Rattle.plan.specs.Check.{checked}
-use Rattle.plan.specs.declared.Plan.{Plan}
-use Rattle.plan.specs.declared.Refusal.{Refusal}
-use Rattle.plan.specs.declared.Refusal.the-variants as R
-use Rattle.plan.specs.declared.Checked.{Checked}
-use Rattle.plan.specs.declared.Checked.the-variants.{Accepted, Refused}
+use Rattle.limits.specs.declared.Plan.{Plan}
+use Rattle.limits.specs.declared.Refusal.{Refusal}
+use Rattle.limits.specs.declared.Refusal.the-variants as R
+use Rattle.limits.specs.declared.Checked.{Checked}
+use Rattle.limits.specs.declared.Checked.the-variants.{Accepted, Refused}
 use Rattle.plan.proofs.Accepted.{accepted-is-sound}
 use Rattle.records.specs.Record.{framed}
 use Rattle.planfile.specs.File.{corners-in, cells-in, doors-in}

@@ -6,8 +6,8 @@ use Prim.Native.Nat.{ℕ, _*_, _≤_}
 use native.Mathlib.Omega.{arith}
 use lib.ListN.{length}
 use lib.IntN.{ℤ}
-use Rattle.plan.specs.Limits.{most-corners}
-use Rattle.plan.specs.declared.Refusal.the-variants as R
+use Rattle.limits.specs.Limits.{most-corners}
+use Rattle.limits.specs.declared.Refusal.the-variants as R
 use Rattle.plan.proofs.Plans.{counts}
 use Rattle.records.specs.Record.{framed}
 use Rattle.planfile.specs.File.{corners-in, cells-in, doors-in}

@@ -6,8 +6,8 @@ use lib.Dec.{eqb, ltb, leb}
 use lib.Ieee.{binary64, ofBits, Float}
 use lib.ListN.{length, drop, replicate}
 use lib.Seq.{sets}
-use Rattle.plan.specs.Limits.{most-corners}
-use Rattle.plan.specs.declared.Refusal.the-variants as R
+use Rattle.limits.specs.Limits.{most-corners}
+use Rattle.limits.specs.declared.Refusal.the-variants as R
 use Rattle.records.specs.Bytes.{number-at}
 use Rattle.records.specs.Record.{framed}
 use Rattle.planfile.specs.File.{corners-in, cells-in, doors-in}

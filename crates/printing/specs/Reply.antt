@@ -1,7 +1,7 @@
 -- The answer of printing in document 01's numbers ("Reply numbers"), with what stands in the lent text at exit.
 use mathlib.Core.List.{List, [], _∷_}
 use Prim.Native.Nat.{ℕ}
-use Rattle.plan.specs.Reply.{Reply, done, refused}
+use Rattle.limits.specs.Reply.{Reply, done, refused}
 use Rattle.manopluea.specs.Calls.{in-numbers}
 use Rattle.printing.specs.declared.Printed.{Printed}
 use Rattle.printing.specs.declared.Printed.the-variants.{Text, Refused}

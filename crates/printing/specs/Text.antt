@@ -4,8 +4,8 @@ use mathlib.Core.List.{List, [], _∷_, _++_}
 use Prim.Native.Nat.{ℕ, zero, suc, _+_, _*_, _/_, _%_}
 use lib.Dec.{ltb}
 use lib.ListN.{getD}
-use Rattle.plan.specs.Reply.{refused}
-use Rattle.plan.specs.declared.Refusal.{Refusal}
+use Rattle.limits.specs.Reply.{refused}
+use Rattle.limits.specs.declared.Refusal.{Refusal}
 use Rattle.printing.specs.Word.{word}
 
 -- the digits of a number, the highest first, through at most k of them

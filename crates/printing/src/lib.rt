@@ -3,7 +3,7 @@ ghost use mathlib.Core.Bool.{true};
 ghost use mathlib.Core.Path.{_≡_};
 ghost use Prim.Native.Nat.{_*_, _≤_};
 ghost use lib.ListN.{length};
-ghost use Rattle.plan.specs.Limits.{most-corners, most-cells, most-doors};
+ghost use Rattle.limits.specs.Limits.{most-corners, most-cells, most-doors};
 ghost use Rattle.printing.specs.Print.{most-text, begins as Print·begins, file-listed, lines, blank-table, printed, answered, Within};
 ghost use Rattle.printing.specs.Reply.{printed-reply, print-replies};
 ghost use Rattle.printing.specs.Wrote.{Wrote};

@@ -6,8 +6,8 @@ ghost use lib.ListN.{length};
 ghost use lib.Seq.{sets};
 ghost use Rattle.printing.specs.Text.{decimal, number-then, refusal-line, count-line, row-line, row-lines};
 ghost use Rattle.printing.specs.Wrote.{Wrote};
+use limits::reply;
 use manopluea::Refusal;
-use plan::reply;
 
 // The bytes of a word.
 fn put(text: &mut [u8], at: usize, word: &[u8]) -> usize

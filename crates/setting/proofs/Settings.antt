@@ -14,7 +14,7 @@ use lib.Bits.{bitAnd, bitOr, and-high, and-le-l, and-step, or-add-and, or-lt}
 use lib.Dec.{eqb, ltb, lit<}
 use lib.ListN.{length, getD}
 use lib.Pow.{pow-pos, pow-mono, pow-lt, shl-exact, shr-shr}
-use Rattle.plan.specs.Limits.{wall}
+use Rattle.limits.specs.Limits.{wall}
 use Rattle.plan.specs.Least.{least}
 use Rattle.plan.specs.Lists.{neighbour, back}
 use Rattle.plan.specs.Check.{names}

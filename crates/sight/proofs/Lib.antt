@@ -36,10 +36,6 @@ pub mod Views
 pub mod Tables
 -- what `list` writes is those rows; each wall met first has one; the promise leaves one reply
 pub mod Written
--- the loops that draw the table of lines: the faces so far, then the doors so far
-pub mod Marks
--- the face that starts at a given corner of a cell: on an accepted plan the one across
-pub mod Facing
 -- a drawn table is a table of lines, and following it is following the plan's floor
 pub mod Lined
 -- the three sides one behind the other in the table: room, sums, and what is written

@@ -10,7 +10,7 @@ use lib.ListN.{length, getD}
 use lib.Seq.{ext-getD}
 use lib.IntN.{ℤ}
 use Rattle.plane.specs.Side.{Point}
-use Rattle.plan.specs.Limits.{wall}
+use Rattle.limits.specs.Limits.{wall}
 use Rattle.plan.specs.Lists.{corner-count, cell-count, face-count, next, back}
 use Rattle.setting.specs.Setting.{ends}
 use Rattle.plan.specs.Sound.{Sound}
@@ -23,9 +23,9 @@ use Rattle.expand.specs.Sight.Place.{between, right-of-r, left-of-l}
 use Rattle.expand.specs.Sight.Sight.{pass, both}
 use Rattle.expand.specs.Floor.{floor-of, Lines}
 use Rattle.sight.specs.Listing.{plan-floor}
-use Rattle.sight.specs.Lined.{SoundCells, Lined}
+use Rattle.lines.specs.Lined.{SoundCells, Lined}
 use Rattle.expand.proofs.Trees.{follow-a-wall, follow-too-far, follow-across, hand-on-both, hand-on-the-left, hand-on-the-right}
-use Rattle.sight.proofs.Marks.{across-where-sight-ends, across-where-sight-passes}
+use Rattle.lines.proofs.Marks.{across-where-sight-ends, across-where-sight-passes}
 
 -- the cells and doors of an accepted plan
 pub sound-cells : {cs : List ℤ} {ts ds : List ℕ} → Sound cs ts ds → SoundCells ts ds

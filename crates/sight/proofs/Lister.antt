@@ -17,7 +17,7 @@ use Rattle.expand.specs.Sight.{Sight, numbers, row-count, crossings, Whole}
 use Rattle.expand.specs.Sight.Sight.{both}
 use Rattle.expand.specs.Sight.Whole.{whole-both}
 use Rattle.sight.specs.CellTree.{side-tree, cell-tree}
-use Rattle.sight.specs.Lined.{Lined}
+use Rattle.lines.specs.Lined.{Lined}
 use Rattle.sight.specs.Listing.{finish, through, listing-numbers, listing-row-count, listing-crossings}
 use Rattle.sight.proofs.Lined.{lined-floor-agrees}
 use Rattle.sight.proofs.Sightings.{first-side-is-whole, second-side-is-whole, third-side-is-whole, rows-never-outnumber-corners, crossings-never-exceed-rows-times-other-cells}

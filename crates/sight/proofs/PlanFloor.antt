@@ -13,7 +13,7 @@ use Rattle.exact.proofs.Order.{𝟘, leZ-true, leZ-false}
 use Rattle.plane.specs.Side.{Point, side}
 use Rattle.plane.specs.Cone.{cross, Between}
 use Rattle.plane.proofs.Found.{side-from-the-stand, side-positive-is-beyond}
-use Rattle.plan.specs.Limits.{wall}
+use Rattle.limits.specs.Limits.{wall}
 use Rattle.plan.specs.Least.{least}
 use Rattle.plan.specs.Lists.{cell-count, face-count, corner-at, next, start, neighbour, back}
 use Rattle.setting.specs.Setting.{ends, bars}

@@ -17,11 +17,11 @@ use Rattle.plan.specs.Lists.{corner-count}
 use Rattle.setting.specs.Setting.{wrong-setting}
 use Rattle.plan.specs.Check.{checked}
 use Rattle.plan.specs.Sound.{CornersNear, CornersExist, Sound}
-use Rattle.plan.specs.declared.Plan.{Plan}
-use Rattle.plan.specs.declared.Refusal.{Refusal}
-use Rattle.plan.specs.declared.Refusal.the-variants as R
-use Rattle.plan.specs.declared.Checked.{Checked}
-use Rattle.plan.specs.declared.Checked.the-variants as C
+use Rattle.limits.specs.declared.Plan.{Plan}
+use Rattle.limits.specs.declared.Refusal.{Refusal}
+use Rattle.limits.specs.declared.Refusal.the-variants as R
+use Rattle.limits.specs.declared.Checked.{Checked}
+use Rattle.limits.specs.declared.Checked.the-variants as C
 use Rattle.plan.proofs.Accepted.{accepted-is-sound}
 use Rattle.plan.proofs.Plans.{corners-exist, counts}
 use Rattle.stand.specs.Spot.{stood}

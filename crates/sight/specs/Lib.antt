@@ -1,7 +1,5 @@
 -- what is seen through the three sides of a cell, over the table of lines
 pub mod CellTree
--- the table of lines that the code draws of a plan under its setting
-pub mod Lined
 -- the listing: its floor, rows, numbers and counts; replies 1 to 11; the reply and the table at exit
 pub mod Listing
 -- rows as the numbers of a table

@@ -11,10 +11,10 @@ use Rattle.plane.specs.Cone.{minus}
 use Rattle.plan.specs.Lists.{corner-count, cell-count, corner-at, next, start, back}
 use Rattle.setting.specs.Setting.{ends, wrong-setting}
 use Rattle.plan.specs.Check.{checked}
-use Rattle.plan.specs.declared.Refusal.{Refusal}
-use Rattle.plan.specs.declared.Refusal.the-variants as R
-use Rattle.plan.specs.declared.Checked.{Checked}
-use Rattle.plan.specs.declared.Checked.the-variants as C
+use Rattle.limits.specs.declared.Refusal.{Refusal}
+use Rattle.limits.specs.declared.Refusal.the-variants as R
+use Rattle.limits.specs.declared.Checked.{Checked}
+use Rattle.limits.specs.declared.Checked.the-variants as C
 use Rattle.stand.specs.Spot.{stood}
 use Rattle.stand.specs.Find.{located}
 use Rattle.stand.specs.declared.spot.Stand.{Stand}

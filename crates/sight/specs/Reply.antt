@@ -1,6 +1,6 @@
 -- The answer of listing and door change in document 01's numbers ("Reply numbers").
 use mathlib.Core.List.{[], _∷_}
-use Rattle.plan.specs.Reply.{Reply, done, refused}
+use Rattle.limits.specs.Reply.{Reply, done, refused}
 use Rattle.sight.specs.declared.list.Listed.{Listed}
 use Rattle.sight.specs.declared.list.Listed.the-variants.{Rows, Refused}
 

@@ -1,4 +1,3 @@
-// Sight: the lines of a plan under its setting, and the listing over the expansion (document 01, "Expansion").
-pub mod lines;
+// Sight: the listing over the expansion (document 01, "Expansion").
 pub mod list;
 pub mod view;

@@ -14,10 +14,10 @@ use Rattle.plane.specs.declared.Containment.{Containment}
 use Rattle.plan.specs.Lists.{corner-count, cell-count, face-count, corner-at, start}
 use Rattle.plan.specs.Sound.{CornersNear, CornersExist}
 use Rattle.plan.specs.Check.{checked}
-use Rattle.plan.specs.declared.Plan.{Plan}
-use Rattle.plan.specs.declared.Refusal.{Refusal}
-use Rattle.plan.specs.declared.Refusal.the-variants.{Line, Outside, Stand as Stand′}
-use Rattle.plan.specs.declared.Checked.the-variants as C
+use Rattle.limits.specs.declared.Plan.{Plan}
+use Rattle.limits.specs.declared.Refusal.{Refusal}
+use Rattle.limits.specs.declared.Refusal.the-variants.{Line, Outside, Stand as Stand′}
+use Rattle.limits.specs.declared.Checked.the-variants as C
 use Rattle.plan.proofs.Accepted.{accepted-is-sound}
 use Rattle.plan.proofs.Plans.{corners-exist}
 use Rattle.stand.specs.Spot.{stood}

@@ -17,7 +17,7 @@ use Rattle.plane.proofs.Sides.{inside-has-three-positive-sides}
 use Rattle.plane.proofs.Found.{side-turns-with-its-corners, side-from-the-stand}
 use Rattle.plan.specs.Lists.{cell-count, corner-at, start}
 use Rattle.plan.proofs.Least.{holds-at-least, fails-before-least, none-holds, not-both}
-use Rattle.plan.specs.declared.Refusal.the-variants as R
+use Rattle.limits.specs.declared.Refusal.the-variants as R
 use Rattle.stand.specs.Find.{against, is-inside, is-border, first-inside, first-border, by-cells, located}
 use Rattle.stand.specs.declared.find.Found.the-variants.{Cell, Refused}
 

@@ -11,9 +11,9 @@ use Rattle.plane.specs.declared.Containment.the-variants.{Inside, Border, Outsi
 use Rattle.plan.specs.Least.{least}
 use Rattle.plan.specs.Lists.{cell-count, corner-at, start}
 use Rattle.plan.specs.Check.{checked}
-use Rattle.plan.specs.declared.Refusal.the-variants as R
-use Rattle.plan.specs.declared.Checked.{Checked}
-use Rattle.plan.specs.declared.Checked.the-variants as C
+use Rattle.limits.specs.declared.Refusal.the-variants as R
+use Rattle.limits.specs.declared.Checked.{Checked}
+use Rattle.limits.specs.declared.Checked.the-variants as C
 use Rattle.stand.specs.Spot.{stood}
 use Rattle.stand.specs.declared.spot.Stand.{Stand}
 use Rattle.stand.specs.declared.spot.Spot.{Spot}

@@ -1,6 +1,6 @@
 -- Finding's answer in document 01's numbers ("Reply numbers").
 use mathlib.Core.List.{[], _∷_}
-use Rattle.plan.specs.Reply.{Reply, done, refused}
+use Rattle.limits.specs.Reply.{Reply, done, refused}
 use Rattle.stand.specs.declared.find.Found.{Found}
 use Rattle.stand.specs.declared.find.Found.the-variants.{Cell, Refused}
 

@@ -1,5 +1,5 @@
 -- `manopluea::read` meets its contract.
-use Rattle.plan.specs.Reply.{checked-reply}
+use Rattle.limits.specs.Reply.{checked-reply}
 use Rattle.manopluea.specs.Calls.{in-numbers}
 use Rattle.manopluea.proofs.Numbered.{said-twice}
 use borrow.Author.Needs.{needs}

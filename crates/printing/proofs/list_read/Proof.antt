@@ -5,8 +5,8 @@ use Prim.Native.Nat.{_*_, _≤_}
 use denote.Ref.{now}
 use lib.ListN.{length}
 use lib.Seq.{length-take-le}
-use Rattle.plan.specs.Limits.{most-corners, most-cells}
-use Rattle.plan.specs.declared.Plan.{Plan}
+use Rattle.limits.specs.Limits.{most-corners, most-cells}
+use Rattle.limits.specs.declared.Plan.{Plan}
 use Rattle.printing.proofs.Files.{refused-by-the-reader, long, within, listed-from-the-reader}
 use borrow.Author.Needs.{needs}
 use Rattle.printing.proofs.list_read.Statement.{statement}

@@ -1,7 +1,7 @@
 -- `exports::reply::put_checked` meets its contract.
 use mathlib.Core.Path.{refl}
 use denote.Ref.{now}
-use Rattle.plan.specs.Reply.{checked-reply}
+use Rattle.limits.specs.Reply.{checked-reply}
 use Rattle.exports.proofs.Replies.{put-as, put-refused}
 use borrow.Author.Needs.{needs}
 use Rattle.exports.proofs.reply.put_checked.Statement.{statement}

@@ -5,7 +5,7 @@ use lib.IntN.{ℤ, pos, negℤ}
 use lib.Signed.{ltZ}
 use mir.Syntax.{w32}
 use Rattle.exact.proofs.Bounds.{handed}
-use Rattle.plan.specs.Limits.{coordinate-limit}
+use Rattle.limits.specs.Limits.{coordinate-limit}
 use Rattle.plan.specs.Check.{outside}
 use borrow.Author.Needs.{needs}
 use Rattle.plan.proofs.corner.is_outside.Statement.{statement}

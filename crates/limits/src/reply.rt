@@ -1,6 +1,6 @@
 // Document 01's number and place of each refusal ("Reply numbers").
 ghost use mathlib.Core.Path.{_≡_};
-ghost use Rattle.plan.specs.Reply.{number as Reply·number, place as Reply·place};
+ghost use Rattle.limits.specs.Reply.{number as Reply·number, place as Reply·place};
 use crate::Refusal;
 
 pub fn number(r: Refusal) -> u64

@@ -1,13 +1,13 @@
--- `sight::lines::shut_doors` meets its contract.
+-- `lines::shut_doors` meets its contract.
 use mathlib.Core.Path.{sym, _∙_, subst}
 use mathlib.Core.Logic.{⊎-elim}
 use Prim.Native.Nat.{_≤_, _-_, _+_}
 use native.Mathlib.Omega.{arith}
 use denote.Ref.{now}
 use Rattle.plan.proofs.Plans.{counts, meet-once, door-exists, door-is-free}
-use Rattle.sight.proofs.Marks.{Marked, marks-begin, marks-end, past-an-open-door, past-a-shut-door}
-use Rattle.sight.proofs.lines.shut_doors.Statement.{statement}
-use Rattle.sight.proofs.lines.shut_doors.Tie as tie
+use Rattle.lines.proofs.Marks.{Marked, marks-begin, marks-end, past-an-open-door, past-a-shut-door}
+use Rattle.lines.proofs.shut_doors.Statement.{statement}
+use Rattle.lines.proofs.shut_doors.Tie as tie
 
 abbrev Inv-loop : tie.InvT-loop
 Inv-loop cells doors setting lines₀ k i₀ lines i = (i ≤ k) × Marked cells doors setting i lines

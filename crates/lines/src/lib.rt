@@ -3,11 +3,11 @@ ghost use Prim.Native.Nat.{_+_, _*_, _<_, _≤_};
 ghost use mathlib.Core.List.{[]};
 ghost use mathlib.Core.Path.{_≡_};
 ghost use lib.ListN.{length, set};
-ghost use Rattle.plan.specs.Limits.{most-cells, wall};
+ghost use Rattle.limits.specs.Limits.{most-cells, wall};
 ghost use Rattle.plan.specs.Lists.{cell-count, face-count, neighbour};
 ghost use Rattle.plan.specs.Meeting.{MeetOnce};
 ghost use Rattle.plan.specs.Sound.{NeighboursRight};
-ghost use Rattle.sight.specs.Lined.{SoundCells, facing as Lined·facing, Facing, Lined, shut-line};
+ghost use Rattle.lines.specs.Lined.{SoundCells, facing as Lined·facing, Facing, Lined, shut-line};
 use plan::Plan;
 use plan::neighbour;
 

@@ -1,9 +1,9 @@
--- `sight::lines::lines_of` meets its contract.
+-- `lines::lines_of` meets its contract.
 use Rattle.plan.proofs.Plans.{counts}
-use Rattle.sight.proofs.Facing.{faces-across}
+use Rattle.lines.proofs.Across.{faces-across}
 use borrow.Author.Needs.{needs}
-use Rattle.sight.proofs.lines.lines_of.Statement.{statement}
-use Rattle.sight.proofs.lines.lines_of.Tie as tie
+use Rattle.lines.proofs.lines_of.Statement.{statement}
+use Rattle.lines.proofs.lines_of.Tie as tie
 
 draw-requires : tie.Need-draw-requires
 draw-requires c κs =

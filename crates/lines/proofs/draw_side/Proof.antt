@@ -1,11 +1,11 @@
--- `sight::lines::draw_side` meets its contract.
+-- `lines::draw_side` meets its contract.
 use mathlib.Core.Path.{ap}
 use Prim.Native.Nat.{ℕ, _+_, _*_}
 use denote.Ref.{now}
 use lib.ListN.{set}
 use borrow.Author.Needs.{needs}
-use Rattle.sight.proofs.lines.draw_side.Statement.{statement}
-use Rattle.sight.proofs.lines.draw_side.Tie as tie
+use Rattle.lines.proofs.draw_side.Statement.{statement}
+use Rattle.lines.proofs.draw_side.Tie as tie
 
 mul-lines : tie.Need-mul-lines
 mul-lines c = search needs

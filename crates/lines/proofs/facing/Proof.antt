@@ -1,10 +1,10 @@
--- `sight::lines::facing` meets its contract.
+-- `lines::facing` meets its contract.
 use mathlib.Core.Path.{sym}
 use native.Mathlib.Omega.{arith}
-use Rattle.sight.proofs.Facing.{facing-a-wall, facing-second, facing-third, facing-first}
+use Rattle.lines.proofs.Across.{facing-a-wall, facing-second, facing-third, facing-first}
 use borrow.Author.Needs.{needs}
-use Rattle.sight.proofs.lines.facing.Statement.{statement}
-use Rattle.sight.proofs.lines.facing.Tie as tie
+use Rattle.lines.proofs.facing.Statement.{statement}
+use Rattle.lines.proofs.facing.Tie as tie
 
 returns : tie.Need-returns
 returns c = sym (facing-a-wall _ _ _ (c .if1 .taken))

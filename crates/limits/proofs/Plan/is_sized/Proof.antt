@@ -1,13 +1,13 @@
--- `plan::Plan::is_sized` meets its contract: one count outside the limits is enough to refuse, and the door count decides where the others are within.
+-- `limits::Plan::is_sized` meets its contract: one count outside the limits is enough to refuse, and the door count decides where the others are within.
 use mathlib.Core.Path.{_≡_}
 use mathlib.Core.Bool.{false, _&&_, and-false}
 use Prim.Native.Nat.{ℕ, _≤_, _<_}
 use native.Mathlib.Omega.{arith}
 use lib.Dec.{leb}
 use borrow.Author.Tests.{le-leb, lt-leb}
-use Rattle.plan.specs.Limits.{sized, least-corners, most-corners, least-cells, most-cells, most-doors}
-use Rattle.plan.proofs.Plan.is_sized.Statement.{statement}
-use Rattle.plan.proofs.Plan.is_sized.Tie as tie
+use Rattle.limits.specs.Limits.{sized, least-corners, most-corners, least-cells, most-cells, most-doors}
+use Rattle.limits.proofs.Plan.is_sized.Statement.{statement}
+use Rattle.limits.proofs.Plan.is_sized.Tie as tie
 
 module _ (n m k : ℕ) where
   too-few-corners : n < least-corners → false ≡ sized n m k

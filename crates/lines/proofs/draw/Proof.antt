@@ -1,11 +1,11 @@
--- `sight::lines::draw` meets its contract.
+-- `lines::draw` meets its contract.
 use Prim.Native.Nat.{_+_, _*_, _≤_, _-_}
 use native.Mathlib.Omega.{arith}
 use Rattle.plan.proofs.Faces.{after-first, after-second, after-third}
-use Rattle.sight.proofs.Marks.{Drawn, drawn-begins, drawn-ends}
-use Rattle.sight.proofs.Facing.{wall-or-cell, drawn-side}
-use Rattle.sight.proofs.lines.draw.Statement.{statement}
-use Rattle.sight.proofs.lines.draw.Tie as tie
+use Rattle.lines.proofs.Marks.{Drawn, drawn-begins, drawn-ends}
+use Rattle.lines.proofs.Across.{wall-or-cell, drawn-side}
+use Rattle.lines.proofs.draw.Statement.{statement}
+use Rattle.lines.proofs.draw.Tie as tie
 
 abbrev Inv-loop : tie.InvT-loop
 Inv-loop cells lines₀ m c₀ lines c = (c ≤ m) × Drawn cells (3 * c) lines

@@ -7,12 +7,12 @@ use native.Mathlib.Omega.{arith}
 use borrow.Author.Tests.{eq-eqb, ne-eqb}
 use lib.ListN.{getD, set}
 use lib.IntN.{ℤ}
-use Rattle.plan.specs.Limits.{wall}
+use Rattle.limits.specs.Limits.{wall}
 use Rattle.plan.specs.Lists.{cell-count, face-count, next, start, neighbour, back}
 use Rattle.plan.specs.Sound.{NeighboursRight, Sound}
 use Rattle.plan.proofs.Plans.{back-is-in-the-neighbour, back-starts-at-the-finish, only-one-back}
-use Rattle.sight.specs.Lined.{across, facing, Facing}
-use Rattle.sight.proofs.Marks.{across-a-wall, across-without-doors, neighbour-exists, Drawn, drawn-goes-on}
+use Rattle.lines.specs.Lined.{across, facing, Facing}
+use Rattle.lines.proofs.Marks.{across-a-wall, across-without-doors, neighbour-exists, Drawn, drawn-goes-on}
 
 -- ---- case by case
 

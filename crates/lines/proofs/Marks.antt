@@ -10,7 +10,7 @@ use lib.Dec.{eqb, ltb}
 use lib.ListN.{length, getD, set, length-set}
 use lib.Seq.{getD-set-same, getD-set-other}
 use lib.IntN.{ℤ}
-use Rattle.plan.specs.Limits.{wall}
+use Rattle.limits.specs.Limits.{wall}
 use Rattle.plan.specs.Least.{least}
 use Rattle.plan.specs.Lists.{cell-count, face-count, start, neighbour, back}
 use Rattle.plan.specs.Check.{names}
@@ -21,7 +21,7 @@ use Rattle.plan.proofs.Neighbours.{or-true, right-and-free}
 use Rattle.plan.proofs.Doors.{names-the-face, names-the-back, names-neither}
 use Rattle.plan.proofs.Plans.{back-exists, back-of-back, door-exists, door-is-free}
 use Rattle.setting.proofs.Settings.{an-open-door-bars-nothing, a-door-elsewhere-bars-nothing, sight-ends-at-a-wall, sight-passes-elsewhere}
-use Rattle.sight.specs.Lined.{across, Lined, shut-line}
+use Rattle.lines.specs.Lined.{across, Lined, shut-line}
 
 -- ---- what is across a face
 

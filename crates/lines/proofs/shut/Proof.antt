@@ -1,15 +1,15 @@
--- `sight::lines::shut` meets its contract.
+-- `lines::shut` meets its contract.
 use mathlib.Core.Path.{refl}
 use Prim.Native.Nat.{_<_}
 use native.Mathlib.Omega.{arith}
 use denote.Ref.{now}
 use lib.ListN.{length-set}
 use Rattle.plan.specs.Lists.{face-count}
-use Rattle.sight.specs.Lined.{shut-line}
-use Rattle.sight.proofs.Marks.{back-is-a-face}
+use Rattle.lines.specs.Lined.{shut-line}
+use Rattle.lines.proofs.Marks.{back-is-a-face}
 use borrow.Author.Needs.{needs}
-use Rattle.sight.proofs.lines.shut.Statement.{statement}
-use Rattle.sight.proofs.lines.shut.Tie as tie
+use Rattle.lines.proofs.shut.Statement.{statement}
+use Rattle.lines.proofs.shut.Tie as tie
 
 back-requires : tie.Need-back-requires
 back-requires c κs = search needs

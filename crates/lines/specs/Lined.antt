@@ -6,7 +6,7 @@ use Prim.Native.Nat.{ℕ, _+_, _*_, _<_}
 use lib.Dec.{eqb}
 use lib.ListN.{length, getD, set}
 use lib.IntN.{ℤ}
-use Rattle.plan.specs.Limits.{wall}
+use Rattle.limits.specs.Limits.{wall}
 use Rattle.plan.specs.Lists.{cell-count, face-count, next, start, neighbour, back}
 use Rattle.setting.specs.Setting.{ends}
 use Rattle.plan.specs.Sound.{Sound}
