@@ -15,9 +15,9 @@ use Rattle.limits.specs.declared.Refusal.the-variants as R
 use Rattle.records.specs.Bytes.{number-at}
 use Rattle.records.specs.Bits.{bits-at}
 use Rattle.stand.specs.declared.spot.Stand.the-variants.{Point, Offset}
-use Rattle.printing.specs.Text.{refusal-line}
+use Rattle.text.specs.Text.{refusal-line}
 use Rattle.printing.specs.Print.{most-input, most-text, begins, double-at, file-listed, blank-table, lines, printed, answered}
-use Rattle.printing.specs.Wrote.{Wrote}
+use Rattle.text.specs.Wrote.{Wrote}
 use Rattle.printing.specs.declared.Printed.{Printed}
 use Rattle.printing.specs.declared.Printed.the-variants.{Text, Refused}
 

@@ -22,8 +22,8 @@ use Rattle.stand.specs.Find.{against, located}
 use Rattle.expand.specs.Sight.{follow, numbers, row-count, crossings}
 use Rattle.expand.specs.Floor.{placed}
 use Rattle.sight.specs.Listing.{viewed, listing-numbers, listing-row-count, listing-crossings, listed}
-use Rattle.printing.specs.Word.{word}
-use Rattle.printing.specs.Text.{digits, decimal, refusal-line, count-line, row-line, row-lines}
+use Rattle.text.specs.Word.{word}
+use Rattle.text.specs.Text.{digits, decimal, refusal-line, count-line, row-line, row-lines}
 use Rattle.printing.specs.Print.{most-input, begins, file-listed, printed}
 
 -- the query of case a: kind 4, 24 bytes, setting 0, x 6.0, y 3.0

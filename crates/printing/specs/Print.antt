@@ -17,7 +17,7 @@ use Rattle.stand.specs.declared.spot.Stand.the-variants.{Point, Offset}
 use Rattle.sight.specs.Listing.{listed}
 use Rattle.sight.specs.declared.list.Listed.{Listed}
 use Rattle.sight.specs.declared.list.Listed.the-variants as L
-use Rattle.printing.specs.Text.{refusal-line, count-line, row-lines}
+use Rattle.text.specs.Text.{refusal-line, count-line, row-lines}
 use Rattle.printing.specs.declared.Printed.{Printed}
 use Rattle.printing.specs.declared.Printed.the-variants.{Text, Refused}
 

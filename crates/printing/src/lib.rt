@@ -6,7 +6,7 @@ ghost use lib.ListN.{length};
 ghost use Rattle.limits.specs.Limits.{most-corners, most-cells, most-doors};
 ghost use Rattle.printing.specs.Print.{most-text, begins as Print·begins, file-listed, lines, blank-table, printed, answered, Within};
 ghost use Rattle.printing.specs.Reply.{printed-reply, print-replies};
-ghost use Rattle.printing.specs.Wrote.{Wrote};
+ghost use Rattle.text.specs.Wrote.{Wrote};
 use manopluea::Checked;
 use manopluea::Listed;
 use manopluea::Plan;
@@ -14,8 +14,6 @@ use manopluea::Refusal;
 use manopluea::Stand;
 use records::bits;
 use records::bytes;
-
-mod text;
 
 // How many bytes the lines take, or ROOM where the text could not hold every answer.
 pub enum Printed {

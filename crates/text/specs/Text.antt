@@ -6,7 +6,7 @@ use lib.Dec.{ltb}
 use lib.ListN.{getD}
 use Rattle.limits.specs.Reply.{refused}
 use Rattle.limits.specs.declared.Refusal.{Refusal}
-use Rattle.printing.specs.Word.{word}
+use Rattle.text.specs.Word.{word}
 
 -- the digits of a number, the highest first, through at most k of them
 unfoldable pub digits : ℕ → ℕ → List ℕ

@@ -9,7 +9,7 @@ use borrow.Author.Tests.{lt-ltb, le-ltb}
 use mir.Val.{Fits}
 use mir.Syntax.{w16, w64}
 use lib.ListN.{length, length-append}
-use Rattle.printing.specs.Text.{digits, decimal}
+use Rattle.text.specs.Text.{digits, decimal}
 
 -- ---- a number's digits do not hang on how many are allowed
 

@@ -1,13 +1,13 @@
--- `printing::text::put` meets its contract.
+-- `text::put` meets its contract.
 use mathlib.Core.Path.{refl}
 use Prim.Native.Nat.{_-_}
 use native.Mathlib.Omega.{arith}
 use borrow.Author.Needs.{needs}
 use lib.ListN.{length}
 use Rattle.records.proofs.Stores.{Fills, fills-begin, fills-go-on}
-use Rattle.printing.proofs.Texts.{copied}
-use Rattle.printing.proofs.text.put.Statement.{statement}
-use Rattle.printing.proofs.text.put.Tie as tie
+use Rattle.text.proofs.Texts.{copied}
+use Rattle.text.proofs.put.Statement.{statement}
+use Rattle.text.proofs.put.Tie as tie
 
 abbrev Inv-loop : tie.InvT-loop
 Inv-loop text₀ at word i₀ text i = Fills word text₀ at text i

@@ -1,10 +1,10 @@
 use native.Mathlib.Omega.{arith}
 use borrow.Author.Needs.{needs}
-use Rattle.printing.specs.Text.{count-line}
-use Rattle.printing.proofs.Decimals.{at-most-twenty}
-use Rattle.printing.proofs.Texts.{joined, word-ends, number-ends}
-use Rattle.printing.proofs.text.put_counts.Statement.{statement}
-use Rattle.printing.proofs.text.put_counts.Tie as tie
+use Rattle.text.specs.Text.{count-line}
+use Rattle.text.proofs.Decimals.{at-most-twenty}
+use Rattle.text.proofs.Texts.{joined, word-ends, number-ends}
+use Rattle.text.proofs.put_counts.Statement.{statement}
+use Rattle.text.proofs.put_counts.Tie as tie
 
 slice-aggregate-put : tie.Need-slice-aggregate-put
 slice-aggregate-put c = search needs

@@ -1,8 +1,8 @@
--- `printing::text::put_listing` meets its contract.
+-- `text::put_listing` meets its contract.
 use borrow.Author.Needs.{needs}
-use Rattle.printing.proofs.Texts.{joined}
-use Rattle.printing.proofs.text.put_listing.Statement.{statement}
-use Rattle.printing.proofs.text.put_listing.Tie as tie
+use Rattle.text.proofs.Texts.{joined}
+use Rattle.text.proofs.put_listing.Statement.{statement}
+use Rattle.text.proofs.put_listing.Tie as tie
 
 put-counts-requires : tie.Need-put-counts-requires
 put-counts-requires c κs = search needs

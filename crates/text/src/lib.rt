@@ -4,10 +4,10 @@ ghost use mathlib.Core.Path.{_≡_};
 ghost use Prim.Native.Nat.{_+_, _*_, _<_, _≤_};
 ghost use lib.ListN.{length};
 ghost use lib.Seq.{sets};
-ghost use Rattle.printing.specs.Text.{decimal, number-then, refusal-line, count-line, row-line, row-lines};
-ghost use Rattle.printing.specs.Wrote.{Wrote};
+ghost use Rattle.text.specs.Text.{decimal, number-then, refusal-line, count-line, row-line, row-lines};
+ghost use Rattle.text.specs.Wrote.{Wrote};
+use limits::Refusal;
 use limits::reply;
-use manopluea::Refusal;
 
 // The bytes of a word.
 fn put(text: &mut [u8], at: usize, word: &[u8]) -> usize

@@ -1,7 +1,7 @@
 use borrow.Author.Needs.{needs}
-use Rattle.printing.proofs.Texts.{joined, one-more}
-use Rattle.printing.proofs.text.put_number.Statement.{statement}
-use Rattle.printing.proofs.text.put_number.Tie as tie
+use Rattle.text.proofs.Texts.{joined, one-more}
+use Rattle.text.proofs.put_number.Statement.{statement}
+use Rattle.text.proofs.put_number.Tie as tie
 
 put-decimal-requires : tie.Need-put-decimal-requires
 put-decimal-requires c κs = search needs

@@ -1,10 +1,10 @@
--- `printing::text::put_rows` meets its contract.
+-- `text::put_rows` meets its contract.
 use Prim.Native.Nat.{_-_}
 use native.Mathlib.Omega.{arith}
-use Rattle.printing.proofs.Texts.{word-ends}
-use Rattle.printing.proofs.Rows.{Lines, lines-begin, lines-go-on, lines-end}
-use Rattle.printing.proofs.text.put_rows.Statement.{statement}
-use Rattle.printing.proofs.text.put_rows.Tie as tie
+use Rattle.text.proofs.Texts.{word-ends}
+use Rattle.text.proofs.Rows.{Lines, lines-begin, lines-go-on, lines-end}
+use Rattle.text.proofs.put_rows.Statement.{statement}
+use Rattle.text.proofs.put_rows.Tie as tie
 
 abbrev Inv-loop : tie.InvT-loop
 Inv-loop text₀ at table n end₀ i₀ text end i = Lines table text₀ at n text end i

@@ -1,10 +1,10 @@
 use native.Mathlib.Omega.{arith}
 use borrow.Author.Needs.{needs}
-use Rattle.printing.specs.Text.{row-line}
-use Rattle.printing.proofs.Decimals.{at-most-five}
-use Rattle.printing.proofs.Texts.{joined, number-ends}
-use Rattle.printing.proofs.text.put_row.Statement.{statement}
-use Rattle.printing.proofs.text.put_row.Tie as tie
+use Rattle.text.specs.Text.{row-line}
+use Rattle.text.proofs.Decimals.{at-most-five}
+use Rattle.text.proofs.Texts.{joined, number-ends}
+use Rattle.text.proofs.put_row.Statement.{statement}
+use Rattle.text.proofs.put_row.Tie as tie
 
 put-number-requires : tie.Need-put-number-requires
 put-number-requires c κs = let s = c .before .before in omega (arith, at-most-five _ (s .fits .f))

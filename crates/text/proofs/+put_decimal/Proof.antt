@@ -3,15 +3,15 @@ use native.Mathlib.Nat.{le-of-lt, lt-of-lt-of-le}
 use native.Mathlib.Omega.{arith}
 use borrow.Author.Needs.{needs}
 use lib.ListN.{length}
-use Rattle.printing.proofs.Texts.{digit-has-room, digit-written, above-has-room, last-digit-written}
+use Rattle.text.proofs.Texts.{digit-has-room, digit-written, above-has-room, last-digit-written}
 use Prim.Native.Nat.{ℕ, _<_}
 use borrow.Fn.Kinds.{In}
 use borrow.Fn.PlainCycle.{Measures, is, falls, and}
-use Rattle.printing.proofs.text.put_decimal.Reads as put-decimal
-use Rattle.printing.proofs.text.put_decimal.Kinds as put-decimal-kinds
-use Rattle.printing.proofs.text.+put_decimal.Lts-put_decimal as put-decimal-lts
-use Rattle.printing.proofs.text.+put_decimal.{statement}
-use Rattle.printing.proofs.text.+put_decimal.Tie.{close}
+use Rattle.text.proofs.put_decimal.Reads as put-decimal
+use Rattle.text.proofs.put_decimal.Kinds as put-decimal-kinds
+use Rattle.text.proofs.+put_decimal.Lts-put_decimal as put-decimal-lts
+use Rattle.text.proofs.+put_decimal.{statement}
+use Rattle.text.proofs.+put_decimal.Tie.{close}
 
 abbrev μ-put-decimal : Measures 1 put-decimal-kinds.ps ℕ
 μ-put-decimal κs a = a .1 .1 .0

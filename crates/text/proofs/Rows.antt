@@ -5,9 +5,9 @@ use Prim.Native.Nat.{ℕ, _+_, _*_, _<_, _≤_}
 use native.Mathlib.Numerals.{add-one}
 use native.Mathlib.Omega.{arith}
 use lib.ListN.{length, getD}
-use Rattle.printing.specs.Text.{row-line, row-lines}
-use Rattle.printing.specs.Wrote.{Wrote}
-use Rattle.printing.proofs.Texts.{joined}
+use Rattle.text.specs.Text.{row-line, row-lines}
+use Rattle.text.specs.Wrote.{Wrote}
+use Rattle.text.proofs.Texts.{joined}
 
 pub record Lines (table old : List ℕ) (at n : ℕ) (new : List ℕ) (end i : ℕ) : Type 0 where
   pub within : i ≤ n

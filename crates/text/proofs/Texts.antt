@@ -6,9 +6,9 @@ use native.Mathlib.Omega.{arith}
 use lib.ListN.{length, set, length-append, length-set}
 use lib.Seq.{length-sets}
 use Rattle.records.proofs.Stores.{sets-append, Fills, fills-end}
-use Rattle.printing.specs.Text.{decimal, number-then}
-use Rattle.printing.specs.Wrote.{Wrote}
-use Rattle.printing.proofs.Decimals.{decimal-of-a-digit, decimal-of-more}
+use Rattle.text.specs.Text.{decimal, number-then}
+use Rattle.text.specs.Wrote.{Wrote}
+use Rattle.text.proofs.Decimals.{decimal-of-a-digit, decimal-of-more}
 
 -- a piece, and a piece that begins where it ends
 pub joined : {old mid new a b : List ℕ} {at e f : ℕ} → Wrote old at a mid e → Wrote mid e b new f → Wrote old at (a ++ b) new f
