@@ -1,14 +1,17 @@
 -- The five numbers of a reply, and what each call leaves in the lent memory (document 01, "Reply numbers").
 use mathlib.Core.Bool.{Bool, true, false}
 use mathlib.Core.List.{List, [], _∷_}
-use Prim.Native.Nat.{ℕ}
-use lib.Dec.{leb}
+use Prim.Native.Nat.{ℕ, _/_, _%_}
+use lib.Dec.{eqb, leb}
 use lib.ListN.{length, getD}
 use lib.Seq.{sets}
 use lib.IntN.{ℤ}
-use Rattle.limits.specs.Reply.{Reply}
+use lib.Ieee.{Float}
+use Rattle.limits.specs.Reply.{Reply, refused}
+use Rattle.limits.specs.declared.Refusal.the-variants.{Frame}
 use Rattle.stand.specs.declared.spot.Stand.{Stand}
-use Rattle.manopluea.specs.Calls.{check-replies, read-replies, write-replies, find-replies, list-replies, change-replies}
+use Rattle.stands.specs.Numbered.{stands-of}
+use Rattle.manopluea.specs.Calls.{check-replies, read-replies, write-replies, find-replies, list-replies, change-replies, list-stands-replies}
 use Rattle.printing.specs.Reply.{print-replies}
 
 abbrev pub five : ℕ → ℕ → ℕ → ℕ → ℕ → List ℕ
@@ -63,6 +66,16 @@ change-left cs ts ds w s given i b table reply = (
   left (has-five reply) table (change-replies cs ts ds w s given i b table .1),
   replied (has-five reply) reply (numbers-of (change-replies cs ts ds w s given i b table .0)),
 )
+
+-- several stands as a list of numbers, three a stand; a list that is not of three numbers each is FRAME
+abbrev pub numbered-replies : Bool → List ℤ → List ℕ → List ℕ → ℕ → List Float → List ℕ → List ℕ → Reply × (List ℕ × List ℕ)
+numbered-replies true cs ts ds w ns table replies = list-stands-replies cs ts ds w (stands-of ns) (length ns / 3) table replies
+numbered-replies false cs ts ds w ns table replies = (refused Frame, (table, replies))
+
+unfoldable pub list-stands-left : List ℤ → List ℕ → List ℕ → ℕ → List Float → List ℕ → List ℕ → List ℕ → (List ℕ × List ℕ) × List ℕ
+list-stands-left cs ts ds w ns table replies reply =
+    let said = numbered-replies (eqb (length ns % 3) 0) cs ts ds w ns table replies in
+    (left (has-five reply) (table, replies) (said .1), replied (has-five reply) reply (numbers-of (said .0)))
 
 unfoldable pub print-left : List ℕ → List ℕ → List ℕ → List ℕ × List ℕ
 print-left input text reply = (

@@ -3,7 +3,9 @@
 // include/manopluea.h has the promise of each function in words, specs/Reply.antt what each leaves as a function of the input.
 ghost use mathlib.Core.Path.{_≡_};
 ghost use Rattle.stand.specs.declared.spot.Stand.the-variants.{Point, Offset};
-ghost use Rattle.exports.specs.Reply.{check-left, read-left, write-left, find-left, list-left, change-left, print-left};
+ghost use Rattle.exports.specs.Reply.{check-left, read-left, write-left, find-left, list-left, change-left, list-stands-left, print-left};
+use manopluea::Listed;
+use manopluea::Refusal;
 use manopluea::Stand;
 
 mod reply;
@@ -210,6 +212,42 @@ pub extern "C" fn manopluea_change_offset(
         door,
         shut,
         table,
+    );
+    reply::put_listed(reply, answer);
+}
+
+// A morning's stands together, three numbers a stand: corner, x, y, where the corner -1 makes a point; the values are the sums of rows and crossings.
+#[no_mangle]
+pub extern "C" fn manopluea_list_stands(
+    corners: &[i32],
+    cells: &[u16],
+    doors: &[u16],
+    setting: u64,
+    stands: &[f64],
+    table: &mut [u16],
+    replies: &mut [u64],
+    reply: &mut [u64],
+)
+    ensures { λ _. ⌜ ((now (table .exit), now (replies .exit)), now (reply .exit)) ≡ list-stands-left (now (corners .entry)) (now (cells .entry)) (now (doors .entry)) setting (now (stands .entry)) (now (table .entry)) (now (replies .entry)) (now (reply .entry)) ⌝ }
+{
+    if reply.len() < 5 {
+        return;
+    }
+    if stands.len() % 3 != 0 {
+        reply::put_listed(reply, Listed::Refused(Refusal::Frame));
+        return;
+    }
+    let count = stands.len() / 3;
+    let given = stands::stands_of(stands);
+    let answer = manopluea::list_stands(
+        corners,
+        cells,
+        doors,
+        setting,
+        given,
+        count,
+        table,
+        replies,
     );
     reply::put_listed(reply, answer);
 }

@@ -19,6 +19,10 @@ most-cells = 3000
 abbrev pub most-doors : ℕ
 most-doors = 64
 
+-- the stands of one call (document 02, A1)
+abbrev pub most-stands : ℕ
+most-stands = 32
+
 -- coordinates go from −coordinate-limit to coordinate-limit
 abbrev pub coordinate-limit : ℕ
 coordinate-limit = limit

@@ -21,6 +21,8 @@ impl Plan {
     pub const MOST_CELLS: usize = 3000;
 
     pub const MOST_DOORS: usize = 64;
+    // the stands of one call (document 02, A1)
+    pub const MOST_STANDS: usize = 32;
     // coordinates go from −COORDINATE to COORDINATE
     pub const COORDINATE: i32 = 536870912;
     // the neighbour of a side that is wall

@@ -12,6 +12,7 @@ use Rattle.stand.specs.declared.spot.Stand.{Stand}
 use Rattle.sight.specs.Listing.{listed}
 use Rattle.sight.specs.Reply.{listed-reply}
 use Rattle.doors.specs.Change.{changed}
+use Rattle.morning.specs.Morning.{listed-stands}
 
 -- an answer and lent memory, the answer in numbers
 abbrev pub in-numbers : {A M : Type 0} → (A → Reply) → A × M → Reply × M
@@ -34,3 +35,6 @@ list-replies cs ts ds w s table = in-numbers listed-reply (listed cs ts ds w s t
 
 abbrev pub change-replies : List ℤ → List ℕ → List ℕ → ℕ → Stand → List ℕ → ℕ → Bool → List ℕ → Reply × List ℕ
 change-replies cs ts ds w s given i b table = in-numbers listed-reply (changed cs ts ds w s given i b table)
+
+abbrev pub list-stands-replies : List ℤ → List ℕ → List ℕ → ℕ → List Stand → ℕ → List ℕ → List ℕ → Reply × (List ℕ × List ℕ)
+list-stands-replies cs ts ds w stands n table replies = in-numbers listed-reply (listed-stands cs ts ds w stands n table replies)

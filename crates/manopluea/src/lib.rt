@@ -14,10 +14,11 @@ ghost use Rattle.planfile.specs.Calls.{written, read as Calls·read};
 ghost use Rattle.stand.specs.Find.{found};
 ghost use Rattle.sight.specs.Listing.{listed};
 ghost use Rattle.doors.specs.Change.{changed};
+ghost use Rattle.morning.specs.Morning.{listed-stands};
 ghost use Rattle.limits.specs.Reply.{checked-reply};
 ghost use Rattle.stand.specs.Reply.{found-reply};
 ghost use Rattle.sight.specs.Reply.{listed-reply};
-ghost use Rattle.manopluea.specs.Calls.{check-replies, read-replies, write-replies, find-replies, list-replies, change-replies};
+ghost use Rattle.manopluea.specs.Calls.{check-replies, read-replies, write-replies, find-replies, list-replies, change-replies, list-stands-replies};
 pub use plan::Checked;
 pub use plan::Plan;
 pub use plan::Refusal;
@@ -103,5 +104,34 @@ pub fn change(
         door,
         shut,
         table,
+    )
+}
+
+// A morning's stands together: the first `count` of the stands, listed one after another in the order given, as `list` lists each of them. The rows
+// stand one behind the other from the beginning of the table, and three numbers a stand (reply number, row count, crossings) from that of the replies;
+// a refused stand has counts 0, writes no row and stops no other. Replies the sums of rows and crossings. Else 1 to 6 (SIZE also for more than 32
+// stands), SETTING, or ROOM for a table below 3·corners·stands numbers or fewer than 3·stands places for the replies, before any stand is looked at.
+pub fn list_stands(
+    corners: &[i32],
+    cells: &[u16],
+    doors: &[u16],
+    setting: u64,
+    stands: [Stand; Plan::MOST_STANDS],
+    count: usize,
+    table: &mut [u16],
+    replies: &mut [u64],
+) -> Listed
+    ensures answer { λ r. ⌜ (r, (now (table .exit), now (replies .exit))) ≡ listed-stands (now (corners .entry)) (now (cells .entry)) (now (doors .entry)) setting stands count (now (table .entry)) (now (replies .entry)) ⌝ }
+    ensures numbers { λ r. ⌜ (listed-reply r, (now (table .exit), now (replies .exit))) ≡ list-stands-replies (now (corners .entry)) (now (cells .entry)) (now (doors .entry)) setting stands count (now (table .entry)) (now (replies .entry)) ⌝ }
+{
+    morning::list_stands(
+        corners,
+        cells,
+        doors,
+        setting,
+        stands,
+        count,
+        table,
+        replies,
     )
 }

@@ -97,8 +97,39 @@ module _ (cs : List ℤ) (ts ds : List ℕ) (w : ℕ) (s : Stand) (room : ℕ) w
 pub a-refusal-is-no-view : {r : Refusal} {x y : ℤ} {c : ℕ} → O.Refused r ≡ O.From x y c → ⊥
 a-refusal-is-no-view p = let z : _≡_ {A = ℕ} 0 1 = cc in omega arith
 
--- what a view says: the plan is accepted, the setting is right, the stand is this point, within the limits and strictly inside its cell, and the
--- table has room
+-- what the view of a stand says: the stand is this point, within the limits and strictly inside its cell, and the table has room
+pub record Spotted (cs : List ℤ) (ts : List ℕ) (s : Stand) (room : ℕ) (x y : ℤ) (c : ℕ) : Type 0 where
+  pub stand-is : stood cs s ≡ S.At x y
+  pub stand-near : Near (record { x = x; y = y })
+  pub stand-cell : located cs ts (record { x = x; y = y }) ≡ F.Cell c
+  pub has-room : 3 * corner-count cs ≤ room
+
+module _ (cs : List ℤ) (ts : List ℕ) (s : Stand) (room : ℕ) where
+  pub spot-says : {x y : ℤ} {c : ℕ} → view-of-spot cs ts room (stood cs s) ≡ O.From x y c → Spotted cs ts s room x y c
+  spot-says {x} {y} {c} e = by-spot (stood cs s) refl e
+    where
+      by-room : (u v : ℤ) (k : ℕ) → stood cs s ≡ S.At u v → located cs ts (record { x = u; y = v }) ≡ F.Cell k → (b : Bool) → ltb room (3 * corner-count cs) ≡ b → unless b R.Room (O.From u v k) ≡ O.From x y c → Spotted cs ts s room x y c
+      by-room u v k st lo true h p = absurd (a-refusal-is-no-view p)
+      by-room u v k st lo false h p =
+          let same-x : u ≡ x = cc in
+          let same-y : v ≡ y = cc in
+          let same-c : k ≡ c = cc in
+          record {
+            stand-is = st ∙ ap₂ S.At same-x same-y;
+            stand-near = subst₂ (λ (u v : ℤ). Near (record { x = u; y = v })) same-x same-y (stand-is-near cs s st);
+            stand-cell = subst₂ (λ (u v : ℤ). located cs ts (record { x = u; y = v }) ≡ F.Cell c) same-x same-y (lo ∙ ap F.Cell same-c);
+            has-room = ltb-false _ _ h;
+          }
+
+      by-cell : (u v : ℤ) → stood cs s ≡ S.At u v → (f : Found) → located cs ts (record { x = u; y = v }) ≡ f → view-of-cell cs room u v f ≡ O.From x y c → Spotted cs ts s room x y c
+      by-cell u v st (F.Cell k) lo p = by-room u v k st lo (ltb room (3 * corner-count cs)) refl p
+      by-cell u v st (F.Refused r) lo p = absurd (a-refusal-is-no-view p)
+
+      by-spot : (t : Spot) → stood cs s ≡ t → view-of-spot cs ts room t ≡ O.From x y c → Spotted cs ts s room x y c
+      by-spot (S.At u v) st p = by-cell u v st (located cs ts (record { x = u; y = v })) refl p
+      by-spot S.Refused st p = absurd (a-refusal-is-no-view p)
+
+-- what a view says: the plan is accepted, the setting is right, and what the view of the stand says
 pub record Viewed (cs : List ℤ) (ts ds : List ℕ) (w : ℕ) (s : Stand) (room : ℕ) (x y : ℤ) (c : ℕ) : Type 0 where
   pub sound : Sound cs ts ds
   pub setting-right : wrong-setting w (length ds) ≡ false
@@ -112,32 +143,18 @@ module _ (cs : List ℤ) (ts ds : List ℕ) (w : ℕ) (s : Stand) (room : ℕ) w
   unfolding viewed
   view-says {x} {y} {c} e = by-plan (checked cs ts ds) refl e
     where
-      by-room : Sound cs ts ds → wrong-setting w (length ds) ≡ false → (u v : ℤ) (k : ℕ) → stood cs s ≡ S.At u v → located cs ts (record { x = u; y = v }) ≡ F.Cell k → (b : Bool) → ltb room (3 * corner-count cs) ≡ b → unless b R.Room (O.From u v k) ≡ O.From x y c → Viewed cs ts ds w s room x y c
-      by-room sound right u v k st lo true h p = absurd (a-refusal-is-no-view p)
-      by-room sound right u v k st lo false h p =
-          let same-x : u ≡ x = cc in
-          let same-y : v ≡ y = cc in
-          let same-c : k ≡ c = cc in
-          record {
-            sound = sound;
-            setting-right = right;
-            stand-is = st ∙ ap₂ S.At same-x same-y;
-            stand-near = subst₂ (λ (u v : ℤ). Near (record { x = u; y = v })) same-x same-y (stand-is-near cs s st);
-            stand-cell = subst₂ (λ (u v : ℤ). located cs ts (record { x = u; y = v }) ≡ F.Cell c) same-x same-y (lo ∙ ap F.Cell same-c);
-            has-room = ltb-false _ _ h;
-          }
-
-      by-cell : Sound cs ts ds → wrong-setting w (length ds) ≡ false → (u v : ℤ) → stood cs s ≡ S.At u v → (f : Found) → located cs ts (record { x = u; y = v }) ≡ f → view-of-cell cs room u v f ≡ O.From x y c → Viewed cs ts ds w s room x y c
-      by-cell sound right u v st (F.Cell k) lo p = by-room sound right u v k st lo (ltb room (3 * corner-count cs)) refl p
-      by-cell sound right u v st (F.Refused r) lo p = absurd (a-refusal-is-no-view p)
-
-      by-spot : Sound cs ts ds → wrong-setting w (length ds) ≡ false → (t : Spot) → stood cs s ≡ t → view-of-spot cs ts room t ≡ O.From x y c → Viewed cs ts ds w s room x y c
-      by-spot sound right (S.At u v) st p = by-cell sound right u v st (located cs ts (record { x = u; y = v })) refl p
-      by-spot sound right S.Refused st p = absurd (a-refusal-is-no-view p)
-
       by-setting : Sound cs ts ds → (b : Bool) → wrong-setting w (length ds) ≡ b → unless b R.Setting (view-of-spot cs ts room (stood cs s)) ≡ O.From x y c → Viewed cs ts ds w s room x y c
       by-setting sound true h p = absurd (a-refusal-is-no-view p)
-      by-setting sound false h p = by-spot sound h (stood cs s) refl p
+      by-setting sound false h p =
+          let spot = spot-says cs ts s room p in
+          record {
+            sound = sound;
+            setting-right = h;
+            stand-is = spot .stand-is;
+            stand-near = spot .stand-near;
+            stand-cell = spot .stand-cell;
+            has-room = spot .has-room;
+          }
 
       by-plan : (k : Checked) → checked cs ts ds ≡ k → view-of-plan cs ts ds w s room k ≡ O.From x y c → Viewed cs ts ds w s room x y c
       by-plan (C.Accepted p) h q = by-setting (accepted-is-sound cs ts ds p h .0) (wrong-setting w (length ds)) refl q

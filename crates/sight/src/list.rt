@@ -28,7 +28,7 @@ pub enum Listed {
 }
 
 // Follows the three sides of cell c, each with its two ends as limits; `unentered` is how many cells are not yet entered.
-fn sides(
+pub fn sides(
     corners: &[i32],
     lines: &[u16],
     q: [i64; 2],

@@ -17,7 +17,7 @@ pub enum View {
 }
 
 // On an accepted plan and setting.
-fn view_of_stand(corners: &[i32], cells: &[u16], stand: Stand, room: usize) -> View
+pub fn view_of_stand(corners: &[i32], cells: &[u16], stand: Stand, room: usize) -> View
     requires { ⌜ CornersNear (now corners) × CornersExist (now corners) (now cells) ⌝ }
     ensures { λ r. ⌜ r ≡ view-of-spot (now (corners .entry)) (now (cells .entry)) room (stood (now (corners .entry)) stand) ⌝ }
 {

@@ -1,0 +1,61 @@
+-- `exports::manopluea_list_stands` meets its contract.
+use mathlib.Core.Path.{_∙_}
+use denote.Ref.{now}
+use Rattle.exports.specs.Reply.{list-stands-left}
+use Rattle.exports.proofs.Numbered.{said, not-of-three, of-three}
+use Rattle.exports.proofs.Replies.{none-left, all-left}
+use borrow.Author.Needs.{needs}
+use Rattle.exports.proofs.manopluea_list_stands.Statement.{statement}
+use Rattle.exports.proofs.manopluea_list_stands.Tie as tie
+
+returns : tie.Need-returns
+unfolding list-stands-left
+returns c = none-left (now (c .before .before .before .before .before .before .before .args .table), now (c .before .before .before .before .before .before .before .args .replies)) (now (c .before .before .before .before .before .before .before .args .reply)) (said (now (c .before .before .before .before .before .before .before .args .corners)) (now (c .before .before .before .before .before .before .before .args .cells)) (now (c .before .before .before .before .before .before .before .args .doors)) (c .before .before .before .before .before .before .before .args .setting) (now (c .before .before .before .before .before .before .before .args .stands)) (now (c .before .before .before .before .before .before .before .args .table)) (now (c .before .before .before .before .before .before .before .args .replies))) (c .if1 .taken)
+
+put-listed-requires : tie.Need-put-listed-requires
+put-listed-requires c κs = search needs
+
+same-length : tie.Need-same-length
+same-length c = search needs
+
+returns-2 : tie.Need-returns-2
+unfolding list-stands-left
+returns-2 c = all-left (now (c .before .before .before .before .before .before .before .before .before .before .before .before .args .table), now (c .before .before .before .before .before .before .before .before .before .before .before .before .args .replies)) (now (c .before .before .before .before .before .before .before .before .before .before .before .before .args .reply)) (c .before .before .before .before .before .if1 .left) (not-of-three (now (c .before .before .before .before .before .before .before .before .before .before .before .before .args .corners)) (now (c .before .before .before .before .before .before .before .before .before .before .before .before .args .cells)) (now (c .before .before .before .before .before .before .before .before .before .before .before .before .args .doors)) (c .before .before .before .before .before .before .before .before .before .before .before .before .args .setting) (now (c .before .before .before .before .before .before .before .before .before .before .before .before .args .stands)) (now (c .before .before .before .before .before .before .before .before .before .before .before .before .args .table)) (now (c .before .before .before .before .before .before .before .before .before .before .before .before .args .replies)) (c .before .before .before .before .if2 .taken)) (c .before .before .put-listed .ensures)
+
+stands-of-requires : tie.Need-stands-of-requires
+stands-of-requires c κs = search needs
+
+list-stands-requires : tie.Need-list-stands-requires
+list-stands-requires c κs = search needs
+
+put-listed-requires-2 : tie.Need-put-listed-requires-2
+put-listed-requires-2 c κs = search needs
+
+same-length-2 : tie.Need-same-length-2
+same-length-2 c = search needs
+
+same-length-3 : tie.Need-same-length-3
+same-length-3 c = search needs
+
+same-length-4 : tie.Need-same-length-4
+same-length-4 c = search needs
+
+returns-3 : tie.Need-returns-3
+unfolding list-stands-left
+returns-3 c = all-left (now (c .before .before .before .before .before .before .before .before .before .before .before .before .before .before .before .before .before .before .before .before .args .table), now (c .before .before .before .before .before .before .before .before .before .before .before .before .before .before .before .before .before .before .before .before .args .replies)) (now (c .before .before .before .before .before .before .before .before .before .before .before .before .before .before .before .before .before .before .before .before .args .reply)) (c .before .before .before .before .before .before .before .before .before .before .before .before .before .if1 .left) (c .before .before .before .before .before .before .before .before .list-stands .ensures .1 ∙ of-three (now (c .before .before .before .before .before .before .before .before .before .before .before .before .before .before .before .before .before .before .before .before .args .corners)) (now (c .before .before .before .before .before .before .before .before .before .before .before .before .before .before .before .before .before .before .before .before .args .cells)) (now (c .before .before .before .before .before .before .before .before .before .before .before .before .before .before .before .before .before .before .before .before .args .doors)) (c .before .before .before .before .before .before .before .before .before .before .before .before .before .before .before .before .before .before .before .before .args .setting) (now (c .before .before .before .before .before .before .before .before .before .before .before .before .before .before .before .before .before .before .before .before .args .stands)) (now (c .before .before .before .before .before .before .before .before .before .before .before .before .before .before .before .before .before .before .before .before .args .table)) (now (c .before .before .before .before .before .before .before .before .before .before .before .before .before .before .before .before .before .before .before .before .args .replies)) (c .before .before .before .before .before .before .before .before .before .before .before .before .if2 .left) _ (c .before .before .before .before .before .before .before .before .before .before .before .stands-of .ensures)) (c .before .before .put-listed2 .ensures)
+
+pub manopluea-list-stands-spec : {M : Type 1} → statement M
+manopluea-list-stands-spec =
+    tie.close
+    (tie.spec
+    returns
+    put-listed-requires
+    same-length
+    returns-2
+    stands-of-requires
+    list-stands-requires
+    put-listed-requires-2
+    same-length-2
+    same-length-3
+    same-length-4
+    returns-3)

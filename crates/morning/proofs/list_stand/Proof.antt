@@ -1,0 +1,65 @@
+-- `morning::list_stand` meets its contract.
+use mathlib.Core.Path.{sym, _∙_}
+use native.Mathlib.Omega.{arith}
+use denote.Ref.{now}
+use Rattle.morning.proofs.OverLines.{corners-checked, some-cell, stand-refused, sides-asked, stand-listed}
+use borrow.Author.Needs.{needs}
+use Rattle.morning.proofs.list_stand.Statement.{statement}
+use Rattle.morning.proofs.list_stand.Tie as tie
+
+view-of-stand-requires : tie.Need-view-of-stand-requires
+view-of-stand-requires c κs = corners-checked (c .before .before .before .before .pre .0)
+
+enum-known-r : tie.Need-enum-known-r
+enum-known-r c = search needs
+
+number-requires : tie.Need-number-requires
+number-requires c κs = search needs
+
+put-requires : tie.Need-put-requires
+put-requires c κs = search needs
+
+enum-known-x : tie.Need-enum-known-x
+enum-known-x c = search needs
+
+sub-sides : tie.Need-sub-sides
+sub-sides c = omega (arith, some-cell (c .before .before .before .before .before .before .before .before .before .pre .0))
+
+sides-requires : tie.Need-sides-requires
+sides-requires c κs = sides-asked (c .before .before .before .before .before .before .before .before .before .pre .0) (c .before .before .before .before .before .before .before .before .before .args .stand) (now (c .before .before .before .before .before .before .before .before .before .args .table)) (sym (c .before .before .before .before .view-of-stand .ensures) ∙ (c .before .before .x .given .1))
+
+put-requires-2 : tie.Need-put-requires-2
+put-requires-2 c κs = search needs
+
+same-length : tie.Need-same-length
+same-length c = search needs
+
+returns : tie.Need-returns
+returns c = stand-refused (c .before .before .before .before .before .before .before .before .before .before .before .before .before .pre .0) (c .before .before .before .before .before .before .before .before .before .before .before .before .before .args .stand) (now (c .before .before .before .before .before .before .before .before .before .before .before .before .before .args .table)) (now (c .before .before .before .before .before .before .before .before .before .before .before .before .before .args .replies)) (sym (c .before .before .before .before .before .before .before .before .view-of-stand .ensures) ∙ (c .before .before .before .before .before .before .r .given .1)) (c .before .before .before .number .ensures) (c .before .before .put .ensures)
+
+same-length-2 : tie.Need-same-length-2
+same-length-2 c = search needs
+
+same-length-3 : tie.Need-same-length-3
+same-length-3 c = search needs
+
+returns-2 : tie.Need-returns-2
+returns-2 c = stand-listed (c .before .before .before .before .before .before .before .before .before .before .before .before .before .before .before .before .pre .0) (c .before .before .before .before .before .before .before .before .before .before .before .before .before .before .before .before .args .stand) (now (c .before .before .before .before .before .before .before .before .before .before .before .before .before .before .before .before .args .table)) (sym (c .before .before .before .before .before .before .before .before .before .before .before .view-of-stand .ensures) ∙ (c .before .before .before .before .before .before .before .before .before .x .given .1)) (now (c .before .before .before .before .before .before .before .before .before .before .before .before .before .before .before .before .args .replies)) (c .before .before .before .before .before .before .sides .ensures) (c .before .before .put2 .ensures)
+
+pub list-stand-spec : {M : Type 1} → statement M
+list-stand-spec =
+    tie.close
+    (tie.spec
+    view-of-stand-requires
+    enum-known-r
+    number-requires
+    put-requires
+    enum-known-x
+    sub-sides
+    sides-requires
+    put-requires-2
+    same-length
+    returns
+    same-length-2
+    same-length-3
+    returns-2)

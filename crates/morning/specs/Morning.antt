@@ -1,0 +1,107 @@
+-- A morning's stands together (document 02, A1): the rows of each stand's own listing, one after another, and three numbers a stand.
+use mathlib.Core.Bool.{Bool, true, false, _||_}
+use mathlib.Core.List.{List, [], _∷_, _++_}
+use mathlib.Core.Path.{_≡_}
+use Prim.Native.Nat.{ℕ, _+_, _*_}
+use lib.Dec.{ltb}
+use lib.ListN.{length, getD, take, replicate}
+use lib.Seq.{sets}
+use lib.IntN.{ℤ}
+use Rattle.limits.specs.Limits.{most-stands}
+use Rattle.limits.specs.declared.Plan.{Plan}
+use Rattle.limits.specs.declared.Refusal.{Refusal}
+use Rattle.limits.specs.declared.Refusal.the-variants.{Frame, Size, Setting, Room}
+use Rattle.limits.specs.declared.Checked.{Checked}
+use Rattle.limits.specs.declared.Checked.the-variants as C
+use Rattle.plan.specs.Lists.{corner-count}
+use Rattle.plan.specs.Check.{framed, refuse-if, checked}
+use Rattle.setting.specs.Setting.{wrong-setting}
+use Rattle.stand.specs.declared.spot.Stand.{Stand}
+use Rattle.sight.specs.Listing.{listed}
+use Rattle.sight.specs.Reply.{listed-reply}
+use Rattle.sight.specs.declared.list.Listed.{Listed}
+use Rattle.sight.specs.declared.list.Listed.the-variants as L
+
+-- row count and crossings of a listing, 0 where it is refused
+abbrev pub rows-of : Listed → ℕ
+rows-of a = getD (listed-reply a .values) 0 0
+
+abbrev pub crossings-of : Listed → ℕ
+crossings-of a = getD (listed-reply a .values) 1 0
+
+-- a stand's reply: its number, its row count and its crossings
+abbrev pub three-of : Listed → List ℕ
+three-of a = listed-reply a .number ∷ rows-of a ∷ crossings-of a ∷ []
+
+-- the rows that a listing has written to its table
+abbrev pub rows-in : Listed × List ℕ → List ℕ
+rows-in p = take (3 * rows-of (p .0)) (p .1)
+
+-- what each stand has, in the order given: one after another, or added up
+unfoldable pub one-after-another : (Stand → List ℕ) → List Stand → List ℕ
+one-after-another f [] = []
+one-after-another f (s ∷ ss) = f s ++ one-after-another f ss
+
+unfoldable pub in-all : (Stand → ℕ) → List Stand → ℕ
+in-all f [] = 0
+in-all f (s ∷ ss) = f s + in-all f ss
+
+module _ (cs : List ℤ) (ts ds : List ℕ) (w : ℕ) where
+  -- the single listing of a stand, with a table of 3·corners numbers
+  unfoldable pub single : Stand → Listed × List ℕ
+  single s = listed cs ts ds w s (replicate (3 * corner-count cs) 0)
+
+  -- rows and crossings of all stands
+  abbrev pub rows-in-all : List Stand → ℕ
+  rows-in-all = in-all (λ s. rows-of (single s .0))
+
+  abbrev pub crossings-in-all : List Stand → ℕ
+  crossings-in-all = in-all (λ s. crossings-of (single s .0))
+
+  -- the rows of all stands, and three numbers a stand
+  abbrev pub all-rows : List Stand → List ℕ
+  all-rows = one-after-another (λ s. rows-in (single s))
+
+  abbrev pub all-replies : List Stand → List ℕ
+  all-replies = one-after-another (λ s. three-of (single s .0))
+
+-- more than 32 stands are SIZE, where the plan's lists are not FRAME
+abbrev pub too-many : Bool → Refusal
+too-many true = Size
+too-many false = Frame
+
+-- a table below 3·corners·stands numbers, or fewer than 3·stands places for the replies
+abbrev pub no-room : ℕ → ℕ → ℕ → ℕ → Bool
+no-room corners n room places = ltb room (3 * corners * n) || ltb places (3 * n)
+
+-- what was accepted before is asked further
+abbrev pub then-asked : Checked → Checked → Checked
+then-asked (C.Accepted p) rest = rest
+then-asked (C.Refused r) rest = C.Refused r
+
+-- the refusals of the whole call, before any stand is looked at; n is the number of stands
+unfoldable pub asked : List ℤ → List ℕ → List ℕ → ℕ → ℕ → ℕ → ℕ → Checked
+asked cs ts ds w n room places =
+    refuse-if (ltb most-stands n) (too-many (framed cs ts))
+    (then-asked (checked cs ts ds)
+    (refuse-if (wrong-setting w (length ds)) Setting
+    (refuse-if (no-room (corner-count cs) n room places) Room
+    (checked cs ts ds))))
+
+-- the call is granted: it is refused for no reason
+pub record Granted (cs : List ℤ) (ts ds : List ℕ) (w n room places : ℕ) : Type 0 where
+  pub plan : Plan
+  pub accepted : asked cs ts ds w n room places ≡ C.Accepted plan
+
+-- the answer, the table and the replies at exit: on a refusal they keep their contents, and beyond the numbers written they keep their values
+abbrev pub stands-from : List ℤ → List ℕ → List ℕ → ℕ → List Stand → List ℕ → List ℕ → Checked → Listed × (List ℕ × List ℕ)
+stands-from cs ts ds w ss table replies (C.Accepted p) = (
+  L.Rows (rows-in-all cs ts ds w ss) (crossings-in-all cs ts ds w ss),
+  (sets table 0 (all-rows cs ts ds w ss), sets replies 0 (all-replies cs ts ds w ss)),
+)
+stands-from cs ts ds w ss table replies (C.Refused r) = (L.Refused r, (table, replies))
+
+-- the first n of the stands
+unfoldable pub listed-stands : List ℤ → List ℕ → List ℕ → ℕ → List Stand → ℕ → List ℕ → List ℕ → Listed × (List ℕ × List ℕ)
+listed-stands cs ts ds w stands n table replies =
+    stands-from cs ts ds w (take n stands) table replies (asked cs ts ds w n (length table) (length replies))

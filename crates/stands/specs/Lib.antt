@@ -1,0 +1,2 @@
+-- stands from a list of doubles, three a stand
+pub mod Numbered
