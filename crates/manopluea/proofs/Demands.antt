@@ -39,7 +39,7 @@ use Rattle.doors.proofs.Fresh.{numbers-are}
 use Rattle.doors.proofs.PlanDemand3.{untouched-rows-stand-in-both, rows-on-the-shut-door-are-the-runs}
 use Rattle.doors.proofs.Routes.{routed-numbers-are-the-numbers}
 use Rattle.manopluea.specs.Demands.{Demand-1, HoldsDirection, Sighted, Demand-2, while-open, once-shut, RunByRun, Demand-3}
-use Rattle.manopluea.proofs.Replies.{check-answers, read-answers, write-answers, find-answers, list-answers, change-answers, numbers-tell-refusals-apart}
+use Rattle.manopluea.proofs.Replies.{check-answers, read-answers, write-answers, find-answers, list-answers, change-answers, list-stands-answers, numbers-tell-refusals-apart}
 
 -- Every plan file, however damaged, every stand and every door setting gets an ending and one fixed reply. Each refusal has its own number and exact
 -- condition and writes nothing into lent memory.
@@ -52,6 +52,7 @@ demand-1 =
       find = find-answers;
       list = list-answers;
       change = change-answers;
+      list-stands = list-stands-answers;
       apart = numbers-tell-refusals-apart;
     }
 

@@ -2,6 +2,8 @@
 pub mod Replies
 -- the three demands, of the calls' definitions and from the input alone
 pub mod Demands
+-- several stands in one call are single calls, so demand 2 holds for each of them
+pub mod Together
 -- a promise said twice: of the answer, and in document 01's numbers
 pub mod Numbered
 -- the twelve measured examples, computed from the listing's definition

@@ -4,10 +4,10 @@ use mathlib.Core.List.{List, [], _∷_, _++_}
 use mathlib.Core.Path.{_≡_, refl, sym, ap₂, _∙_}
 use Prim.Native.Nat.{ℕ, _*_}
 use lib.Dec.{ltb, leb}
-use lib.ListN.{length, getD}
+use lib.ListN.{length, getD, take, drop}
 use lib.IntN.{ℤ}
 use Rattle.plane.specs.Side.{Point}
-use Rattle.limits.specs.Limits.{sized}
+use Rattle.limits.specs.Limits.{most-stands, sized}
 use Rattle.plan.specs.Lists.{corner-count, cell-count, face-count}
 use Rattle.plan.specs.Check.{framed, first-wrong-corner, first-wrong-cell, first-wrong-face, first-wrong-door, refuse-if, checked}
 use Rattle.limits.specs.Reply.{Reply, number, place, checked-reply}
@@ -33,7 +33,8 @@ use Rattle.sight.specs.Reply.{listed-reply}
 use Rattle.sight.specs.declared.view.View.{View}
 use Rattle.sight.specs.declared.view.View.the-variants as O
 use Rattle.doors.specs.Change.{same-list, no-change, wished, refuse, changed-from, changed}
-use Rattle.manopluea.specs.Conditions.{Condition, when, lowest, CheckAnswers, ReadAnswers, WriteAnswers, FindAnswers, ListAnswers, ChangeAnswers, plan-conditions, read-conditions, inside-some, on-some-border, stand-conditions, true-numbers}
+use Rattle.morning.specs.Morning.{too-many, no-room, then-asked, asked, stands-from, listed-stands}
+use Rattle.manopluea.specs.Conditions.{Condition, when, lowest, CheckAnswers, ReadAnswers, WriteAnswers, FindAnswers, ListAnswers, ChangeAnswers, ListStandsAnswers, plan-conditions, plan-conditions-with, read-conditions, inside-some, on-some-border, stand-conditions, true-numbers}
 
 -- what an answer tells in numbers
 abbrev pub told : Reply → ℕ × ℕ
@@ -233,3 +234,40 @@ change-answers cs ts ds w s given i b table =
         cases false true h = refl
         cases false false h = absurd (h refl)
     alone (O.Refused r) = λ h. refl
+
+-- ---- several stands
+
+pub list-stands-answers : (cs : List ℤ) (ts ds : List ℕ) (w : ℕ) (stands : List Stand) (n : ℕ) (table replies : List ℕ) → ListStandsAnswers cs ts ds w stands n table replies
+unfolding asked listed-stands lowest
+list-stands-answers cs ts ds w stands n table replies =
+    record {
+      of-the-paper = refl;
+      exact = by-many (ltb most-stands n);
+      kept = alone (asked cs ts ds w n (length table) (length replies));
+    }
+  where
+    said : Checked → ℕ × ℕ
+    said k = told (listed-reply (stands-from cs ts ds w (take n stands) table replies k .0))
+
+    more : List Condition
+    more = when 7 (wrong-setting w (length ds)) 0 ∷ when 11 (no-room (corner-count cs) n (length table) (length replies)) 0 ∷ []
+
+    further : Plan → Checked
+    further p = refuse-if (wrong-setting w (length ds)) Setting (refuse-if (no-room (corner-count cs) n (length table) (length replies)) Room (C.Accepted p))
+
+    by-frame : (rest : List Condition) (f : Bool) → (number (too-many f), place (too-many f)) ≡ lowest (when 1 (not f) 0 ∷ when 2 true 0 ∷ rest)
+    by-frame rest true = refl
+    by-frame rest false = refl
+
+    by-many : (b : Bool) → said (refuse-if b (too-many (framed cs ts)) (then-asked (checked cs ts ds) further)) ≡ lowest (plan-conditions-with b cs ts ds ++ more)
+    by-many true = by-frame (drop 2 (plan-conditions cs ts ds) ++ more) (framed cs ts)
+    by-many false =
+        let counted : Plan = record { corners = corner-count cs; cells = cell-count ts; doors = length ds } in
+        let short = no-room (corner-count cs) n (length table) (length replies) in
+        by-plan (λ k. said (then-asked k further)) (λ r. refl) cs ts ds more
+        (refused-or said (λ r. refl) (wrong-setting w (length ds)) Setting (refuse-if short Room (C.Accepted counted)) (when 11 short 0 ∷ [])
+        (refused-or said (λ r. refl) short Room (C.Accepted counted) [] refl))
+
+    alone : (k : Checked) → (listed-reply (stands-from cs ts ds w (take n stands) table replies k .0) .number ≡ 0 → ⊥) → stands-from cs ts ds w (take n stands) table replies k .1 ≡ (table, replies)
+    alone (C.Accepted p) h = absurd (h refl)
+    alone (C.Refused r) h = refl

@@ -1,6 +1,6 @@
 -- Document 01's table of replies ("Reply numbers"), call by call: each number that the paper gives the call, when it applies, and its place. They stand in
 -- the order of the numbers, so the first that applies is the lowest. `CheckAnswers` and the like are demand 1 of that call.
-use mathlib.Core.Bool.{Bool, true, false, not, _&&_}
+use mathlib.Core.Bool.{Bool, true, false, not, _&&_, _||_}
 use mathlib.Core.List.{List, [], _∷_, _++_, map}
 use mathlib.Core.Path.{_≡_}
 use Prim.Native.Nat.{ℕ, _*_}
@@ -8,7 +8,7 @@ use lib.Dec.{ltb, leb}
 use lib.ListN.{length}
 use lib.IntN.{ℤ}
 use Rattle.plane.specs.Side.{Point}
-use Rattle.limits.specs.Limits.{sized}
+use Rattle.limits.specs.Limits.{most-stands, sized}
 use Rattle.plan.specs.Lists.{corner-count, cell-count, face-count}
 use Rattle.plan.specs.Check.{framed, first-wrong-corner, first-wrong-cell, first-wrong-face, first-wrong-door}
 use Rattle.limits.specs.Reply.{Reply}
@@ -23,7 +23,8 @@ use Rattle.stand.specs.declared.spot.Spot.{Spot}
 use Rattle.stand.specs.declared.spot.Spot.the-variants.{At, Refused}
 use Rattle.sight.specs.Listing.{listing-numbers}
 use Rattle.doors.specs.Change.{same-list, no-change}
-use Rattle.manopluea.specs.Calls.{check-replies, read-replies, write-replies, find-replies, list-replies, change-replies}
+use Rattle.morning.specs.Morning.{no-room}
+use Rattle.manopluea.specs.Calls.{check-replies, read-replies, write-replies, find-replies, list-replies, change-replies, list-stands-replies}
 
 pub record Condition : Type 0 where
   pub number : ℕ
@@ -47,15 +48,19 @@ pub record Answers {M : Type 0} (numbers : List ℕ) (conditions : List Conditio
 
 -- ---- the plan: check
 
-abbrev pub plan-conditions : List ℤ → List ℕ → List ℕ → List Condition
-plan-conditions cs ts ds =
+-- with whatever else is SIZE for the call
+abbrev pub plan-conditions-with : Bool → List ℤ → List ℕ → List ℕ → List Condition
+plan-conditions-with too-many cs ts ds =
     when 1 (not (framed cs ts)) 0
-    ∷ when 2 (not (sized (corner-count cs) (cell-count ts) (length ds))) 0
+    ∷ when 2 (too-many || not (sized (corner-count cs) (cell-count ts) (length ds))) 0
     ∷ when 3 (ltb (first-wrong-corner cs) (corner-count cs)) (first-wrong-corner cs)
     ∷ when 4 (ltb (first-wrong-cell cs ts) (cell-count ts)) (first-wrong-cell cs ts)
     ∷ when 5 (ltb (first-wrong-face ts) (face-count ts)) (first-wrong-face ts)
     ∷ when 6 (ltb (first-wrong-door ts ds) (length ds)) (first-wrong-door ts ds)
     ∷ []
+
+abbrev pub plan-conditions : List ℤ → List ℕ → List ℕ → List Condition
+plan-conditions = plan-conditions-with false
 
 abbrev pub CheckAnswers : List ℤ → List ℕ → List ℕ → Type 0
 CheckAnswers cs ts ds = Answers {M = Unit {0}} (1 ∷ 2 ∷ 3 ∷ 4 ∷ 5 ∷ 6 ∷ []) (plan-conditions cs ts ds) (check-replies cs ts ds) tt tt
@@ -143,3 +148,15 @@ change-conditions cs ts ds w s given i b room =
 abbrev pub ChangeAnswers : List ℤ → List ℕ → List ℕ → ℕ → Stand → List ℕ → ℕ → Bool → List ℕ → Type 0
 ChangeAnswers cs ts ds w s given i b table =
     Answers (1 ∷ 2 ∷ 3 ∷ 4 ∷ 5 ∷ 6 ∷ 7 ∷ 8 ∷ 9 ∷ 10 ∷ 11 ∷ 12 ∷ 13 ∷ []) (change-conditions cs ts ds w s given i b (length table)) (change-replies cs ts ds w s given i b table .0) table (change-replies cs ts ds w s given i b table .1)
+
+-- ---- a morning's stands together (document 02, A1)
+
+-- SIZE also for more than 32 stands; no stand is looked at; a table below 3·corners·stands numbers, or fewer than 3·stands places for the replies
+abbrev pub list-stands-conditions : List ℤ → List ℕ → List ℕ → ℕ → ℕ → ℕ → ℕ → List Condition
+list-stands-conditions cs ts ds w n room places =
+    plan-conditions-with (ltb most-stands n) cs ts ds
+    ++ (when 7 (wrong-setting w (length ds)) 0 ∷ when 11 (no-room (corner-count cs) n room places) 0 ∷ [])
+
+abbrev pub ListStandsAnswers : List ℤ → List ℕ → List ℕ → ℕ → List Stand → ℕ → List ℕ → List ℕ → Type 0
+ListStandsAnswers cs ts ds w stands n table replies =
+    Answers (1 ∷ 2 ∷ 3 ∷ 4 ∷ 5 ∷ 6 ∷ 7 ∷ 11 ∷ []) (list-stands-conditions cs ts ds w n (length table) (length replies)) (list-stands-replies cs ts ds w stands n table replies .0) (table, replies) (list-stands-replies cs ts ds w stands n table replies .1)

@@ -28,7 +28,7 @@ use Rattle.doors.specs.Door.{on-door, untouched, those}
 use Rattle.doors.specs.Shutting.{runs, door-row}
 use Rattle.doors.specs.PlanFloor.{sight-from}
 use Rattle.doors.specs.Change.{no-change, wished}
-use Rattle.manopluea.specs.Conditions.{CheckAnswers, ReadAnswers, WriteAnswers, FindAnswers, ListAnswers, ChangeAnswers}
+use Rattle.manopluea.specs.Conditions.{CheckAnswers, ReadAnswers, WriteAnswers, FindAnswers, ListAnswers, ChangeAnswers, ListStandsAnswers}
 
 -- ---- demand 1
 
@@ -39,6 +39,7 @@ pub record Demand-1 : Type 0 where
   pub find : (cs : List ℤ) (ts ds : List ℕ) (s : Stand) → FindAnswers cs ts ds s
   pub list : (cs : List ℤ) (ts ds : List ℕ) (w : ℕ) (s : Stand) (table : List ℕ) → ListAnswers cs ts ds w s table
   pub change : (cs : List ℤ) (ts ds : List ℕ) (w : ℕ) (s : Stand) (given : List ℕ) (i : ℕ) (b : Bool) (table : List ℕ) → ChangeAnswers cs ts ds w s given i b table
+  pub list-stands : (cs : List ℤ) (ts ds : List ℕ) (w : ℕ) (stands : List Stand) (n : ℕ) (table replies : List ℕ) → ListStandsAnswers cs ts ds w stands n table replies
   -- different refusals have different numbers, or the same number at different places
   pub apart : (r s : Refusal) → number r ≡ number s → place r ≡ place s → r ≡ s
 

@@ -4,6 +4,8 @@ pub mod Calls
 pub mod Conditions
 -- the three demands
 pub mod Demands
+-- several stands in one call are single calls, one after another
+pub mod Together
 -- the twelve measured examples
 pub mod Cases
 -- a hall whose door is seen by two routes, side by side

@@ -91,6 +91,26 @@ three-each f m h (s ∷ ss) =
     length-append (f s) (one-after-another f ss)
     ∙ omega (arith, h s, three-each f m h ss, mul-suc m (length ss))
 
+module _ (cs : List ℤ) (ts ds : List ℕ) (w : ℕ) {n room places : ℕ} (grant : Grant cs ts ds w n room places) where
+  -- with a table that has room for 3·corners numbers every stand is listed as alone
+  alone : (s : Stand) (t : List ℕ) → 3 * corner-count cs ≤ length t → AsSingle cs ts ds w s t (listed cs ts ds w s t .0) (listed cs ts ds w s t .1)
+  alone s t h = listed-as-single cs ts ds w (grant .plan-accepted) (grant .setting-right) s t h
+
+  blank-alone : (s : Stand) → AsSingle cs ts ds w s (replicate (3 * corner-count cs) 0) (listed cs ts ds w s (replicate (3 * corner-count cs) 0) .0) (listed cs ts ds w s (replicate (3 * corner-count cs) 0) .1)
+  blank-alone s = alone s (replicate (3 * corner-count cs) 0) (omega (arith, length-replicate {A = ℕ} (3 * corner-count cs) 0))
+
+  pub few-rows-in-all : (ss : List Stand) → rows-in-all cs ts ds w ss ≤ corner-count cs * length ss
+  few-rows-in-all = at-most-each (λ s. rows-of (single cs ts ds w s .0)) (corner-count cs) (λ s. blank-alone s .few-rows)
+
+  pub few-crossings-in-all : (ss : List Stand) → crossings-in-all cs ts ds w ss ≤ 2048 * 2999 * length ss
+  few-crossings-in-all = at-most-each (λ s. crossings-of (single cs ts ds w s .0)) (2048 * 2999) (λ s. blank-alone s .few-crossings)
+
+  pub rows-are-three-numbers : (ss : List Stand) → length (all-rows cs ts ds w ss) ≡ 3 * rows-in-all cs ts ds w ss
+  rows-are-three-numbers = long-in-all (λ s. rows-in (single cs ts ds w s)) (λ s. rows-of (single cs ts ds w s .0)) 3 (λ s. blank-alone s .three-a-row)
+
+  pub replies-are-three-numbers : (ss : List Stand) → length (all-replies cs ts ds w ss) ≡ 3 * length ss
+  replies-are-three-numbers = three-each (λ s. three-of (single cs ts ds w s .0)) 3 (λ s. refl)
+
 -- before stand i: few rows and crossings yet, and room for its own
 pub record Next (cs : List ℤ) (i rows crossings : ℕ) (table replies : List ℕ) : Type 0 where
   pub few-rows : rows ≤ 2048 * i
@@ -123,33 +143,14 @@ module _ (cs : List ℤ) (ts ds : List ℕ) (w : ℕ) (stands : List Stand) wher
         (so .rows-are, (so .crossings-are, (so .table-is, so .replies-are)))
 
   module _ {n room places : ℕ} (grant : Grant cs ts ds w n room places) where
-    -- with a table that has room for 3·corners numbers every stand is listed as alone
-    alone : (s : Stand) (t : List ℕ) → 3 * corner-count cs ≤ length t → AsSingle cs ts ds w s t (listed cs ts ds w s t .0) (listed cs ts ds w s t .1)
-    alone s t h = listed-as-single cs ts ds w (grant .plan-accepted) (grant .setting-right) s t h
-
-    blank-alone : (s : Stand) → AsSingle cs ts ds w s (replicate (3 * corner-count cs) 0) (listed cs ts ds w s (replicate (3 * corner-count cs) 0) .0) (listed cs ts ds w s (replicate (3 * corner-count cs) 0) .1)
-    blank-alone s = alone s (replicate (3 * corner-count cs) 0) (omega (arith, length-replicate {A = ℕ} (3 * corner-count cs) 0))
-
-    pub few-rows-in-all : (ss : List Stand) → rows-in-all cs ts ds w ss ≤ corner-count cs * length ss
-    few-rows-in-all = at-most-each (λ s. rows-of (single cs ts ds w s .0)) (corner-count cs) (λ s. blank-alone s .few-rows)
-
-    pub few-crossings-in-all : (ss : List Stand) → crossings-in-all cs ts ds w ss ≤ 2048 * 2999 * length ss
-    few-crossings-in-all = at-most-each (λ s. crossings-of (single cs ts ds w s .0)) (2048 * 2999) (λ s. blank-alone s .few-crossings)
-
-    pub rows-are-three-numbers : (ss : List Stand) → length (all-rows cs ts ds w ss) ≡ 3 * rows-in-all cs ts ds w ss
-    rows-are-three-numbers = long-in-all (λ s. rows-in (single cs ts ds w s)) (λ s. rows-of (single cs ts ds w s .0)) 3 (λ s. blank-alone s .three-a-row)
-
-    pub replies-are-three-numbers : (ss : List Stand) → length (all-replies cs ts ds w ss) ≡ 3 * length ss
-    replies-are-three-numbers = three-each (λ s. three-of (single cs ts ds w s .0)) 3 (λ s. refl)
-
     module _ (i : ℕ) (below : i < n) (in-array : n ≤ length stands) {rows crossings : ℕ} {table₀ table replies₀ replies : List ℕ} (long : length table₀ ≡ room) (wide : length replies₀ ≡ places) (so : SoFar i rows crossings table₀ table replies₀ replies) where
       taken : length (take i stands) ≡ i
       taken = length-take-le i stands (omega arith)
 
       pub next : Next cs i rows crossings table replies
       next =
-          let all-rows-fit = few-rows-in-all (take i stands) in
-          let all-crossings-fit = few-crossings-in-all (take i stands) in
+          let all-rows-fit = few-rows-in-all cs ts ds w grant (take i stands) in
+          let all-crossings-fit = few-crossings-in-all cs ts ds w grant (take i stands) in
           let rows-so : rows ≤ corner-count cs * i = subst (λ (k : ℕ). rows ≤ corner-count cs * k) taken (omega (arith, so .rows-are)) in
           let same : length table ≡ room = table-keeps-its-length so ∙ long in
           let same-places : length replies ≡ places = replies-keep-their-length so ∙ wide in
@@ -182,7 +183,7 @@ module _ (cs : List ℤ) (ts ds : List ℕ) (w : ℕ) (stands : List Stand) wher
         as-single =
             let same : over-lines cs ts ls stand part ≡ listed cs ts ds w stand part = over-lines-is-listed cs ts ds w (grant .plan-accepted) (grant .setting-right) stand lined part in
             let fits : 3 * corner-count cs ≤ length part = omega (arith, ap length (part-to-end table (3 * rows)), length-drop (3 * rows) table, next .room-left) in
-            subst (λ (p : Listed × List ℕ). AsSingle cs ts ds w stand part (p .0) (p .1)) (sym same) (alone stand part fits)
+            subst (λ (p : Listed × List ℕ). AsSingle cs ts ds w stand part (p .0) (p .1)) (sym same) (alone cs ts ds w grant stand part fits)
 
         pub few-here : {m k : ℕ} → m ≡ rows-of (over-lines cs ts ls stand part .0) → k ≡ crossings-of (over-lines cs ts ls stand part .0) → (m ≤ 2048) × (k ≤ 2048 * 2999)
         few-here {m} {k} e f =
@@ -196,8 +197,8 @@ module _ (cs : List ℤ) (ts ds : List ℕ) (w : ℕ) (stands : List Stand) wher
         one-more {m} {k} {new} {new-replies} h =
             let one = as-single in
             let ss = take i stands in
-            let rows-here : 0 + length (all-rows cs ts ds w ss) ≡ 3 * rows = omega (arith, rows-are-three-numbers ss, so .rows-are) in
-            let places-here : 0 + length (all-replies cs ts ds w ss) ≡ 3 * i = omega (arith, replies-are-three-numbers ss, taken) in
+            let rows-here : 0 + length (all-rows cs ts ds w ss) ≡ 3 * rows = omega (arith, rows-are-three-numbers cs ts ds w grant ss, so .rows-are) in
+            let places-here : 0 + length (all-replies cs ts ds w ss) ≡ 3 * i = omega (arith, replies-are-three-numbers cs ts ds w grant ss, taken) in
             let m-is : m ≡ rows-of (single cs ts ds w stand .0) = h .0 ∙ ap rows-of (one .same-answer) in
             let k-is : k ≡ crossings-of (single cs ts ds w stand .0) = h .1 .0 ∙ ap crossings-of (one .same-answer) in
             record {

@@ -40,11 +40,8 @@ module _ (cs : List ℤ) (ts : List ℕ) where
 
 module _ (cs : List ℤ) (ts ds : List ℕ) (w n room places : ℕ) where
   -- what is asked after the plan
-  abbrev later : Checked
-  later =
-      refuse-if (wrong-setting w (length ds)) Setting
-      (refuse-if (no-room (corner-count cs) n room places) Room
-      (checked cs ts ds))
+  abbrev later : Plan → Checked
+  later p = refuse-if (wrong-setting w (length ds)) Setting (refuse-if (no-room (corner-count cs) n room places) Room (C.Accepted p))
 
   pub many-refused : {r : Checked} → most-stands < n → r ≡ C.Refused (too-many (framed cs ts)) → r ≡ asked cs ts ds w n room places
   unfolding asked
@@ -65,7 +62,7 @@ module _ (cs : List ℤ) (ts ds : List ℕ) (w n room places : ℕ) where
       corners-are : p .corners ≡ corner-count cs
       corners-are = ap (λ (p : Plan). p .corners) (sound .1)
 
-      by-accepted : {r : Checked} → r ≡ later → r ≡ asked cs ts ds w n room places
+      by-accepted : {r : Checked} → r ≡ later p → r ≡ asked cs ts ds w n room places
       by-accepted e = by-few (e ∙ ap (λ (k : Checked). then-asked k later) (sym accepted))
 
       pub few-doors : p .doors ≤ 64
@@ -83,29 +80,29 @@ module _ (cs : List ℤ) (ts ds : List ℕ) (w n room places : ℕ) where
 
         pub setting-refused : b ≡ true → C.Refused Setting ≡ asked cs ts ds w n room places
         setting-refused h =
-            by-accepted (ap (λ (t : Bool). refuse-if t Setting (refuse-if (no-room (corner-count cs) n room places) Room (checked cs ts ds))) (sym (wrong-is ∙ h)))
+            by-accepted (ap (λ (t : Bool). refuse-if t Setting (refuse-if (no-room (corner-count cs) n room places) Room (C.Accepted p))) (sym (wrong-is ∙ h)))
 
         module _ (right : b ≡ false) where
-          by-room : {r : Checked} → r ≡ refuse-if (no-room (corner-count cs) n room places) Room (checked cs ts ds) → r ≡ asked cs ts ds w n room places
+          by-room : {r : Checked} → r ≡ refuse-if (no-room (corner-count cs) n room places) Room (C.Accepted p) → r ≡ asked cs ts ds w n room places
           by-room e =
-              by-accepted (e ∙ ap (λ (t : Bool). refuse-if t Setting (refuse-if (no-room (corner-count cs) n room places) Room (checked cs ts ds))) (sym (wrong-is ∙ right)))
+              by-accepted (e ∙ ap (λ (t : Bool). refuse-if t Setting (refuse-if (no-room (corner-count cs) n room places) Room (C.Accepted p))) (sym (wrong-is ∙ right)))
 
           pub table-too-short : room < 3 * p .corners * n → C.Refused Room ≡ asked cs ts ds w n room places
           table-too-short h =
               let short : ltb room (3 * corner-count cs * n) ≡ true = lt-ltb _ _ (subst (λ (k : ℕ). room < 3 * k * n) corners-are h) in
-              by-room (ap (λ (t : Bool). refuse-if (t || ltb places (3 * n)) Room (checked cs ts ds)) (sym short))
+              by-room (ap (λ (t : Bool). refuse-if (t || ltb places (3 * n)) Room (C.Accepted p)) (sym short))
 
           module _ (long : 3 * p .corners * n ≤ room) where
-            by-places : {r : Checked} → r ≡ refuse-if (ltb places (3 * n)) Room (checked cs ts ds) → r ≡ asked cs ts ds w n room places
+            by-places : {r : Checked} → r ≡ refuse-if (ltb places (3 * n)) Room (C.Accepted p) → r ≡ asked cs ts ds w n room places
             by-places e =
                 let enough : ltb room (3 * corner-count cs * n) ≡ false = le-ltb _ _ (subst (λ (k : ℕ). 3 * k * n ≤ room) corners-are long) in
-                by-room (e ∙ ap (λ (t : Bool). refuse-if (t || ltb places (3 * n)) Room (checked cs ts ds)) (sym enough))
+                by-room (e ∙ ap (λ (t : Bool). refuse-if (t || ltb places (3 * n)) Room (C.Accepted p)) (sym enough))
 
             pub too-few-places : places < 3 * n → C.Refused Room ≡ asked cs ts ds w n room places
-            too-few-places h = by-places (ap (λ (t : Bool). refuse-if t Room (checked cs ts ds)) (sym (lt-ltb _ _ h)))
+            too-few-places h = by-places (ap (λ (t : Bool). refuse-if t Room (C.Accepted p)) (sym (lt-ltb _ _ h)))
 
             pub granted : 3 * n ≤ places → C.Accepted p ≡ asked cs ts ds w n room places
-            granted h = by-places (sym accepted ∙ ap (λ (t : Bool). refuse-if t Room (checked cs ts ds)) (sym (le-ltb _ _ h)))
+            granted h = by-places (ap (λ (t : Bool). refuse-if t Room (C.Accepted p)) (sym (le-ltb _ _ h)))
 
 -- what a call that is granted has
 pub record Grant (cs : List ℤ) (ts ds : List ℕ) (w n room places : ℕ) : Type 0 where
@@ -124,7 +121,7 @@ module _ (cs : List ℤ) (ts ds : List ℕ) (w n room places : ℕ) where
       let t₁ = passed (ltb most-stands n) (too-many (framed cs ts)) _ (g .accepted) in
       by-plan (ltb-false _ _ (t₁ .0)) (checked cs ts ds) refl (t₁ .1)
     where
-      by-tests : n ≤ most-stands → (p : Plan) → checked cs ts ds ≡ C.Accepted p → later cs ts ds w n room places ≡ C.Accepted (g .plan) → Grant cs ts ds w n room places
+      by-tests : n ≤ most-stands → (p : Plan) → checked cs ts ds ≡ C.Accepted p → later cs ts ds w n room places p ≡ C.Accepted (g .plan) → Grant cs ts ds w n room places
       by-tests few p h e =
           let t₂ = passed (wrong-setting w (length ds)) Setting _ e in
           let t₃ = passed (no-room (corner-count cs) n room places) Room _ (t₂ .1) in

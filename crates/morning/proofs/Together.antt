@@ -1,20 +1,30 @@
 -- The whole call: it is refused before any stand is looked at, or it is the single listings one after another.
-use mathlib.Core.List.{List}
+use mathlib.Core.List.{List, _∷_, _++_, append-assoc}
 use mathlib.Core.Path.{_≡_, refl, sym, ap, _∙_}
-use Prim.Native.Nat.{ℕ, _≤_}
-use lib.ListN.{length, take}
-use lib.Seq.{sets}
+use Prim.Native.Nat.{ℕ, suc, _*_, _≤_}
+use native.Mathlib.Nat.{mul-assoc, mul-le-mul, le-refl}
+use native.Mathlib.Omega.{arith}
+use lib.ListN.{length, take, drop, length-take}
+use lib.Seq.{sets, take-at, drop-at, length-take-le}
 use lib.IntN.{ℤ}
+use Rattle.exact.proofs.Lent.{written-from-the-beginning, first-is-new, rest-is-kept}
 use Rattle.limits.specs.Limits.{most-stands}
 use Rattle.limits.specs.declared.Plan.{Plan}
 use Rattle.limits.specs.declared.Refusal.{Refusal}
 use Rattle.limits.specs.declared.Checked.{Checked}
 use Rattle.limits.specs.declared.Checked.the-variants as C
+use Rattle.plan.specs.Lists.{corner-count}
 use Rattle.stand.specs.declared.spot.Stand.{Stand}
+use Rattle.sight.specs.Listing.{listed}
+use Rattle.sight.specs.Once.{At}
+use Rattle.sight.specs.Once.At.{first, later}
 use Rattle.sight.specs.declared.list.Listed.{Listed}
 use Rattle.sight.specs.declared.list.Listed.the-variants as L
-use Rattle.morning.specs.Morning.{rows-in-all, crossings-in-all, all-rows, all-replies, asked, stands-from, listed-stands}
-use Rattle.morning.proofs.Grants.{grant-says}
+use Rattle.sight.proofs.Tables.{place-is-within}
+use Rattle.morning.specs.Morning.{rows-of, three-of, rows-in, one-after-another, single, rows-in-all, crossings-in-all, all-rows, all-replies, asked, stands-from, listed-stands}
+use Rattle.morning.proofs.Grants.{Grant, grant-says}
+use Rattle.morning.proofs.Single.{AsSingle, listed-as-single}
+use Rattle.morning.proofs.Each.{followed-by, rows-are-three-numbers, replies-are-three-numbers, few-rows-in-all}
 
 module _ (cs : List ℤ) (ts ds : List ℕ) (w : ℕ) (stands : List Stand) (n : ℕ) (table replies : List ℕ) where
   pub call-refused : {r : Refusal} → asked cs ts ds w n (length table) (length replies) ≡ C.Refused r → _≡_ {A = Listed × (List ℕ × List ℕ)} (L.Refused r, (table, replies)) (listed-stands cs ts ds w stands n table replies)
@@ -41,3 +51,70 @@ only-the-first-are-read cs ts ds w ss us n table replies same = by-asked (asked 
         let few = grant-says cs ts ds w n (length table) (length replies) (record { plan = p; accepted = e }) .few-stands in
         ap (λ (l : List Stand). stands-from cs ts ds w l table replies (C.Accepted p)) (same few)
     by-asked (C.Refused r) e = refl
+
+-- ---- each stand's part
+
+-- the stands before the one at place i, that one, and those after it
+around : {s : Stand} {ss : List Stand} {i : ℕ} → At s ss i → ss ≡ take i ss ++ (s ∷ drop (suc i) ss)
+around first = refl
+around (later {y = u} a) = ap (λ (l : List Stand). u ∷ l) (around a)
+
+-- what stands one after another in lent memory: the part of the stand at place i
+part-of : (f : Stand → List ℕ) {s : Stand} {ss : List Stand} {i : ℕ} → At s ss i → (old : List ℕ) → length (one-after-another f ss) ≤ length old → (a b : ℕ) → length (one-after-another f (take i ss)) ≡ a → length (f s) ≡ b → take b (drop a (sets old 0 (one-after-another f ss))) ≡ f s
+unfolding one-after-another
+part-of f {s} {ss} {i} at old room a b before here =
+    let rest = one-after-another f (drop (suc i) ss) in
+    let beyond = drop (length (one-after-another f ss)) old in
+    let in-three : one-after-another f ss ≡ one-after-another f (take i ss) ++ (f s ++ rest) = ap (one-after-another f) (around at) ∙ followed-by f (take i ss) (s ∷ drop (suc i) ss) in
+    let whole : sets old 0 (one-after-another f ss) ≡ one-after-another f (take i ss) ++ (f s ++ (rest ++ beyond)) =
+    written-from-the-beginning old (one-after-another f ss) (length (one-after-another f ss)) refl room
+    ∙ ap (λ (l : List ℕ). l ++ beyond) in-three
+    ∙ append-assoc (one-after-another f (take i ss)) (f s ++ rest) beyond
+    ∙ ap (λ (l : List ℕ). one-after-another f (take i ss) ++ l) (append-assoc (f s) rest beyond) in
+    ap (λ (l : List ℕ). take b (drop a l)) whole
+    ∙ ap (take b) (drop-at (one-after-another f (take i ss)) (f s ++ (rest ++ beyond)) a before)
+    ∙ take-at (f s) (rest ++ beyond) b here
+
+module _ (cs : List ℤ) (ts ds : List ℕ) (w : ℕ) (stands : List Stand) (m : ℕ) (table replies : List ℕ) (grant : Grant cs ts ds w m (length table) (length replies)) where
+  abbrev ss : List Stand
+  ss = take m stands
+
+  no-more : length ss ≤ m
+  no-more = omega (arith, length-take m stands)
+
+  rows-have-room : 3 * rows-in-all cs ts ds w ss ≤ length table
+  rows-have-room =
+      let few = few-rows-in-all cs ts ds w grant ss in
+      let at-most : corner-count cs * length ss ≤ corner-count cs * m = mul-le-mul (le-refl (corner-count cs)) no-more in
+      omega (arith, grant .table-long, mul-assoc 3 (corner-count cs) m)
+
+  replies-have-room : 3 * length ss ≤ length replies
+  replies-have-room = omega (arith, grant .replies-long, no-more)
+
+  module _ {i : ℕ} {s : Stand} (at : At s ss i) (lent : List ℕ) (room : 3 * corner-count cs ≤ length lent) where
+    alone : AsSingle cs ts ds w s lent (listed cs ts ds w s lent .0) (listed cs ts ds w s lent .1)
+    alone = listed-as-single cs ts ds w (grant .plan-accepted) (grant .setting-right) s lent room
+
+    -- three numbers at the stand's place are the reply of the single listing
+    pub reply-is-the-single-one : take 3 (drop (3 * i) (sets replies 0 (all-replies cs ts ds w ss))) ≡ three-of (listed cs ts ds w s lent .0)
+    reply-is-the-single-one =
+        let i-taken : length (take i ss) ≡ i = length-take-le i ss (omega (arith, place-is-within at)) in
+        part-of (λ s. three-of (single cs ts ds w s .0)) at replies (omega (arith, replies-have-room, replies-are-three-numbers cs ts ds w grant ss)) (3 * i) 3 (replies-are-three-numbers cs ts ds w grant (take i ss) ∙ ap (λ (k : ℕ). 3 * k) i-taken) refl
+        ∙ ap three-of (sym (alone .same-answer))
+
+    -- the numbers behind the rows of the stands before are the rows of the single listing
+    pub rows-are-the-single-ones : take (3 * rows-of (listed cs ts ds w s lent .0)) (drop (3 * rows-in-all cs ts ds w (take i ss)) (sets table 0 (all-rows cs ts ds w ss))) ≡ take (3 * rows-of (listed cs ts ds w s lent .0)) (listed cs ts ds w s lent .1)
+    rows-are-the-single-ones =
+        let as-many : length (rows-in (single cs ts ds w s)) ≡ 3 * rows-of (listed cs ts ds w s lent .0) = alone .three-a-row ∙ ap (λ (a : Listed). 3 * rows-of a) (sym (alone .same-answer)) in
+        part-of (λ s. rows-in (single cs ts ds w s)) at table (omega (arith, rows-have-room, rows-are-three-numbers cs ts ds w grant ss)) (3 * rows-in-all cs ts ds w (take i ss)) (3 * rows-of (listed cs ts ds w s lent .0)) (rows-are-three-numbers cs ts ds w grant (take i ss)) as-many
+        ∙ sym
+        (ap (take (3 * rows-of (listed cs ts ds w s lent .0))) (alone .same-rows)
+        ∙ first-is-new lent (rows-in (single cs ts ds w s)) (3 * rows-of (listed cs ts ds w s lent .0)) as-many (omega (arith, alone .few-rows, alone .three-a-row)))
+
+  pub table-is-kept-beyond : drop (3 * rows-in-all cs ts ds w ss) (sets table 0 (all-rows cs ts ds w ss)) ≡ drop (3 * rows-in-all cs ts ds w ss) table
+  table-is-kept-beyond =
+      rest-is-kept table (all-rows cs ts ds w ss) (3 * rows-in-all cs ts ds w ss) (rows-are-three-numbers cs ts ds w grant ss) rows-have-room
+
+  pub replies-are-kept-beyond : drop (3 * length ss) (sets replies 0 (all-replies cs ts ds w ss)) ≡ drop (3 * length ss) replies
+  replies-are-kept-beyond =
+      rest-is-kept replies (all-replies cs ts ds w ss) (3 * length ss) (replies-are-three-numbers cs ts ds w grant ss) replies-have-room

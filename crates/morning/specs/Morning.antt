@@ -74,19 +74,19 @@ too-many false = Frame
 abbrev pub no-room : ℕ → ℕ → ℕ → ℕ → Bool
 no-room corners n room places = ltb room (3 * corners * n) || ltb places (3 * n)
 
--- what was accepted before is asked further
-abbrev pub then-asked : Checked → Checked → Checked
-then-asked (C.Accepted p) rest = rest
-then-asked (C.Refused r) rest = C.Refused r
+-- an accepted plan is asked further
+abbrev pub then-asked : Checked → (Plan → Checked) → Checked
+then-asked (C.Accepted p) more = more p
+then-asked (C.Refused r) more = C.Refused r
 
 -- the refusals of the whole call, before any stand is looked at; n is the number of stands
 unfoldable pub asked : List ℤ → List ℕ → List ℕ → ℕ → ℕ → ℕ → ℕ → Checked
 asked cs ts ds w n room places =
     refuse-if (ltb most-stands n) (too-many (framed cs ts))
     (then-asked (checked cs ts ds)
-    (refuse-if (wrong-setting w (length ds)) Setting
+    (λ p. refuse-if (wrong-setting w (length ds)) Setting
     (refuse-if (no-room (corner-count cs) n room places) Room
-    (checked cs ts ds))))
+    (C.Accepted p))))
 
 -- the call is granted: it is refused for no reason
 pub record Granted (cs : List ℤ) (ts ds : List ℕ) (w n room places : ℕ) : Type 0 where

@@ -1,0 +1,97 @@
+-- Several stands in one call are single calls, so demand 2 holds for each of them (document 02, A1).
+use mathlib.Core.List.{List}
+use mathlib.Core.Path.{_≡_, refl, sym, ap, _∙_, subst}
+use Prim.Native.Nat.{ℕ, _+_, _*_, _<_}
+use native.Mathlib.Omega.{arith}
+use lib.ListN.{length, getD, take, drop}
+use lib.Seq.{sets, getD-take}
+use lib.IntN.{ℤ}
+use Rattle.limits.specs.declared.Checked.{Checked}
+use Rattle.limits.specs.declared.Checked.the-variants as C
+use Rattle.stand.specs.declared.spot.Stand.{Stand}
+use Rattle.expand.specs.Sight.{Row}
+use Rattle.sight.specs.Listing.{listed}
+use Rattle.sight.specs.Written.{row-at, OneRow}
+use Rattle.sight.specs.declared.list.Listed.{Listed}
+use Rattle.sight.specs.declared.list.Listed.the-variants as L
+use Rattle.morning.specs.Morning.{rows-of, rows-in-all, crossings-in-all, all-rows, asked, stands-from, listed-stands}
+use Rattle.morning.proofs.Grants.{grant-says}
+use Rattle.morning.proofs.Together.{reply-is-the-single-one, rows-are-the-single-ones, table-is-kept-beyond, replies-are-kept-beyond}
+use Rattle.manopluea.specs.Demands.{Sighted}
+use Rattle.manopluea.specs.Together.{SingleCalls}
+use Rattle.manopluea.proofs.Demands.{demand-2}
+
+-- ---- what demand 2 asks of n rows it asks of the first 3·n numbers only
+
+module _ (n : ℕ) (a b : List ℕ) (same : take (3 * n) a ≡ take (3 * n) b) where
+  same-number : (j : ℕ) → j < 3 * n → getD a j 0 ≡ getD b j 0
+  same-number j h = sym (getD-take (3 * n) a j 0 h) ∙ ap (λ (l : List ℕ). getD l j 0) same ∙ getD-take (3 * n) b j 0 h
+
+  same-row : (i : ℕ) → i < n → row-at a i ≡ row-at b i
+  same-row i h =
+      let e₀ = same-number (3 * i) (omega arith) in
+      let e₁ = same-number (3 * i + 1) (omega arith) in
+      let e₂ = same-number (3 * i + 2) (omega arith) in
+      λ k. record { face = e₀ k; right = e₁ k; left = e₂ k }
+
+  same-one-row : {P : Row → Type 0} {w : Row} → OneRow P a n w → OneRow P b n w
+  same-one-row {P} {w} one =
+      record {
+        place = one .place;
+        within = one .within;
+        stands = sym (same-row (one .place) (one .within)) ∙ one .stands;
+        has = one .has;
+        no-other = λ i h p. one .no-other i h (subst P (sym (same-row i h)) p);
+      }
+
+  same-sighted : {cs : List ℤ} {ts ds : List ℕ} {w : ℕ} {s : Stand} {k : ℕ} → Sighted cs ts ds w s n k a → Sighted cs ts ds w s n k b
+  same-sighted seen =
+      record {
+        x = seen .x;
+        y = seen .y;
+        the-stand = seen .the-stand;
+        cell = seen .cell;
+        its-cell = seen .its-cell;
+        expanded = sym same ∙ seen .expanded;
+        counted = seen .counted;
+        crossed = seen .crossed;
+        held = λ d nonzero clear.
+            let once = seen .held d nonzero clear in
+            record { row = once .row; one = same-one-row (once .one); met = once .met };
+      }
+
+-- ---- the whole call
+
+module _ (cs : List ℤ) (ts ds : List ℕ) (w : ℕ) (stands : List Stand) (m : ℕ) (table replies : List ℕ) where
+  -- whenever the call is done: each stand's reply, counts and rows are those of the listing called alone, the counts are the sums, and beyond what
+  -- was written all is as it was
+  pub together-is-single-calls : {n k : ℕ} → listed-stands cs ts ds w stands m table replies .0 ≡ L.Rows n k → SingleCalls cs ts ds w (take m stands) n k table (listed-stands cs ts ds w stands m table replies .1 .0) replies (listed-stands cs ts ds w stands m table replies .1 .1)
+  unfolding listed-stands
+  together-is-single-calls {n} {k} e = by-asked (asked cs ts ds w m (length table) (length replies)) refl e
+    where
+      ss : List Stand
+      ss = take m stands
+
+      by-asked : (c : Checked) → asked cs ts ds w m (length table) (length replies) ≡ c → stands-from cs ts ds w ss table replies c .0 ≡ L.Rows n k → SingleCalls cs ts ds w ss n k table (stands-from cs ts ds w ss table replies c .1 .0) replies (stands-from cs ts ds w ss table replies c .1 .1)
+      by-asked (C.Accepted p) h answer =
+          let grant = grant-says cs ts ds w m (length table) (length replies) (record { plan = p; accepted = h }) in
+          let rows-added : n ≡ rows-in-all cs ts ds w ss = cc in
+          let crossings-added : k ≡ crossings-in-all cs ts ds w ss = cc in
+          record {
+            each = λ i s at lent room.
+                let rows = rows-are-the-single-ones cs ts ds w stands m table replies grant at lent room in
+                record {
+                  reply = reply-is-the-single-one cs ts ds w stands m table replies grant at lent room;
+                  rows = rows;
+                  sighted = λ a b alone.
+                      same-sighted a (listed cs ts ds w s lent .1) (drop (3 * rows-in-all cs ts ds w (take i ss)) (sets table 0 (all-rows cs ts ds w ss))) (sym (subst (λ (l : Listed). take (3 * rows-of l) (drop (3 * rows-in-all cs ts ds w (take i ss)) (sets table 0 (all-rows cs ts ds w ss))) ≡ take (3 * rows-of l) (listed cs ts ds w s lent .1)) alone rows)) (demand-2 cs ts ds w s lent .sighted a b alone);
+                };
+            rows-added = rows-added;
+            crossings-added = crossings-added;
+            table-beyond = subst (λ (i : ℕ). drop (3 * i) (sets table 0 (all-rows cs ts ds w ss)) ≡ drop (3 * i) table) (sym rows-added) (table-is-kept-beyond cs ts ds w stands m table replies grant);
+            replies-beyond = replies-are-kept-beyond cs ts ds w stands m table replies grant;
+          }
+      by-asked (C.Refused r) h answer = absurd (never answer)
+        where
+          never : L.Refused r ≡ L.Rows n k → ⊥
+          never p = let z : _≡_ {A = ℕ} 0 1 = cc in omega arith

@@ -1,0 +1,37 @@
+-- Request A1 of document 02, of any counts, table and replies: they are those of single calls, one after another.
+use mathlib.Core.List.{List}
+use mathlib.Core.Path.{_≡_}
+use Prim.Native.Nat.{ℕ, _*_, _≤_}
+use lib.ListN.{length, take, drop}
+use lib.IntN.{ℤ}
+use Rattle.plan.specs.Lists.{corner-count}
+use Rattle.stand.specs.declared.spot.Stand.{Stand}
+use Rattle.sight.specs.Listing.{listed}
+use Rattle.sight.specs.Once.{At}
+use Rattle.sight.specs.declared.list.Listed.the-variants.{Rows}
+use Rattle.morning.specs.Morning.{rows-of, three-of, rows-in-all, crossings-in-all}
+use Rattle.manopluea.specs.Demands.{Sighted}
+
+module _ (cs : List ℤ) (ts ds : List ℕ) (w : ℕ) (ss : List Stand) where
+  -- the rows of the stands before place i
+  abbrev pub rows-before : ℕ → ℕ
+  rows-before i = rows-in-all cs ts ds w (take i ss)
+
+  -- at place i stands what the listing of s gives, called alone with the table `lent`
+  pub record SingleCall (i : ℕ) (s : Stand) (lent table replies : List ℕ) : Type 0 where
+    -- reply number, row count and crossings
+    pub reply : take 3 (drop (3 * i) replies) ≡ three-of (listed cs ts ds w s lent .0)
+    -- its rows, behind those of the stands before
+    pub rows : take (3 * rows-of (listed cs ts ds w s lent .0)) (drop (3 * rows-before i) table) ≡ take (3 * rows-of (listed cs ts ds w s lent .0)) (listed cs ts ds w s lent .1)
+    -- so demand 2 holds for them
+    pub sighted : (n k : ℕ) → listed cs ts ds w s lent .0 ≡ Rows n k → Sighted cs ts ds w s n k (drop (3 * rows-before i) table)
+
+  pub record SingleCalls (n k : ℕ) (table₀ table replies₀ replies : List ℕ) : Type 0 where
+    -- each stand, with any table of 3·corners numbers
+    pub each : (i : ℕ) (s : Stand) → At s ss i → (lent : List ℕ) → 3 * corner-count cs ≤ length lent → SingleCall i s lent table replies
+    -- the counts are the sums
+    pub rows-added : n ≡ rows-in-all cs ts ds w ss
+    pub crossings-added : k ≡ crossings-in-all cs ts ds w ss
+    -- beyond what was written the table and the replies keep their values
+    pub table-beyond : drop (3 * n) table ≡ drop (3 * n) table₀
+    pub replies-beyond : drop (3 * length ss) replies ≡ drop (3 * length ss) replies₀
