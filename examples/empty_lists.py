@@ -13,6 +13,8 @@ PLAN = *lend(ctypes.c_int32, CORNERS), *lend(ctypes.c_uint16, CELLS)
 ONE_DOOR = lend(ctypes.c_uint16, [2])
 FILE = lend(ctypes.c_uint8, bytes(18 + 32 + 24))
 TABLE = lend(ctypes.c_uint16, [0] * 12)
+MORNING = lend(ctypes.c_double, [-1, 6, 3])
+REPLIES = lend(ctypes.c_uint64, [0] * 3)
 TEXT = lend(ctypes.c_uint8, bytes(36928))
 SETTING, CORNER, DOOR, SHUT = ctypes.c_uint64(0), ctypes.c_uint16(0), ctypes.c_size_t(0), ctypes.c_bool(True)
 AT = ctypes.c_double(6), ctypes.c_double(3)
@@ -50,6 +52,12 @@ def main(library):
         change = f"change_{kind}", *PLAN, *ONE_DOOR, SETTING, *stand, *NULL, DOOR, SHUT
         expect(ROOM, none, *change, *NULL)
         expect(ROWS, none, *change, *TABLE)
+    morning = "list_stands", *PLAN, *NULL, SETTING
+    expect(SIZE, none, "list_stands", *NULL, *NULL, *NULL, SETTING, *NULL, *NULL, *NULL)
+    expect(0, none, *morning, *NULL, *NULL, *NULL)
+    expect(ROOM, none, *morning, *MORNING, *NULL, *REPLIES)
+    expect(ROOM, none, *morning, *MORNING, *TABLE, *NULL)
+    expect(0, [4, 1, 0], *morning, *MORNING, *TABLE, *REPLIES)
     expect(ROOM, none, "print", *NULL, *NULL)
     expect(0, [len("refused 1 0\n"), 0, 0], "print", *NULL, *TEXT)
 

@@ -1,8 +1,9 @@
-/* The proved library: the public calls of document 01 for C and every language that speaks its calling convention.
+/* The proved library: the public calls of documents 01 and 02 for C and every language that speaks its calling
+ * convention.
  *
  * `rt staticlib exports` writes target/staticlib/libexports.a, for x86-64 Linux. It needs memcpy and memset, and
- * nothing else. Its code is position-independent: a shared object can be linked from it. examples/ has a client in C
- * and one in Python.
+ * nothing else. Its code is position-independent: a shared object can be linked from it. examples/ has clients in C and
+ * Python.
  *
  * What a caller keeps:
  *
@@ -12,8 +13,9 @@
  *
  *   Stack. A call needs at most MANOPLUEA_STACK bytes. With less, the process may be ended by a signal at the guard
  *   page below its stack. Sight goes through no more than 2999 lines, one call within the other; on a floor as deep as
- *   that a listing was measured at 700 KiB, a door change at 712 and printing, which takes the most, at 760. The other
- *   calls need 60 KiB. The number stated is rounded up from that, with a quarter of it to spare.
+ *   that a listing was measured at 700 KiB, a morning's 32 stands at 700 too, a door change at 712 and printing, which
+ *   takes the most, at 760. The other calls need 60 KiB. The number stated is rounded up from that, with a quarter of
+ *   it to spare.
  *
  * There is nothing else to keep: no list, number or setting is wrong input, and every call returns. A call is
  * reentrant and keeps no state: several threads may make calls at once.
@@ -46,7 +48,7 @@ extern "C" {
 #endif
 
 /* Counts up where a function, a number or a promise of this header changes. */
-#define MANOPLUEA_VERSION 1
+#define MANOPLUEA_VERSION 2
 
 /* The limits of a plan. A coordinate lies between -MANOPLUEA_MOST_COORDINATE and MANOPLUEA_MOST_COORDINATE. */
 #define MANOPLUEA_LEAST_CORNERS 3
@@ -58,6 +60,12 @@ extern "C" {
 
 /* The neighbour that means wall. */
 #define MANOPLUEA_WALL 65535
+
+/* The most stands that a morning has. */
+#define MANOPLUEA_MOST_STANDS 32
+
+/* In a list of stands, what a stand that is a point has in place of a corner. */
+#define MANOPLUEA_POINT (-1.0)
 
 /* The bytes of the largest plan file. */
 #define MANOPLUEA_MOST_FILE 52530
@@ -74,11 +82,12 @@ extern "C" {
 /* The bytes of stack that a call needs at most. */
 #define MANOPLUEA_STACK 1048576
 
-/* What reply[0] is, and where reply[1] is a place other than 0. */
+/* What reply[0] is, and where reply[1] is a place other than 0. A morning's single stands have these numbers too. */
 enum manopluea_number {
     MANOPLUEA_DONE = 0,
-    MANOPLUEA_FRAME = 1,     /* not the three records, or a body not a multiple of 8, 12, 2; lists not of 2, 6, 1 */
-    MANOPLUEA_SIZE = 2,      /* a count outside the limits */
+    MANOPLUEA_FRAME = 1,     /* not the three records, or a body not a multiple of 8, 12, 2; lists not of 2, 6, 1;
+                                stands not of 3 */
+    MANOPLUEA_SIZE = 2,      /* a count outside the limits; more than MANOPLUEA_MOST_STANDS stands */
     MANOPLUEA_CORNER = 3,    /* a coordinate outside the limits; place: the least such corner */
     MANOPLUEA_CELL = 4,      /* a corner number that does not exist, or a side value that is not positive; least cell */
     MANOPLUEA_NEIGHBOUR = 5, /* neither wall, nor a cell with a side that answers; least face */
@@ -87,8 +96,8 @@ enum manopluea_number {
     MANOPLUEA_STAND = 8,     /* number or corner not accepted */
     MANOPLUEA_LINE = 9,      /* strictly inside no cell, on some cell's border */
     MANOPLUEA_OUTSIDE = 10,  /* inside or on no cell */
-    MANOPLUEA_ROOM = 11,     /* a table below 3*corners numbers, a file or a list below what is written, a text below
-                                MANOPLUEA_TEXT */
+    MANOPLUEA_ROOM = 11,     /* a table below 3*corners numbers, or for a morning below 3*corners*stands; replies below
+                                3*stands; a file or a list below what is written; a text below MANOPLUEA_TEXT */
     MANOPLUEA_CHANGE = 12,   /* no such door, or already in that state */
     MANOPLUEA_ROWS = 13      /* the given list differs from the true one, in length or any number */
 };
@@ -154,6 +163,30 @@ void manopluea_list_offset(const int32_t *corners, size_t corners_length,
                            const uint16_t *doors, size_t doors_length,
                            uint64_t setting, uint16_t corner, double dx, double dy,
                            uint16_t *table, size_t table_length,
+                           uint64_t *reply, size_t reply_length);
+
+/* A morning's stands together. Replies 0 to 7 and 11; 8 to 10 are replies of single stands.
+ *
+ * Stands are three numbers each: corner, x, y. Where the first is MANOPLUEA_POINT the stand is the point (x, y), else
+ * the offset (x, y) from that corner. Minus zero reads as corner 0; a stand whose first number is neither
+ * MANOPLUEA_POINT nor a corner of the plan is not accepted. So every list has a reply: a length that is no multiple of
+ * 3 is refused with 1, more than MANOPLUEA_MOST_STANDS stands with 2, and a list of no stands is done, with sums 0.
+ *
+ * A table of fewer than 3*corners*stands numbers is refused with 11, and so are replies of fewer than 3*stands. This is
+ * judged before any stand is looked at, also where every stand would be refused.
+ *
+ * On 0 the replies hold three numbers a stand from their beginning on: its own reply (0, 8, 9 or 10), row count and
+ * crossings. The table holds the rows of all stands from its beginning on, one stand after another in the order given.
+ * A refused stand has counts 0 and no row, and stops no other. The first two values are the sums of the row counts and
+ * of the crossings. Each stand's reply, counts and rows are those of the listing from it, with a table of 3*corners
+ * numbers. */
+void manopluea_list_stands(const int32_t *corners, size_t corners_length,
+                           const uint16_t *cells, size_t cells_length,
+                           const uint16_t *doors, size_t doors_length,
+                           uint64_t setting,
+                           const double *stands, size_t stands_length,
+                           uint16_t *table, size_t table_length,
+                           uint64_t *replies, size_t replies_length,
                            uint64_t *reply, size_t reply_length);
 
 /* The door change. Replies 0 to 13. The given list is the one that is true under the setting, three numbers a row; a

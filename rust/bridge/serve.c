@@ -2,12 +2,24 @@
  * kit's emulator.
  * It reads requests from standard input and writes what each call leaves to standard output, until the input ends.
  *
- * A request is fifteen numbers of eight bytes, call, setting, corner, x, y, door, shut and the lengths of reply,
- * corners, cells, doors, given, table, file and text, then the contents of those eight lists, back to back. The answer is
- * the eight lists after the call. The file of PRINT is its input. */
+ * A request is seventeen numbers of eight bytes, call, setting, corner, x, y, door, shut and the lengths of reply,
+ * replies, stands, corners, cells, doors, given, table, file and text, then the contents of those ten lists, back to
+ * back. The answer is the ten lists after the call. The file of PRINT is its input. */
 #include "../../include/manopluea.h"
 
-enum { CHECK, READ, WRITE, FIND_POINT, FIND_OFFSET, LIST_POINT, LIST_OFFSET, CHANGE_POINT, CHANGE_OFFSET, PRINT };
+enum {
+    CHECK,
+    READ,
+    WRITE,
+    FIND_POINT,
+    FIND_OFFSET,
+    LIST_POINT,
+    LIST_OFFSET,
+    LIST_STANDS,
+    CHANGE_POINT,
+    CHANGE_OFFSET,
+    PRINT
+};
 
 static _Alignas(8) uint8_t lists[1 << 21];
 
@@ -68,16 +80,18 @@ static void serve_one(void)
     struct {
         uint64_t call, setting, corner;
         double x, y;
-        uint64_t door, shut, reply, corners, cells, doors, given, table, file, text;
+        uint64_t door, shut, reply, replies, stands, corners, cells, doors, given, table, file, text;
     } asked;
     receive(&asked, sizeof asked);
-    size_t r = asked.reply, n = asked.corners, m = asked.cells, k = asked.doors, g = asked.given, t = asked.table, f = asked.file,
-           x = asked.text;
-    if ((r | n | m | k | g | t | f | x) >> 32 || 8 * r + 4 * n + 2 * (m + k + g + t) + f + x > sizeof lists)
+    size_t r = asked.reply, o = asked.replies, s = asked.stands, n = asked.corners, m = asked.cells, k = asked.doors,
+           g = asked.given, t = asked.table, f = asked.file, x = asked.text;
+    if ((r | o | s | n | m | k | g | t | f | x) >> 32 ||
+        8 * (r + o + s) + 4 * n + 2 * (m + k + g + t) + f + x > sizeof lists)
         leave(2);
     /* the widest numbers come first, so each list is aligned */
-    uint64_t *reply = (uint64_t *)lists;
-    int32_t *corners = (int32_t *)(reply + r);
+    uint64_t *reply = (uint64_t *)lists, *replies = reply + r;
+    double *stands = (double *)(replies + o);
+    int32_t *corners = (int32_t *)(stands + s);
     uint16_t *cells = (uint16_t *)(corners + n), *doors = cells + m, *given = doors + k, *table = given + g;
     uint8_t *file = (uint8_t *)(table + t), *text = file + f;
     size_t length = (size_t)(text + x - lists);
@@ -104,6 +118,9 @@ static void serve_one(void)
         break;
     case LIST_OFFSET:
         manopluea_list_offset(corners, n, cells, m, doors, k, asked.setting, corner, asked.x, asked.y, table, t, reply, r);
+        break;
+    case LIST_STANDS:
+        manopluea_list_stands(corners, n, cells, m, doors, k, asked.setting, stands, s, table, t, replies, o, reply, r);
         break;
     case CHANGE_POINT:
         manopluea_change_point(corners, n, cells, m, doors, k, asked.setting, asked.x, asked.y, given, g, asked.door, asked.shut, table, t, reply, r);

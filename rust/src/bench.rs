@@ -1,9 +1,10 @@
-//! Times of the public calls on four floors: of the proved library, of the
-//! second program and of plain Rust, side by side.
+//! Times of the public calls on four floors, and of a morning's stands on one of
+//! them: of the proved library, of the second program and of plain Rust, side by
+//! side.
 
 use crate::calls::{Calls, DoorChange, Lists, Plan, Stand};
 use crate::generate::{self, Dice, Mesh};
-use crate::paper::{self, Paper, DOORS};
+use crate::paper::{self, Paper, DOORS, MOST_STANDS};
 use crate::plain;
 use std::fmt::Write;
 use std::hint::black_box;
@@ -27,6 +28,8 @@ struct Floor {
     given: Vec<u16>,
     crossings: u64,
     door: usize,
+    /// The first of the stands tried, as many as a morning has.
+    morning: Vec<Stand>,
 }
 
 /// A call made on a floor.
@@ -43,6 +46,17 @@ struct Times {
 }
 
 impl Times {
+    /// From the medians of `calls_on`, in its order.
+    fn new([check, find, list, list_after, change]: [f64; 5]) -> Times {
+        Times {
+            check,
+            find,
+            list,
+            list_after,
+            change,
+        }
+    }
+
     /// All that a listing does once the stand's cell is known.
     fn expansion(&self) -> f64 {
         self.list - self.find
@@ -53,19 +67,29 @@ impl Times {
     }
 }
 
-/// Times the calls on each floor, and reports medians.
+/// Times the calls on each floor and a morning on the first, the cathedral, and
+/// reports medians.
 pub fn report(proved: &dyn Calls) -> String {
-    floors()
-        .iter()
-        .map(|floor| {
-            let programs = [
-                calls_of(floor, proved),
-                calls_of(floor, &Paper),
-                calls_on(floor, plain::check, plain::find, plain::list, plain::change),
-            ];
-            describe(floor, &medians(programs))
-        })
-        .collect()
+    let floors = floors();
+    let calls = floors.iter().map(|floor| {
+        let programs = [
+            calls_of(floor, proved),
+            calls_of(floor, &Paper),
+            calls_on(floor, plain::check, plain::find, plain::list, plain::change),
+        ];
+        describe(floor, &medians(programs).map(Times::new))
+    });
+    let text: String = calls.collect();
+    text + &report_morning(&floors[0], proved)
+}
+
+fn report_morning(floor: &Floor, proved: &dyn Calls) -> String {
+    let programs = [
+        morning_of(floor, proved),
+        morning_of(floor, &Paper),
+        morning_on(floor, plain::list_stands, plain::list),
+    ];
+    describe_morning(floor, medians(programs))
 }
 
 /// Four floors, each from the stand that crosses most lines.
@@ -87,12 +111,17 @@ fn floors() -> Vec<Floor> {
 
 fn floor(name: &'static str, mesh: &Mesh, dice: &mut Dice) -> Floor {
     let plan = with_most_doors(mesh, dice);
-    let (stand, (given, crossings)) = (0..STANDS_TRIED)
+    let tried: Vec<_> = (0..STANDS_TRIED)
         .map(|_| {
             let [x, y] = generate::inside(mesh, dice);
             let stand = Stand::Point(x as f64, y as f64);
             (stand, listing(&plan, 0, stand))
         })
+        .collect();
+    let stands = tried.iter().map(|&(stand, _)| stand);
+    let morning = stands.take(MOST_STANDS).collect();
+    let (stand, (given, crossings)) = tried
+        .into_iter()
         .max_by_key(|(_, (_, crossings))| *crossings)
         .expect("some stand is tried");
     // A door that is seen, so that the change changes something.
@@ -106,6 +135,7 @@ fn floor(name: &'static str, mesh: &Mesh, dice: &mut Dice) -> Floor {
         given,
         crossings,
         door,
+        morning,
     }
 }
 
@@ -177,13 +207,50 @@ fn calls_on<'a, Checked, Found, Listed>(
     ]
 }
 
+fn morning_of<'a>(floor: &'a Floor, calls: &'a dyn Calls) -> [Call<'a>; 2] {
+    morning_on(
+        floor,
+        |lists, setting, stands, table, replies| {
+            calls.list_stands(lists, setting, stands, table, replies)
+        },
+        |lists, setting, stand, table| calls.list(lists, setting, stand, table),
+    )
+}
+
+/// A morning's stands in one call, and in a call for each.
+fn morning_on<'a, Listed>(
+    floor: &'a Floor,
+    together: impl Fn(Lists<'a>, u64, &[f64], &mut [u16], &mut [u64]) -> Listed + 'a,
+    list: impl Fn(Lists<'a>, u64, Stand, &mut [u16]) -> Listed + 'a,
+) -> [Call<'a>; 2] {
+    let lists = floor.plan.lists();
+    let numbers = numbers(&floor.morning);
+    let mut tables = table(&floor.plan).repeat(floor.morning.len());
+    let mut replies = vec![0; numbers.len()];
+    let mut table = table(&floor.plan);
+    [
+        Box::new(move || {
+            black_box(together(lists, 0, &numbers, &mut tables, &mut replies));
+        }),
+        Box::new(move || {
+            for &stand in &floor.morning {
+                black_box(list(lists, 0, stand, &mut table));
+            }
+        }),
+    ]
+}
+
+fn numbers(stands: &[Stand]) -> Vec<f64> {
+    stands.iter().flat_map(|stand| stand.numbers()).collect()
+}
+
 /// The median time of each call of each program. The programs take turns, so
 /// that a machine that gets slower or faster does so for all of them.
-fn medians(mut programs: [[Call<'_>; 5]; 3]) -> [Times; 3] {
-    let mut samples: [[Vec<Duration>; 5]; 3] = Default::default();
+fn medians<const CALLS: usize>(mut programs: [[Call<'_>; CALLS]; 3]) -> [[f64; CALLS]; 3] {
+    let mut samples = [(); 3].map(|()| [(); CALLS].map(|()| Vec::new()));
     let begin = Instant::now();
     while samples[0][0].len() < FEWEST_ROUNDS || begin.elapsed() < TIME_EACH {
-        for call in 0..5 {
+        for call in 0..CALLS {
             for (calls, samples) in programs.iter_mut().zip(&mut samples) {
                 let start = Instant::now();
                 calls[call]();
@@ -191,16 +258,7 @@ fn medians(mut programs: [[Call<'_>; 5]; 3]) -> [Times; 3] {
             }
         }
     }
-    samples.map(|samples| {
-        let [check, find, list, list_after, change] = samples.map(median);
-        Times {
-            check,
-            find,
-            list,
-            list_after,
-            change,
-        }
-    })
+    samples.map(|samples| samples.map(median))
 }
 
 fn median(mut samples: Vec<Duration>) -> f64 {
@@ -229,21 +287,44 @@ fn describe(floor: &Floor, times: &[Times; 3]) -> String {
     text
 }
 
+fn describe_morning(floor: &Floor, times: [[f64; 2]; 3]) -> String {
+    let listings = floor
+        .morning
+        .iter()
+        .map(|&stand| listing(&floor.plan, 0, stand));
+    let (rows, crossings) = listings.fold((0, 0), |(rows, crossings), listing| {
+        (rows + listing.0.len() / 3, crossings + listing.1)
+    });
+    let count = floor.morning.len();
+    let mut text = format!(
+        "{}, a morning: {count} stands; {rows} rows, {crossings} crossings\n{}",
+        floor.name,
+        columns(),
+    );
+    let [stands, listings] = [format!("{count} stands"), format!("{count} listings")];
+    text += &line(&stands, 0, times.map(|[together, _]| together));
+    text += &line(&listings, 0, times.map(|[_, each]| each));
+    let against_each = times.map(|[together, each]| together / each);
+    text + &line(&format!("{stands} / {listings}"), 2, against_each)
+}
+
 fn heading(floor: &Floor) -> String {
     format!(
-        "{}: {} corners, {} cells, {} doors; {} rows, {} crossings\n{:<25}{:>11}{:>11}{:>11}{:>15}{:>14}\n",
+        "{}: {} corners, {} cells, {} doors; {} rows, {} crossings\n{}",
         floor.name,
         floor.plan.corners.len() / 2,
         floor.plan.cells.len() / 6,
         floor.plan.doors.len(),
         floor.given.len() / 3,
         floor.crossings,
-        "nanoseconds",
-        "proved",
-        "second",
-        "plain",
-        "proved/second",
-        "proved/plain",
+        columns(),
+    )
+}
+
+fn columns() -> String {
+    format!(
+        "{:<25}{:>11}{:>11}{:>11}{:>15}{:>14}\n",
+        "nanoseconds", "proved", "second", "plain", "proved/second", "proved/plain",
     )
 }
 
@@ -291,5 +372,36 @@ mod tests {
             assert_eq!(reply.values, [counts.rows as u64, counts.crossings, 0]);
             assert_eq!(proved, plain, "{}", floor.name);
         }
+    }
+
+    /// Each program lists the same rows for a morning, and every stand has some.
+    #[test]
+    fn the_mornings_are_listed_alike() {
+        let floor = &floors()[0];
+        let (lists, stands) = (floor.plan.lists(), numbers(&floor.morning));
+        let lent = || {
+            (
+                table(&floor.plan).repeat(MOST_STANDS),
+                vec![0; stands.len()],
+            )
+        };
+        let ask = |calls: &dyn Calls| {
+            let (mut table, mut replies) = lent();
+            let reply = calls.list_stands(lists, 0, &stands, &mut table, &mut replies);
+            (
+                reply.answer().expect("a floor can be listed"),
+                table,
+                replies,
+            )
+        };
+        let (mut table, mut replies) = lent();
+        let counts = plain::list_stands(lists, 0, &stands, &mut table, &mut replies);
+        let counts = counts.expect("a floor can be listed");
+        let plain = ([counts.rows as u64, counts.crossings, 0], table, replies);
+        assert_eq!(ask(&Paper), plain);
+        assert_eq!(ask(&crate::proved::Proved), plain);
+        let (own, _) = plain.2.as_chunks();
+        assert_eq!(own.len(), MOST_STANDS);
+        assert!(own.iter().all(|&[number, rows, _]| number == 0 && rows > 0));
     }
 }

@@ -1,4 +1,5 @@
-//! The public calls of document 01 as one trait, with the types they share.
+//! The public calls of documents 01 and 02 as one trait, with the types they
+//! share.
 //!
 //! Every list, table and file is lent by the caller, so that a comparison sees
 //! each number an implementor wrote, and each number it should have left alone.
@@ -39,6 +40,20 @@ pub enum Stand {
     Offset(u16, f64, f64),
 }
 
+/// In a list of stands, the number that a point has where an offset has its
+/// corner: the header's MANOPLUEA_POINT.
+pub const POINT: f64 = -1.0;
+
+impl Stand {
+    /// The stand's three numbers in a list of stands.
+    pub fn numbers(self) -> [f64; 3] {
+        match self {
+            Stand::Point(x, y) => [POINT, x, y],
+            Stand::Offset(corner, dx, dy) => [corner.into(), dx, dy],
+        }
+    }
+}
+
 /// A door change as it is asked for.
 #[derive(Clone, Copy, Debug)]
 pub struct DoorChange<'a> {
@@ -56,7 +71,7 @@ pub struct DoorChange<'a> {
 /// A refusal has the values 0.
 ///
 /// Values of reply 0: corners, cells, doors (check, read, write); the cell
-/// (find); rows, crossings (list, change).
+/// (find); rows, crossings (list, change); their sums (list_stands).
 #[derive(Clone, Copy, Debug, PartialEq, Eq)]
 pub struct Reply {
     pub number: u32,
@@ -170,6 +185,18 @@ pub trait Calls: Sync {
 
     /// Three numbers a row go into the table: face, right limit, left limit.
     fn list(&self, lists: Lists<'_>, setting: u64, stand: Stand, table: &mut [u16]) -> Reply;
+
+    /// A morning's stands, three numbers each: `POINT` or a corner, then x, y.
+    /// Their rows go into the table one after another, and three numbers a
+    /// stand into the replies: its own reply's number, row count, crossings.
+    fn list_stands(
+        &self,
+        lists: Lists<'_>,
+        setting: u64,
+        stands: &[f64],
+        table: &mut [u16],
+        replies: &mut [u64],
+    ) -> Reply;
 
     /// The list under the new setting goes into the table.
     fn change(&self, lists: Lists<'_>, change: DoorChange<'_>, table: &mut [u16]) -> Reply;

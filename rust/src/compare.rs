@@ -23,7 +23,10 @@ const PROGRAM_EVERY: u64 = 50;
 pub struct Tally {
     pub cases: u64,
     /// By call, then by reply number.
-    pub replies: [[u64; 14]; 7],
+    pub replies: [[u64; 14]; 8],
+    /// Of a morning's first stand, of those between, and of its last: by their
+    /// own reply's number.
+    pub stands: [[u64; 14]; 3],
     /// Directions tried for demand 2, those that meet a corner left out.
     pub directions: u64,
     /// Door changes tried for demand 3.
@@ -40,11 +43,17 @@ pub enum Call {
     Write,
     Find,
     List,
+    ListStands,
     Change,
     Print,
 }
 
-const CALL_NAMES: [&str; 7] = ["check", "read", "write", "find", "list", "change", "print"];
+const CALL_NAMES: [&str; 8] = [
+    "check", "read", "write", "find", "list", "stands", "change", "print",
+];
+
+/// The places of stands in a morning, in the order of the tally.
+const PLACE_NAMES: [&str; 3] = ["first", "between", "last"];
 
 impl Tally {
     pub fn count(&mut self, call: Call, number: u32) {
@@ -55,11 +64,25 @@ impl Tally {
         }
     }
 
+    /// Counts the stands of a morning, by each one's own reply.
+    fn count_stands(&mut self, replies: &[[u64; 3]]) {
+        for (at, &[number, ..]) in replies.iter().enumerate() {
+            let place = match at {
+                0 => 0,
+                _ if at + 1 < replies.len() => 1,
+                _ => 2,
+            };
+            if let Some(count) = self.stands[place].get_mut(number as usize) {
+                *count += 1;
+            }
+        }
+    }
+
     /// Both tallies as one.
     fn with(mut self, other: &Tally) -> Tally {
-        let sums = self.replies.iter_mut().flatten();
-        sums.zip(other.replies.iter().flatten())
-            .for_each(|(sum, count)| *sum += count);
+        let sums = self.replies.iter_mut().chain(&mut self.stands).flatten();
+        let counts = other.replies.iter().chain(&other.stands).flatten();
+        sums.zip(counts).for_each(|(sum, count)| *sum += count);
         self.cases += other.cases;
         self.directions += other.directions;
         self.changes += other.changes;
@@ -87,6 +110,14 @@ impl fmt::Display for Tally {
                 write!(f, "{:>9}", replies[number])?;
             }
             writeln!(f, "{:>9}", self.of_number(number))?;
+        }
+        for (name, replies) in PLACE_NAMES.iter().zip(&self.stands) {
+            let numbers = replies.iter().enumerate();
+            let counts: Vec<String> = numbers
+                .filter(|(_, &count)| count > 0)
+                .map(|(number, count)| format!("{count} with {number}"))
+                .collect();
+            writeln!(f, "stands, {name}: {}", counts.join(", "))?;
         }
         writeln!(f, "cases {}", self.cases)?;
         writeln!(f, "rows {} crossings {}", self.rows, self.crossings)?;
@@ -204,6 +235,7 @@ fn trials(case: Case) -> Vec<Trial> {
         Asked::Write { bytes: case.bytes },
         Asked::Find,
         Asked::List { table: case.table },
+        Asked::ListStands { room: case.morning },
         Asked::Change {
             shut: case.shut,
             given: case.given,

@@ -5,6 +5,7 @@ mod damage;
 mod dice;
 mod floors;
 mod mesh;
+mod morning;
 mod stands;
 
 pub use dice::Dice;
@@ -15,13 +16,16 @@ pub use stands::inside;
 use crate::calls::{Plan, Stand};
 use crate::paper::{self, Direction, DOORS, MOST_INPUT};
 
-/// A plan seen from a stand under a setting, with a door to be changed.
+/// A plan seen from a stand under a setting, with a door to be changed, and
+/// the stands of a morning there.
 #[derive(Clone, Debug)]
 pub struct Scene {
     pub plan: Plan,
     pub setting: u64,
     pub stand: Stand,
     pub door: usize,
+    /// Three numbers a stand, where none is missing.
+    pub stands: Vec<f64>,
 }
 
 /// How long lent memory is, against what the call asks for.
@@ -89,6 +93,8 @@ pub struct Case {
     pub shut: bool,
     pub given: Given,
     pub table: Room,
+    /// The table and the replies of a morning.
+    pub morning: [Room; 2],
     /// A plan file for the reader, often a damaged one.
     pub file: Vec<u8>,
     pub lists: [Room; 3],
@@ -106,14 +112,18 @@ const FULL_EVERY: usize = 300;
 
 /// The case with this number in the run with this seed.
 pub fn case(seed: u64, number: u64) -> Case {
-    let mut dice = Dice::for_case(seed, number);
-    let dice = &mut dice;
+    let dice = &mut Dice::for_case(seed, number);
+    // The morning has dice of its own, so that all else that a seed gives is
+    // what it gave before there were mornings.
+    let aside = &mut Dice::for_case(!seed, number);
     let mut mesh = floor(dice);
     let mut stand = stands::random(&mesh, dice);
+    let mut stands = morning::random(&mesh, aside);
     if dice.percent(15) {
         let map = floors::slant(mesh.reach(), dice);
         mesh.map_corners(&map);
         stand = stands::mapped(stand, &map);
+        morning::map(&mut stands, &map);
     }
     let mut plan = mesh.plan(&doors(&mesh, dice));
     let directions = directions(&mesh, stand, dice);
@@ -127,11 +137,13 @@ pub fn case(seed: u64, number: u64) -> Case {
         setting,
         stand,
         door,
+        stands,
     };
     Case {
         shut,
         given: given(dice),
         table: room(dice),
+        morning: [room(aside), room(aside)],
         file: file(&scene, dice),
         lists: [room(dice), room(dice), room(dice)],
         bytes: room(dice),
@@ -350,6 +362,23 @@ mod tests {
             wrong_kind += usize::from(input.len() >= 30 && ![4, 5].contains(&input[4]));
         }
         assert!(longer > 10 && longest > 4 && cut > 10 && wrong_kind > 10);
+    }
+
+    #[test]
+    fn mornings_of_every_kind_come_up() {
+        let mut counts = [0; 34];
+        let (mut uneven, mut minus_zero, mut not_a_number) = (0, 0, 0);
+        for number in 0..4_000 {
+            let stands = case(8, number).scene.stands;
+            counts[(stands.len() / 3).min(33)] += 1;
+            uneven += usize::from(!stands.len().is_multiple_of(3));
+            let first = || stands.iter().step_by(3);
+            minus_zero += first().filter(|n| n.to_bits() == 1 << 63).count();
+            not_a_number += first().filter(|n| n.is_nan()).count();
+        }
+        assert!(counts[..6].iter().all(|&count| count > 100), "{counts:?}");
+        assert!(counts[31..].iter().all(|&count| count > 10), "{counts:?}");
+        assert!(uneven > 50 && minus_zero > 20 && not_a_number > 20);
     }
 
     /// How many cells hold a spot strictly inside.

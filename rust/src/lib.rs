@@ -1,5 +1,5 @@
-//! The independent second program: document 01 written from the paper alone,
-//! a seeded generator of plans, the comparison of two implementors of the
+//! The independent second program: documents 01 and 02 written from the paper
+//! alone, a seeded generator of plans, the comparison of two implementors of the
 //! public calls, and benchmarks.
 //!
 //! The other implementor, the proved library behind its C interface, is the

@@ -74,6 +74,37 @@ pub fn list(
     listed(Proved.list(lists, setting, stand, table))
 }
 
+/// A morning's stands together, up to 32 of them: the rows of each stand as
+/// `list` has them, one stand after another in the order given, from the
+/// beginning of the table. What is given back are the sums.
+///
+/// Three numbers a stand go into the replies, from their beginning on, and
+/// `stand_listed` reads them. A stand that is refused has no rows, and stops no
+/// other.
+pub fn list_stands(
+    lists: Lists<'_>,
+    setting: u64,
+    stands: &[Stand],
+    table: &mut [u16],
+    replies: &mut [u64],
+) -> Result<Listed, Refusal> {
+    let numbers: Vec<[f64; 3]> = stands.iter().map(|stand| stand.numbers()).collect();
+    listed(Proved.list_stands(lists, setting, numbers.as_flattened(), table, replies))
+}
+
+/// What a stand's three numbers in the replies of `list_stands` say of it.
+///
+/// # Panics
+///
+/// Where the first of them is beyond 13, which no call writes.
+pub fn stand_listed([number, rows, crossings]: [u64; 3]) -> Result<Listed, Refusal> {
+    listed(Reply {
+        number: u32::try_from(number).unwrap_or(u32::MAX),
+        place: 0,
+        values: [rows, crossings, 0],
+    })
+}
+
 /// The door change: the list with one door shut or opened.
 pub fn change(
     lists: Lists<'_>,
@@ -135,6 +166,40 @@ mod tests {
         assert_eq!(check(plan.lists()), Err(Refusal::Cell(1)));
         plan.corners[5] = 536_870_913;
         assert_eq!(check(plan.lists()), Err(Refusal::Corner(2)));
+    }
+
+    /// Offsets are told from points, whatever their corner; a stand that is
+    /// refused stops no other.
+    #[test]
+    fn a_morning_has_a_listing_or_a_refusal_for_each_stand() {
+        let plan = plan_q();
+        let stands = [
+            Stand::Offset(u16::MAX, 6.0, 3.0),
+            Stand::Point(6.0, 3.0),
+            Stand::Point(11.0, 5.0),
+            Stand::Offset(2, -4.0, -7.0),
+        ];
+        let seen = Listed {
+            rows: 4,
+            crossings: 1,
+        };
+        let both = Listed {
+            rows: 8,
+            crossings: 2,
+        };
+        let (mut table, mut replies) = ([7; 48], [7; 12]);
+        let answer = list_stands(plan.lists(), 0, &stands, &mut table, &mut replies);
+        assert_eq!(answer, Ok(both));
+        let (own, _) = replies.as_chunks();
+        let own: Vec<_> = own.iter().map(|&numbers| stand_listed(numbers)).collect();
+        let refused = [Refusal::Stand, Refusal::Outside].map(Err);
+        assert_eq!(own, [refused[0], Ok(seen), refused[1], Ok(seen)]);
+        let rows = [0, 0, 1, 1, 1, 2, 4, 2, 3, 5, 3, 0];
+        assert_eq!(table[..24], [rows, rows].concat());
+        assert_eq!(table[24..], [7; 24]);
+        let short = &mut replies[1..];
+        let answer = list_stands(plan.lists(), 0, &stands, &mut table, short);
+        assert_eq!(answer, Err(Refusal::Room));
     }
 
     #[test]

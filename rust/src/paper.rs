@@ -1,4 +1,4 @@
-//! Document 01, implemented from the paper alone.
+//! Document 01 and what document 02 adds, implemented from the paper alone.
 //!
 //! The structure is chosen to differ from a pair of functions that call each
 //! other: the check turns the lists into a table of opposite faces, the
@@ -6,6 +6,7 @@
 //! values are 128 bits wide.
 
 mod file;
+mod morning;
 mod plan;
 mod printing;
 mod runs;
@@ -13,12 +14,14 @@ mod sight;
 mod stand;
 
 pub use file::{decode, encode};
+pub use morning::{stand_of, MOST_STANDS};
 pub use plan::{Floor, Point, CELLS, COORDINATES, CORNERS, DOORS, WALL};
 pub use printing::{print, query, MOST_INPUT};
 pub use runs::change_by_runs;
 pub use sight::{Direction, Listing, Row, View, Walk};
 
 use crate::calls::{Calls, DoorChange, Lists, Refusal, Reply, Stand};
+use morning::Morning;
 
 /// The paper program as an implementor of the public calls.
 pub struct Paper;
@@ -50,6 +53,17 @@ impl Calls for Paper {
         list(lists, setting, stand, table)
     }
 
+    fn list_stands(
+        &self,
+        lists: Lists<'_>,
+        setting: u64,
+        stands: &[f64],
+        table: &mut [u16],
+        replies: &mut [u64],
+    ) -> Reply {
+        list_stands(lists, setting, stands, table, replies)
+    }
+
     fn change(&self, lists: Lists<'_>, asked: DoorChange<'_>, table: &mut [u16]) -> Reply {
         change(lists, asked, table)
     }
@@ -77,6 +91,17 @@ pub fn find(lists: Lists<'_>, stand: Stand) -> Reply {
 
 pub fn list(lists: Lists<'_>, setting: u64, stand: Stand, table: &mut [u16]) -> Reply {
     reply(list_checked(lists, setting, stand, table))
+}
+
+pub fn list_stands(
+    lists: Lists<'_>,
+    setting: u64,
+    stands: &[f64],
+    table: &mut [u16],
+    replies: &mut [u64],
+) -> Reply {
+    let morning = Morning::list(lists, setting, stands, table.len(), replies.len());
+    reply(morning.map(|morning| hand_back_morning(&morning, table, replies)))
 }
 
 pub fn change(lists: Lists<'_>, asked: DoorChange<'_>, table: &mut [u16]) -> Reply {
@@ -175,6 +200,15 @@ fn hand_back(listing: &Listing, table: &mut [u16]) -> Values {
     let numbers = listing.rows.as_flattened();
     table[..numbers.len()].copy_from_slice(numbers);
     [listing.rows.len() as u64, listing.crossings, 0]
+}
+
+/// Gives back the sums.
+fn hand_back_morning(morning: &Morning, table: &mut [u16], replies: &mut [u64]) -> Values {
+    let (rows, own) = (morning.rows(), morning.replies());
+    table[..3 * rows.len()].copy_from_slice(rows.as_flattened());
+    replies[..3 * own.len()].copy_from_slice(own.as_flattened());
+    let crossings = own.iter().map(|[_, _, crossings]| crossings).sum();
+    [rows.len() as u64, crossings, 0]
 }
 
 fn counts(lists: Lists<'_>) -> Values {

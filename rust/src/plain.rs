@@ -1,10 +1,10 @@
-//! The check, the finding, the listing and the door change once more, by the steps that the
-//! proved library takes, as one writes them in Rust without a proof in mind:
-//! 64 bits wide, and a pair of functions that call each other. What they cost
-//! is what the benchmarks hold the proved library to.
+//! The check, the finding, the listings and the door change once more, by the
+//! steps that the proved library takes, as one writes them in Rust without a
+//! proof in mind: 64 bits wide, and a pair of functions that call each other.
+//! What they cost is what the benchmarks hold the proved library to.
 
 use crate::calls::{DoorChange, Lists, Refusal, Stand};
-use crate::paper::{CELLS, COORDINATES, CORNERS, DOORS, WALL};
+use crate::paper::{stand_of, CELLS, COORDINATES, CORNERS, DOORS, MOST_STANDS, WALL};
 
 /// A plan that passed the check.
 #[derive(Clone, Copy)]
@@ -37,35 +37,9 @@ fn next(side: usize) -> usize {
 }
 
 pub fn check(lists: Lists<'_>) -> Result<Plan<'_>, Refusal> {
-    let (corners, half_corner) = lists.corners.as_chunks();
-    let (cells, part_of_cell) = lists.cells.as_chunks();
-    let doors = lists.doors;
-    if !half_corner.is_empty() || !part_of_cell.is_empty() {
-        return Err(Refusal::Frame);
-    }
-    if !CORNERS.contains(&corners.len())
-        || !CELLS.contains(&cells.len())
-        || !DOORS.contains(&doors.len())
-    {
-        return Err(Refusal::Size);
-    }
-    let plan = Plan {
-        corners,
-        cells,
-        doors,
-    };
-    if let Some(corner) = corners.iter().position(|&corner| is_outside(corner)) {
-        return Err(Refusal::Corner(corner));
-    }
-    if let Some(cell) = cells.iter().position(|cell| !plan.is_right(cell)) {
-        return Err(Refusal::Cell(cell));
-    }
-    if let Some(face) = (0..3 * cells.len()).find(|&face| !plan.neighbour_is_right(face)) {
-        return Err(Refusal::Neighbour(face));
-    }
-    if let Some(door) = (0..doors.len()).find(|&door| !plan.door_is_right(door)) {
-        return Err(Refusal::Door(door));
-    }
+    let plan = Plan::cut(lists)?;
+    plan.check_counts()?;
+    plan.check_numbers()?;
     Ok(plan)
 }
 
@@ -76,8 +50,8 @@ fn is_outside(corner: [i32; 2]) -> bool {
 }
 
 pub fn find(lists: Lists<'_>, stand: Stand) -> Result<usize, Refusal> {
-    let plan = check(lists)?;
-    plan.cell_of(plan.millimetres(stand)?)
+    let (_, cell) = check(lists)?.find(stand)?;
+    Ok(cell)
 }
 
 pub fn list(
@@ -88,7 +62,48 @@ pub fn list(
 ) -> Result<Counts, Refusal> {
     let plan = check(lists)?;
     let (q, cell) = plan.view(setting, stand, table)?;
-    Ok(plan.list_from(setting, q, cell, table))
+    Ok(plan.list_from(&plan.lines(setting), q, cell, table))
+}
+
+pub fn list_stands(
+    lists: Lists<'_>,
+    setting: u64,
+    stands: &[f64],
+    table: &mut [u16],
+    replies: &mut [u64],
+) -> Result<Counts, Refusal> {
+    let (stands, part_of_stand) = stands.as_chunks();
+    let plan = Plan::cut(lists)?;
+    if !part_of_stand.is_empty() {
+        return Err(Refusal::Frame);
+    }
+    plan.check_counts()?;
+    if stands.len() > MOST_STANDS {
+        return Err(Refusal::Size);
+    }
+    plan.check_numbers()?;
+    plan.check_setting(setting)?;
+    if table.len() < 3 * plan.corners.len() * stands.len() || replies.len() < 3 * stands.len() {
+        return Err(Refusal::Room);
+    }
+    let lines = plan.lines(setting);
+    let mut sums = Counts::default();
+    let (replies, _) = replies.as_chunks_mut();
+    for (&numbers, reply) in stands.iter().zip(replies) {
+        let found = stand_of(numbers)
+            .ok_or(Refusal::Stand)
+            .and_then(|stand| plan.find(stand));
+        *reply = match found {
+            Ok((q, cell)) => {
+                let counts = plan.list_from(&lines, q, cell, &mut table[3 * sums.rows..]);
+                sums.rows += counts.rows;
+                sums.crossings += counts.crossings;
+                [0, counts.rows as u64, counts.crossings]
+            }
+            Err(refusal) => [refusal.reply().number.into(), 0, 0],
+        };
+    }
+    Ok(sums)
 }
 
 pub fn change(
@@ -102,14 +117,64 @@ pub fn change(
         return Err(Refusal::Change);
     }
     let mut old = vec![0; 3 * plan.corners.len()];
-    let Counts { rows, .. } = plan.list_from(asked.setting, q, cell, &mut old);
+    let Counts { rows, .. } = plan.list_from(&plan.lines(asked.setting), q, cell, &mut old);
     if old[..3 * rows] != *asked.given {
         return Err(Refusal::Rows);
     }
-    Ok(plan.list_from(asked.setting ^ 1 << asked.door, q, cell, table))
+    let lines = plan.lines(asked.setting ^ 1 << asked.door);
+    Ok(plan.list_from(&lines, q, cell, table))
+}
+
+impl<'a> Plan<'a> {
+    /// The lists cut into corners, cells and doors.
+    fn cut(lists: Lists<'a>) -> Result<Plan<'a>, Refusal> {
+        let (corners, half_corner) = lists.corners.as_chunks();
+        let (cells, part_of_cell) = lists.cells.as_chunks();
+        if !half_corner.is_empty() || !part_of_cell.is_empty() {
+            return Err(Refusal::Frame);
+        }
+        Ok(Plan {
+            corners,
+            cells,
+            doors: lists.doors,
+        })
+    }
 }
 
 impl Plan<'_> {
+    fn check_counts(&self) -> Result<(), Refusal> {
+        if !CORNERS.contains(&self.corners.len())
+            || !CELLS.contains(&self.cells.len())
+            || !DOORS.contains(&self.doors.len())
+        {
+            return Err(Refusal::Size);
+        }
+        Ok(())
+    }
+
+    fn check_numbers(&self) -> Result<(), Refusal> {
+        if let Some(corner) = self.corners.iter().position(|&corner| is_outside(corner)) {
+            return Err(Refusal::Corner(corner));
+        }
+        if let Some(cell) = self.cells.iter().position(|cell| !self.is_right(cell)) {
+            return Err(Refusal::Cell(cell));
+        }
+        if let Some(face) = (0..3 * self.cells.len()).find(|&face| !self.neighbour_is_right(face)) {
+            return Err(Refusal::Neighbour(face));
+        }
+        if let Some(door) = (0..self.doors.len()).find(|&door| !self.door_is_right(door)) {
+            return Err(Refusal::Door(door));
+        }
+        Ok(())
+    }
+
+    fn check_setting(&self, setting: u64) -> Result<(), Refusal> {
+        if setting.checked_shr(self.doors.len() as u32).unwrap_or(0) != 0 {
+            return Err(Refusal::Setting);
+        }
+        Ok(())
+    }
+
     fn corner(&self, number: u16) -> Point {
         point(self.corners[usize::from(number)])
     }
@@ -185,14 +250,17 @@ impl Plan<'_> {
         Err(Refusal::Outside)
     }
 
-    /// The stand and its cell, where the setting is right and the table long
-    /// enough for a listing.
-    fn view(&self, setting: u64, stand: Stand, table: &[u16]) -> Result<(Point, usize), Refusal> {
-        if setting.checked_shr(self.doors.len() as u32).unwrap_or(0) != 0 {
-            return Err(Refusal::Setting);
-        }
+    /// The stand and its cell.
+    fn find(&self, stand: Stand) -> Result<(Point, usize), Refusal> {
         let q = self.millimetres(stand)?;
-        let cell = self.cell_of(q)?;
+        Ok((q, self.cell_of(q)?))
+    }
+
+    /// The same, where the setting is right and the table long enough for a
+    /// listing.
+    fn view(&self, setting: u64, stand: Stand, table: &[u16]) -> Result<(Point, usize), Refusal> {
+        self.check_setting(setting)?;
+        let (q, cell) = self.find(stand)?;
         if table.len() < 3 * self.corners.len() {
             return Err(Refusal::Room);
         }
@@ -200,10 +268,10 @@ impl Plan<'_> {
     }
 
     /// Follows the three sides of the stand's cell.
-    fn list_from(&self, setting: u64, q: Point, cell: usize, table: &mut [u16]) -> Counts {
+    fn list_from(&self, lines: &[[u16; 2]], q: Point, cell: usize, table: &mut [u16]) -> Counts {
         let mut sight = Sight {
             corners: self.corners,
-            lines: &self.lines(setting),
+            lines,
             q,
             table,
             counts: Counts::default(),
@@ -328,6 +396,21 @@ mod tests {
         (call(&mut table), table)
     }
 
+    /// What a call leaves in a table and in replies of the case's lengths for a
+    /// morning.
+    fn with_replies(
+        case: &Case,
+        call: impl FnOnce(&mut [u16], &mut [u64]) -> Reply,
+    ) -> (Reply, Vec<u16>, Vec<u64>) {
+        let [corners, stands] = [
+            case.scene.plan.corners.len() / 2,
+            case.scene.stands.len() / 3,
+        ];
+        let mut table = vec![7; case.morning[0].length(3 * corners * stands)];
+        let mut replies = vec![7; case.morning[1].length(3 * stands)];
+        (call(&mut table, &mut replies), table, replies)
+    }
+
     #[test]
     fn plain_replies_are_the_paper_programs() {
         let mut changed = 0;
@@ -346,6 +429,14 @@ mod tests {
                 with_table(&case, |table| paper::list(lists, setting, stand, table)),
                 "{number}"
             );
+            let stands = &scene.stands;
+            let plain = with_replies(&case, |table, replies| {
+                counts(list_stands(lists, setting, stands, table, replies))
+            });
+            let paper = with_replies(&case, |table, replies| {
+                paper::list_stands(lists, setting, stands, table, replies)
+            });
+            assert_eq!(plain, paper, "{number}");
             let asked = DoorChange {
                 setting,
                 stand,

@@ -71,6 +71,17 @@ impl Calls for Proved {
         replied(|five| c::list(lists, setting, stand, table, five))
     }
 
+    fn list_stands(
+        &self,
+        lists: Lists<'_>,
+        setting: u64,
+        stands: &[f64],
+        table: &mut [u16],
+        replies: &mut [u64],
+    ) -> Reply {
+        replied(|five| c::list_stands(lists, setting, stands, table, replies, five))
+    }
+
     fn change(&self, lists: Lists<'_>, asked: DoorChange<'_>, table: &mut [u16]) -> Reply {
         replied(|five| c::change(lists, asked, table, five))
     }
@@ -106,6 +117,7 @@ mod tests {
             let mut bytes = vec![9; file.len()];
             let (mut corners, mut cells, mut doors) = ([9; 8], [9; 12], [9; 1]);
             let mut table = [9; 12];
+            let mut replies = [9; 3];
             let mut text = vec![9; MOST_TEXT];
             c::check(lists, &mut short);
             c::read(&file, &mut corners, &mut cells, &mut doors, &mut short);
@@ -113,6 +125,8 @@ mod tests {
             for stand in [Stand::Point(6.0, 3.0), Stand::Offset(0, 6.0, 3.0)] {
                 c::find(lists, stand, &mut short);
                 c::list(lists, 0, stand, &mut table, &mut short);
+                let stands = stand.numbers();
+                c::list_stands(lists, 0, &stands, &mut table, &mut replies, &mut short);
                 let asked = DoorChange {
                     setting: 0,
                     stand,
@@ -127,7 +141,7 @@ mod tests {
             assert_eq!(text, vec![9; MOST_TEXT]);
             assert_eq!(bytes, vec![9; file.len()]);
             assert_eq!((corners, cells, doors), ([9; 8], [9; 12], [9; 1]));
-            assert_eq!(table, [9; 12]);
+            assert_eq!((table, replies), ([9; 12], [9; 3]));
         }
     }
 

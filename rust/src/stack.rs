@@ -3,7 +3,7 @@
 
 use crate::calls::{Calls, DoorChange, Stand};
 use crate::generate::{self, query_record};
-use crate::paper::{self, Paper, DOORS};
+use crate::paper::{self, Paper, DOORS, MOST_STANDS};
 use crate::proved::{on_stack, Proved};
 
 /// Asks each function, and compares with the paper program.
@@ -53,6 +53,13 @@ pub fn ask_every_function(bytes: usize) -> Result<(), String> {
                 (calls.change(lists, asked, &mut table), table)
             })?;
         }
+        let stands = stand.numbers().repeat(MOST_STANDS);
+        same("list_stands", bytes, |calls| {
+            let mut table = table().repeat(MOST_STANDS);
+            let mut replies = vec![0; stands.len()];
+            let reply = calls.list_stands(lists, 0, &stands, &mut table, &mut replies);
+            (reply, table, replies)
+        })?;
         let input = [query_record(0, stand), file.clone()].concat();
         same("print", bytes, |calls| calls.print(&input))?;
     }

@@ -1,10 +1,10 @@
 //! Versions of the calls with one fault each: the errors and the versions to
-//! be shut out that document 01 names, and some more. The comparison has to
+//! be shut out that the documents name, and some more. The comparison has to
 //! find every one of them.
 
-use manopluea_compare::calls::{Calls, DoorChange, Lists, Reply, Stand};
-use manopluea_compare::compare::{compare, compare_program, Mismatch, Trial};
-use manopluea_compare::paper::{self, Floor, Paper, Row, View, WALL};
+use manopluea_compare::calls::{Calls, DoorChange, Lists, Reply, Stand, POINT};
+use manopluea_compare::compare::{compare, compare_program, Asked, Mismatch, Trial};
+use manopluea_compare::paper::{self, Floor, Paper, Row, View, MOST_STANDS, WALL};
 
 /// The enum of the faults, the list of all of them, and those in the expansion.
 macro_rules! faults {
@@ -40,6 +40,26 @@ faults! {
         RefusalCarriesValues,
         RoomIsAskedForRowsOnly,
         RoomComesBeforeStand,
+        // In a morning's stands.
+        RefusedStandStopsTheRest,
+        RefusedStandLeavesAGap,
+        RefusedStandHasRows,
+        RowsStandAtFixedPlaces,
+        LastStandForTheSums,
+        RepliesAreTurnedRound,
+        RestOfRepliesIsCleared,
+        RefusalClearsReplies,
+        RoomIsAskedForAcceptedStands,
+        RoomIsAskedOfTableOnly,
+        RoomComesBeforeSetting,
+        SizeOfMorningComesAfterCorner,
+        FrameOfMorningComesAfterSize,
+        MorningIsOneShorter,
+        NoStandsAreRefused,
+        PointsAndOffsetsAreMixedUp,
+        CornerIsTruncated,
+        CornerIsWrapped,
+        MinusZeroIsNoCorner,
         // In the door change.
         OldListIsCopied,
         OneRunIsShut,
@@ -152,6 +172,74 @@ impl Calls for Faulty {
         reply
     }
 
+    fn list_stands(
+        &self,
+        lists: Lists<'_>,
+        setting: u64,
+        stands: &[f64],
+        table: &mut [u16],
+        replies: &mut [u64],
+    ) -> Reply {
+        let before = Morning::lent(table, replies);
+        let (corners, count) = (lists.corners.len() / 2, stands.len() / 3);
+        let read = self.stands(stands);
+        let mut reply = Paper.list_stands(lists, setting, &read, table, replies);
+        match self.0 {
+            RefusalClearsReplies if reply.number != 0 => replies.fill(0),
+            RoomIsAskedForAcceptedStands if reply.number == 11 => {
+                let full = Morning::listed(lists, setting, &read);
+                let asked = 3 * corners * full.accepted();
+                if table.len() >= asked && replies.len() >= 3 * count {
+                    return full.hand_back(table, replies);
+                }
+            }
+            RoomIsAskedOfTableOnly if reply.number == 11 && table.len() >= 3 * corners * count => {
+                return Morning::listed(lists, setting, &read).hand_back(table, replies);
+            }
+            RoomComesBeforeSetting if reply.number == 7 && replies.len() < 3 * count => {
+                return refused(11);
+            }
+            SizeOfMorningComesAfterCorner if reply.number == 2 => {
+                let checked = Paper.check(lists);
+                if checked.number != 0 {
+                    return checked;
+                }
+            }
+            FrameOfMorningComesAfterSize if reply.number == 1 => {
+                let checked = Paper.check(lists);
+                if checked.number == 2 {
+                    return checked;
+                }
+            }
+            MorningIsOneShorter if reply.number == 0 && count == MOST_STANDS => {
+                before.hand_back(table, replies);
+                return refused(2);
+            }
+            NoStandsAreRefused if reply.number == 0 && count == 0 => return refused(2),
+            RestOfRepliesIsCleared if reply.number == 0 => replies[3 * count..].fill(0),
+            LastStandForTheSums if reply.number == 0 && count > 0 => {
+                reply.values[..2].copy_from_slice(&replies[3 * count - 2..3 * count]);
+            }
+            RepliesAreTurnedRound if reply.number == 0 => {
+                let (own, _) = replies[..3 * count].as_chunks_mut::<3>();
+                own.reverse();
+            }
+            slip @ (RefusedStandStopsTheRest
+            | RefusedStandLeavesAGap
+            | RefusedStandHasRows
+            | RowsStandAtFixedPlaces)
+                if reply.number == 0 =>
+            {
+                let full = Morning::listed(lists, setting, &read);
+                return full
+                    .slipped(slip, &before, corners)
+                    .hand_back(table, replies);
+            }
+            _ => {}
+        }
+        reply
+    }
+
     fn change(&self, lists: Lists<'_>, mut asked: DoorChange<'_>, table: &mut [u16]) -> Reply {
         asked.stand = self.stand(lists, asked.stand);
         let DoorChange {
@@ -196,7 +284,98 @@ impl Calls for Faulty {
     }
 }
 
+/// What a call for a morning leaves.
+struct Morning {
+    reply: Reply,
+    table: Vec<u16>,
+    replies: Vec<u64>,
+}
+
+impl Morning {
+    fn lent(table: &[u16], replies: &[u64]) -> Morning {
+        Morning {
+            reply: Reply::done([0; 3]),
+            table: table.to_vec(),
+            replies: replies.to_vec(),
+        }
+    }
+
+    /// The true one, where nothing is lent that is too short.
+    fn listed(lists: Lists<'_>, setting: u64, stands: &[f64]) -> Morning {
+        let mut table = vec![0; lists.corners.len() / 2 * stands.len()];
+        let mut replies = vec![0; stands.len()];
+        let reply = Paper.list_stands(lists, setting, stands, &mut table, &mut replies);
+        table.truncate(3 * reply.values[0] as usize);
+        Morning {
+            reply,
+            table,
+            replies,
+        }
+    }
+
+    fn hand_back(&self, table: &mut [u16], replies: &mut [u64]) -> Reply {
+        let (rows, own) = (
+            self.table.len().min(table.len()),
+            self.replies.len().min(replies.len()),
+        );
+        table[..rows].copy_from_slice(&self.table[..rows]);
+        replies[..own].copy_from_slice(&self.replies[..own]);
+        self.reply
+    }
+
+    fn accepted(&self) -> usize {
+        let numbers = self.replies.iter().step_by(3);
+        numbers.filter(|&&number| number == 0).count()
+    }
+
+    /// The true one written over what was lent, with a slip in where the rows
+    /// go.
+    fn slipped(&self, slip: Fault, before: &Morning, corners: usize) -> Morning {
+        let mut left = Morning::lent(&before.table, &before.replies);
+        let (own, _) = self.replies.as_chunks::<3>();
+        let (mut from, mut to) = (0, 0);
+        for (at, &[number, rows, crossings]) in own.iter().enumerate() {
+            let length = 3 * rows as usize;
+            match slip {
+                RefusedStandStopsTheRest if number != 0 => {
+                    left.replies[3 * at] = number;
+                    left.replies[3 * at + 1..3 * at + 3].fill(0);
+                    return left;
+                }
+                RefusedStandLeavesAGap if number != 0 => to += 3,
+                RefusedStandHasRows if number != 0 => left.table[to..to + 3].fill(0),
+                RowsStandAtFixedPlaces => to = 3 * corners * at,
+                _ => {}
+            }
+            left.table[to..to + length].copy_from_slice(&self.table[from..from + length]);
+            left.replies[3 * at..3 * at + 3].copy_from_slice(&own[at]);
+            left.reply.values[0] += rows;
+            left.reply.values[1] += crossings;
+            from += length;
+            to += length;
+        }
+        left
+    }
+}
+
 impl Faulty {
+    /// A list of stands, each first number as it is read with the fault.
+    fn stands(&self, stands: &[f64]) -> Vec<f64> {
+        let read = |first: f64| match self.0 {
+            PointsAndOffsetsAreMixedUp if first == POINT => 0.0,
+            PointsAndOffsetsAreMixedUp if first == 0.0 => POINT,
+            CornerIsTruncated => first.trunc(),
+            CornerIsWrapped if first.fract() == 0.0 && first > 65_535.0 => first % 65_536.0,
+            MinusZeroIsNoCorner if first == 0.0 && first.is_sign_negative() => f64::NAN,
+            _ => first,
+        };
+        let mut numbers = stands.to_vec();
+        for first in numbers.iter_mut().step_by(3) {
+            *first = read(*first);
+        }
+        numbers
+    }
+
     fn stand(&self, lists: Lists<'_>, stand: Stand) -> Stand {
         match (self.0, stand) {
             (StandIsTruncated, Stand::Point(x, y)) => Stand::Point(x.trunc(), y.trunc()),
@@ -450,6 +629,28 @@ fn a_mismatch_is_made_small() {
             Trial::Lists(scene, _) => {
                 assert!(scene.plan.cells.len() <= 6 * 8, "{fault:?}: {scene:?}");
                 assert!(scene.plan.corners.len() <= 2 * 12, "{fault:?}: {scene:?}");
+            }
+            trial => panic!("{fault:?} is found by {trial}"),
+        }
+    }
+}
+
+/// A fault in a morning shows on a few stands, however many there were.
+#[test]
+fn a_morning_is_made_small() {
+    for (fault, stands) in [
+        (RefusedStandStopsTheRest, 2),
+        (RefusedStandLeavesAGap, 2),
+        (RepliesAreTurnedRound, 2),
+        (LastStandForTheSums, 2),
+        (PointsAndOffsetsAreMixedUp, 1),
+        (MinusZeroIsNoCorner, 1),
+        (MorningIsOneShorter, MOST_STANDS),
+    ] {
+        match mismatch(fault).trial {
+            Trial::Lists(scene, Asked::ListStands { .. }) => {
+                assert_eq!(scene.stands.len(), 3 * stands, "{fault:?}: {scene:?}");
+                assert!(scene.plan.cells.len() <= 6 * 2, "{fault:?}: {scene:?}");
             }
             trial => panic!("{fault:?} is found by {trial}"),
         }

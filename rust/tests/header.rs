@@ -1,28 +1,32 @@
-//! The numbers of `include/manopluea.h` are those of document 01, and its stack
+//! The numbers of `include/manopluea.h` are those of the documents, and its stack
 //! is enough for every function.
 
-use manopluea_compare::calls::{Plan, Refusal, Stand};
+use manopluea_compare::calls::{Plan, Refusal, Stand, POINT};
 use manopluea_compare::generate;
 use manopluea_compare::paper::{
-    encode, Direction, Floor, View, CELLS, COORDINATES, CORNERS, DOORS, MOST_INPUT, WALL,
+    encode, Direction, Floor, View, CELLS, COORDINATES, CORNERS, DOORS, MOST_INPUT, MOST_STANDS,
+    WALL,
 };
 use manopluea_compare::proved::MOST_TEXT;
 use std::process::{Command, Output};
 
 const HEADER: &str = include_str!("../../include/manopluea.h");
 
-/// The number that the header defines under a name.
-fn defined(name: &str) -> i64 {
-    let line = HEADER
+/// What the header defines a name as.
+fn defined_text(name: &str) -> &'static str {
+    HEADER
         .lines()
         .find_map(|line| {
             line.strip_prefix("#define MANOPLUEA_")?
                 .strip_prefix(name)?
                 .strip_prefix(' ')
         })
-        .unwrap_or_else(|| panic!("MANOPLUEA_{name} is not defined"));
-    let number = line.split_whitespace().next().expect("a number follows");
-    number.parse().expect("it is a number")
+        .unwrap_or_else(|| panic!("MANOPLUEA_{name} is not defined"))
+}
+
+/// The number that the header defines under a name.
+fn defined(name: &str) -> i64 {
+    defined_text(name).parse().expect("it is a number")
 }
 
 #[test]
@@ -34,6 +38,8 @@ fn the_limits() {
     assert_eq!(defined("MOST_DOORS"), *DOORS.end() as i64);
     assert_eq!(defined("MOST_COORDINATE"), *COORDINATES.end());
     assert_eq!(defined("WALL"), i64::from(WALL));
+    assert_eq!(defined("MOST_STANDS"), MOST_STANDS as i64);
+    assert_eq!(defined_text("POINT"), format!("({POINT:?})"));
     assert_eq!(defined("MOST_INPUT"), MOST_INPUT as i64);
     let largest = Plan {
         corners: vec![0; 2 * CORNERS.end()],

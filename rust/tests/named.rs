@@ -1,7 +1,7 @@
-//! The named cases: each reply is the one document 01 gives, of the paper
+//! The named cases: each reply is the one the documents give, of the paper
 //! program and of the proved library, and both leave the same lent memory.
 
-use manopluea_compare::calls::{Calls, DoorChange, Plan, Reply, Stand};
+use manopluea_compare::calls::{Calls, DoorChange, Plan, Reply, Stand, POINT};
 use manopluea_compare::examples::{all, plan_q};
 use manopluea_compare::generate::query_record;
 use manopluea_compare::paper::{encode, Paper, WALL};
@@ -586,6 +586,336 @@ fn the_longest_strip() {
     let beside = Stand::Point(10.0, 1.0);
     let (reply, _) = list(&strip(2_046, 64), 0, beside, 3 * 2_048);
     assert_eq!(reply, Reply::done([2_048, 2_045, 0]));
+}
+
+/// What a call for a morning leaves.
+#[derive(Debug, PartialEq)]
+struct Morning {
+    reply: Reply,
+    table: Vec<u16>,
+    replies: Vec<u64>,
+}
+
+impl Morning {
+    /// Lent memory of these lengths after a call that replies this and writes
+    /// these rows and stands' own replies.
+    fn new(reply: Reply, [table, replies]: [usize; 2], rows: &[u16], own: &[[u64; 3]]) -> Morning {
+        let mut morning = Morning {
+            reply,
+            table: vec![u16::from(FILL); table],
+            replies: vec![u64::from(FILL); replies],
+        };
+        morning.table[..rows.len()].copy_from_slice(rows);
+        morning.replies[..3 * own.len()].copy_from_slice(own.as_flattened());
+        morning
+    }
+
+    /// A refusal leaves lent memory of these lengths as it was.
+    fn refused(number: u32, place: u32, room: [usize; 2]) -> Morning {
+        Morning::new(Reply::refused(number, place), room, &[], &[])
+    }
+}
+
+fn list_stands(plan: &Plan, setting: u64, stands: &[f64], room: [usize; 2]) -> Morning {
+    both(|calls| {
+        let mut left = Morning::refused(0, 0, room);
+        let (table, replies) = (&mut left.table, &mut left.replies);
+        left.reply = calls.list_stands(plan.lists(), setting, stands, table, replies);
+        left
+    })
+}
+
+/// The lengths of a table and of replies that are just enough.
+fn enough(plan: &Plan, stands: &[f64]) -> [usize; 2] {
+    [plan.corners.len() / 2 * stands.len(), stands.len()]
+}
+
+/// The stand of examples a and c, and what is listed for it.
+const BESIDE: [f64; 3] = [POINT, 6.0, 3.0];
+const SEEN: [u16; 12] = [0, 0, 1, 1, 1, 2, 4, 2, 3, 5, 3, 0];
+
+#[test]
+fn mornings_of_any_count_of_stands() {
+    let plan = plan_q();
+    for count in [0, 1, 2, 31, 32] {
+        let stands = BESIDE.repeat(count);
+        let own = vec![[0, 4, 1]; count];
+        let reply = Reply::done([4 * count as u64, count as u64, 0]);
+        let [table, replies] = enough(&plan, &stands);
+        // What lies beyond what is written keeps its values.
+        for room in [
+            [table, replies],
+            [table + 1, replies + 1],
+            [table + 40, replies + 40],
+        ] {
+            let expected = Morning::new(reply, room, &SEEN.repeat(count), &own);
+            assert_eq!(
+                list_stands(&plan, 0, &stands, room),
+                expected,
+                "{count} stands"
+            );
+        }
+    }
+    for count in [33, 34, 64, 1_000] {
+        let stands = BESIDE.repeat(count);
+        let room = enough(&plan, &stands);
+        let expected = Morning::refused(2, 0, room);
+        assert_eq!(
+            list_stands(&plan, 0, &stands, room),
+            expected,
+            "{count} stands"
+        );
+    }
+}
+
+/// One stand for each reply that a stand can have: its number, and the three
+/// numbers given.
+const OF_EACH_REPLY: [(u64, [f64; 3]); 4] = [
+    (0, BESIDE),
+    (8, [POINT, 6.5, 3.0]),
+    (9, [POINT, 5.0, 5.0]),
+    (10, [POINT, 11.0, 5.0]),
+];
+
+#[test]
+fn each_reply_of_a_stand_at_the_first_a_middle_and_the_last_place() {
+    let plan = plan_q();
+    for first in OF_EACH_REPLY {
+        for middle in OF_EACH_REPLY {
+            for last in OF_EACH_REPLY {
+                let asked = [first, middle, last];
+                let stands = asked.map(|(_, numbers)| numbers).concat();
+                let own = asked.map(|(number, _)| match number {
+                    0 => [0, 4, 1],
+                    _ => [number, 0, 0],
+                });
+                let accepted = asked.iter().filter(|(number, _)| *number == 0).count();
+                let reply = Reply::done([4 * accepted as u64, accepted as u64, 0]);
+                let room = enough(&plan, &stands);
+                assert_eq!(
+                    list_stands(&plan, 0, &stands, room),
+                    Morning::new(reply, room, &SEEN.repeat(accepted), &own),
+                    "{asked:?}"
+                );
+            }
+        }
+    }
+}
+
+#[test]
+fn a_morning_where_every_stand_is_refused() {
+    let plan = plan_q();
+    let refused = &OF_EACH_REPLY[1..];
+    for count in [1, 31, 32] {
+        let asked: Vec<_> = refused.iter().cycle().take(count).collect();
+        let stands: Vec<f64> = asked.iter().flat_map(|(_, numbers)| *numbers).collect();
+        let own: Vec<_> = asked.iter().map(|&&(number, _)| [number, 0, 0]).collect();
+        let [table, replies] = enough(&plan, &stands);
+        let room = [table, replies];
+        let expected = Morning::new(Reply::done([0; 3]), room, &[], &own);
+        assert_eq!(list_stands(&plan, 0, &stands, room), expected);
+        // No row is written, and room for every stand is asked for all the same.
+        for room in [[table - 1, replies], [table, replies - 1], [0, 0]] {
+            let expected = Morning::refused(11, 0, room);
+            assert_eq!(list_stands(&plan, 0, &stands, room), expected);
+        }
+    }
+}
+
+#[test]
+fn room_for_a_morning() {
+    let plan = plan_q();
+    let stands = BESIDE.repeat(2);
+    for room in [
+        [23, 6],
+        [24, 5],
+        [23, 5],
+        [12, 6],
+        [24, 3],
+        [0, 6],
+        [24, 0],
+        [0, 0],
+    ] {
+        let expected = Morning::refused(11, 0, room);
+        assert_eq!(list_stands(&plan, 0, &stands, room), expected);
+    }
+    // With the door shut three rows are due, and room for four is asked for.
+    let shut = [0, 0, 1, 1, 1, 2, 2, 2, 0].repeat(2);
+    let expected = Morning::new(Reply::done([6, 0, 0]), [24, 6], &shut, &[[0, 3, 0]; 2]);
+    assert_eq!(list_stands(&plan, 1, &stands, [24, 6]), expected);
+    let expected = Morning::refused(11, 0, [23, 6]);
+    assert_eq!(list_stands(&plan, 1, &stands, [23, 6]), expected);
+    // No stands ask for no room.
+    let expected = Morning::new(Reply::done([0; 3]), [0, 0], &[], &[]);
+    assert_eq!(list_stands(&plan, 1, &[], [0, 0]), expected);
+}
+
+#[test]
+fn points_and_offsets_in_one_morning() {
+    let plan = plan_q();
+    // The same spot each time, from every corner and as a point.
+    let stands = [
+        [2.0, -4.0, -7.0],
+        BESIDE,
+        [0.0, 6.0, 3.0],
+        [3.0, 6.0, -7.0],
+        BESIDE,
+        [1.0, -4.0, 3.0],
+        [-0.0, 6.0, 3.0],
+    ]
+    .concat();
+    let room = enough(&plan, &stands);
+    let expected = Morning::new(
+        Reply::done([28, 7, 0]),
+        room,
+        &SEEN.repeat(7),
+        &[[0, 4, 1]; 7],
+    );
+    assert_eq!(list_stands(&plan, 0, &stands, room), expected);
+}
+
+#[test]
+fn first_numbers_of_a_stand() {
+    let plan = plan_q();
+    let reply = |numbers: &[f64; 3]| {
+        let morning = list_stands(&plan, 0, numbers, [12, 3]);
+        assert_eq!((morning.reply.number, morning.reply.place), (0, 0));
+        morning.replies[0]
+    };
+    // Corner 0 is at zero: what is read as 0 or as a point is listed.
+    for first in [POINT, 0.0, -0.0] {
+        assert_eq!(reply(&[first, 6.0, 3.0]), 0, "{first:?}");
+    }
+    for first in [1.0, 2.0, 3.0] {
+        assert_eq!(reply(&[first, 6.0, 3.0]), 10, "{first:?}");
+    }
+    for first in [4.0, 5.0, 65_534.0, 65_535.0, 65_536.0, 65_537.0] {
+        assert_eq!(reply(&[first, 6.0, 3.0]), 8, "{first:?}");
+    }
+    for first in [
+        -2.0,
+        -3.0,
+        -1.5,
+        -0.5,
+        0.5,
+        POINT.next_up(),
+        POINT.next_down(),
+    ] {
+        assert_eq!(reply(&[first, 6.0, 3.0]), 8, "{first:?}");
+    }
+    // A number of a stand that is not accepted as millimetres is that of no
+    // corner either.
+    for (first, _) in numbers().into_iter().filter(|(_, accepted)| !accepted) {
+        assert_eq!(reply(&[first, 6.0, 3.0]), 8, "{first:?}");
+    }
+    for (number, accepted) in numbers() {
+        for stand in [
+            [POINT, number, 3.0],
+            [POINT, 6.0, number],
+            [0.0, number, 3.0],
+            [0.0, 6.0, number],
+        ] {
+            assert_eq!(reply(&stand) != 8, accepted, "{stand:?}");
+        }
+    }
+}
+
+#[test]
+fn a_morning_is_refused_by_the_lowest_number() {
+    let refused = |plan: &Plan, setting, stands: &[f64], number, place| {
+        for room in [enough(plan, stands), [0, 0]] {
+            let expected = Morning::refused(number, place, room);
+            assert_eq!(list_stands(plan, setting, stands, room), expected);
+        }
+    };
+    let [most, too_many] = [32, 33].map(|count| BESIDE.repeat(count));
+    let plan = plan_q();
+    // Lengths that are no multiples of three, with too many stands too.
+    for length in [1, 2, 4, 5, 94, 95, 97, 98, 100] {
+        refused(&plan, 2, &vec![POINT; length], 1, 0);
+    }
+    let mut unframed = plan_q();
+    unframed.corners.pop();
+    refused(&unframed, 2, &too_many, 1, 0);
+    refused(&unframed, 2, &[], 1, 0);
+    let mut two_corners = plan_q();
+    two_corners.corners.truncate(4);
+    refused(&two_corners, 2, &most[1..], 1, 0);
+    refused(&two_corners, 2, &most, 2, 0);
+    let mut beyond = plan_q();
+    beyond.corners[5] = LIMIT + 1;
+    refused(&beyond, 2, &too_many, 2, 0);
+    refused(&beyond, 2, &most, 3, 2);
+    let mut on_its_back = plan_q();
+    on_its_back.cells.swap(6, 7);
+    refused(&on_its_back, 2, &too_many, 2, 0);
+    refused(&on_its_back, 2, &most, 4, 1);
+    let mut unanswered = plan_q();
+    unanswered.cells[9] = WALL;
+    refused(&unanswered, 2, &most, 5, 2);
+    let mut on_a_wall = plan_q();
+    on_a_wall.doors.push(0);
+    refused(&on_a_wall, 4, &most, 6, 1);
+    refused(&on_a_wall, 4, &[], 6, 1);
+    refused(&plan, 2, &too_many, 2, 0);
+    refused(&plan, 2, &most, 7, 0);
+    refused(&plan, 2, &[], 7, 0);
+    // The setting comes before the stands, which are not looked at.
+    refused(&plan, 2, &[f64::NAN; 96], 7, 0);
+}
+
+/// Each stand's part of a morning is what a call for it alone leaves in a table
+/// of three numbers a corner, and the sums are those of the single calls.
+#[test]
+fn a_morning_equals_single_calls() {
+    let plan = hall();
+    let spots = (-1..32).flat_map(|y| (-11..12).map(move |x| [x, y].map(f64::from)));
+    let stands: Vec<Stand> = spots
+        .enumerate()
+        .map(|(at, [x, y])| match at % 3 {
+            0 => Stand::Point(x, y),
+            // From corner 1 at (10, 0), and from corner 4 at (-10, 20).
+            1 => Stand::Offset(1, x - 10.0, y),
+            _ => Stand::Offset(4, x + 10.0, y - 20.0),
+        })
+        .collect();
+    for setting in 0..8 {
+        for stands in stands.chunks(32) {
+            let (mut rows, mut own, mut crossings) = (Vec::new(), Vec::new(), 0);
+            for &stand in stands {
+                let (reply, table) = list(&plan, setting, stand, 18);
+                rows.extend_from_slice(&table[..3 * reply.values[0] as usize]);
+                own.push([u64::from(reply.number), reply.values[0], reply.values[1]]);
+                crossings += reply.values[1];
+            }
+            let numbers: Vec<f64> = stands.iter().flat_map(|stand| stand.numbers()).collect();
+            let room = enough(&plan, &numbers).map(|length| length + 5);
+            let sums = Reply::done([rows.len() as u64 / 3, crossings, 0]);
+            let expected = Morning::new(sums, room, &rows, &own);
+            assert_eq!(list_stands(&plan, setting, &numbers, room), expected);
+        }
+    }
+}
+
+/// As many rows as a morning can have, in a table that they fill: their count
+/// is beyond what 16 bits hold.
+#[test]
+fn the_fullest_morning() {
+    let plan = strip(2_046, 64);
+    let stand = Stand::Point(10.0, 1.0);
+    let stands = stand.numbers().repeat(32);
+    let room = enough(&plan, &stands);
+    assert_eq!(room, [196_608, 96]);
+    let (_, rows) = list(&plan, 0, stand, 3 * 2_048);
+    let own = [[0, 2_048, 2_045]; 32];
+    let reply = Reply::done([65_536, 65_440, 0]);
+    let expected = Morning::new(reply, room, &rows.repeat(32), &own);
+    assert_eq!(list_stands(&plan, 0, &stands, room), expected);
+    let short = [196_607, 96];
+    assert_eq!(
+        list_stands(&plan, 0, &stands, short),
+        Morning::refused(11, 0, short)
+    );
 }
 
 #[test]

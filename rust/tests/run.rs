@@ -22,10 +22,20 @@ fn every_reply_number_comes_up_in_every_call_that_has_it() {
     assert_eq!(numbers(2), [0, 1, 2, 3, 4, 5, 6, 11], "write");
     assert_eq!(numbers(3), [0, 1, 2, 3, 4, 5, 6, 8, 9, 10], "find");
     assert_eq!(numbers(4), (0..=11).collect::<Vec<_>>(), "list");
-    assert_eq!(numbers(5), (0..=13).collect::<Vec<_>>(), "change");
-    assert_eq!(numbers(6), (0..=10).collect::<Vec<_>>(), "print");
+    assert_eq!(numbers(5), [0, 1, 2, 3, 4, 5, 6, 7, 11], "stands");
+    assert_eq!(numbers(6), (0..=13).collect::<Vec<_>>(), "change");
+    assert_eq!(numbers(7), (0..=10).collect::<Vec<_>>(), "print");
     assert!((0..14).all(|number| tally.of_number(number) > 0));
     assert!(tally.directions > 5_000 && tally.changes > 500);
+}
+
+/// At the first place of a morning, at those between, and at the last.
+#[test]
+fn every_reply_of_a_stand_comes_up_at_every_place() {
+    for replies in run(1, 4_000).stands {
+        let numbers: Vec<usize> = (0..14).filter(|&number| replies[number] > 20).collect();
+        assert_eq!(numbers, [0, 8, 9, 10], "{replies:?}");
+    }
 }
 
 #[test]

@@ -11,7 +11,11 @@ impl fmt::Display for Trial {
                 writeln!(f, "cells {:?}", scene.plan.cells)?;
                 writeln!(f, "doors {:?}", scene.plan.doors)?;
                 writeln!(f, "setting {:#x}", scene.setting)?;
-                writeln!(f, "stand {:?}", scene.stand)?;
+                if matches!(asked, Asked::ListStands { .. }) {
+                    writeln!(f, "stands {:?}", scene.stands)?;
+                } else {
+                    writeln!(f, "stand {:?}", scene.stand)?;
+                }
                 if matches!(asked, Asked::Change { .. } | Asked::Demand3) {
                     writeln!(f, "door {}", scene.door)?;
                 }

@@ -1,7 +1,7 @@
 //! Making a failing trial smaller while it still fails.
 
 use super::{Asked, AskedOfBytes, Trial};
-use crate::calls::Stand;
+use crate::calls::{Stand, POINT};
 use crate::generate::{query_record, Given, Room, Scene};
 use crate::paper::{self, WALL};
 
@@ -56,6 +56,9 @@ fn simpler_asked(asked: &Asked) -> Vec<Asked> {
             vec![Asked::Write { bytes: Room::Exact }]
         }
         Asked::List { table } if *table != Room::Exact => vec![Asked::List { table: Room::Exact }],
+        &Asked::ListStands { room } => simpler_rooms(room)
+            .map(|room| Asked::ListStands { room })
+            .collect(),
         &Asked::Change { shut, given, table } => {
             let change = |given, table| Asked::Change { shut, given, table };
             let mut simpler = Vec::new();
@@ -79,37 +82,48 @@ fn simpler_asked(asked: &Asked) -> Vec<Asked> {
 
 fn simpler_asked_of_bytes(asked: &AskedOfBytes) -> Vec<AskedOfBytes> {
     match *asked {
-        AskedOfBytes::Read { lists } => (0..3)
-            .filter(|&i| lists[i] != Room::Exact)
-            .map(|i| {
-                let mut lists = lists;
-                lists[i] = Room::Exact;
-                AskedOfBytes::Read { lists }
-            })
+        AskedOfBytes::Read { lists } => simpler_rooms(lists)
+            .map(|lists| AskedOfBytes::Read { lists })
             .collect(),
         AskedOfBytes::Print => Vec::new(),
     }
 }
 
+/// One of the rooms exact.
+fn simpler_rooms<const N: usize>(rooms: [Room; N]) -> impl Iterator<Item = [Room; N]> {
+    (0..N)
+        .filter(move |&i| rooms[i] != Room::Exact)
+        .map(move |i| {
+            let mut simpler = rooms;
+            simpler[i] = Room::Exact;
+            simpler
+        })
+}
+
 /// One way to make a scene smaller.
 #[derive(Clone, Copy)]
 enum Step {
-    /// Leave out the cells, or the doors, from one number up to another.
+    /// Leave out the cells, the doors, or the stands of the morning, from one
+    /// number up to another.
     DropCells(usize, usize),
     DropDoors(usize, usize),
+    DropStands(usize, usize),
     /// Leave out a corner that is in no cell.
     DropCorner(usize),
     ClearBit(u32),
     /// Move the whole scene by these numbers, or divide it by one.
     MoveBack([i64; 2]),
     Divide(i64),
-    /// Give a coordinate, or a number of the stand, another value.
+    /// Give a coordinate, or a number of the stand or of the morning's stands,
+    /// another value.
     SetCoordinate(usize, i32),
     SetStand(f64, f64),
+    SetNumber(usize, f64),
     /// Leave out the last number of a list, which then may not be whole.
     ShortenCorners,
     ShortenCells,
     ShortenDoors,
+    ShortenStands,
 }
 
 fn smaller_scenes(scene: Scene) -> impl Iterator<Item = Scene> {
@@ -120,9 +134,11 @@ fn smaller_scenes(scene: Scene) -> impl Iterator<Item = Scene> {
 
 fn steps(scene: &Scene) -> Vec<Step> {
     let plan = &scene.plan;
-    let mut steps: Vec<Step> = blocks(plan.cells.len() / 6)
-        .map(|(from, to)| Step::DropCells(from, to))
+    // Stands first: what each costs is the listing of the whole plan.
+    let mut steps: Vec<Step> = blocks(scene.stands.len() / 3)
+        .map(|(from, to)| Step::DropStands(from, to))
         .collect();
+    steps.extend(blocks(plan.cells.len() / 6).map(|(from, to)| Step::DropCells(from, to)));
     steps.extend(blocks(plan.doors.len()).map(|(from, to)| Step::DropDoors(from, to)));
     steps.extend(unused_corners(scene).map(Step::DropCorner));
     steps.extend(
@@ -133,6 +149,7 @@ fn steps(scene: &Scene) -> Vec<Step> {
     steps.extend(nearer_to_zero(scene));
     steps.extend(simpler_coordinates(scene));
     steps.extend(simpler_stands(scene));
+    steps.extend(simpler_numbers(scene));
     if !plan.corners.is_empty() {
         steps.push(Step::ShortenCorners);
     }
@@ -142,6 +159,9 @@ fn steps(scene: &Scene) -> Vec<Step> {
     if !plan.doors.is_empty() {
         steps.push(Step::ShortenDoors);
     }
+    if !scene.stands.is_empty() {
+        steps.push(Step::ShortenStands);
+    }
     steps
 }
 
@@ -150,6 +170,7 @@ fn take_step(scene: &Scene, step: Step) -> Scene {
     match step {
         Step::DropCells(from, to) => drop_cells(&mut smaller, from, to),
         Step::DropDoors(from, to) => drop_doors(&mut smaller, from, to),
+        Step::DropStands(from, to) => drop(smaller.stands.drain(3 * from..3 * to)),
         Step::DropCorner(corner) => drop_corner(&mut smaller, corner),
         Step::ClearBit(bit) => smaller.setting &= !(1 << bit),
         Step::MoveBack(by) => map_scene(&mut smaller, |n, axis| n - by[axis]),
@@ -161,9 +182,11 @@ fn take_step(scene: &Scene, step: Step) -> Scene {
                 Stand::Offset(corner, ..) => Stand::Offset(corner, x, y),
             }
         }
+        Step::SetNumber(at, new) => smaller.stands[at] = new,
         Step::ShortenCorners => smaller.plan.corners.truncate(scene.plan.corners.len() - 1),
         Step::ShortenCells => smaller.plan.cells.truncate(scene.plan.cells.len() - 1),
         Step::ShortenDoors => smaller.plan.doors.truncate(scene.plan.doors.len() - 1),
+        Step::ShortenStands => smaller.stands.truncate(scene.stands.len() - 1),
     }
     smaller
 }
@@ -247,8 +270,24 @@ fn drop_corner(scene: &mut Scene, corner: usize) {
     {
         *number = moved(*number);
     }
-    if let Stand::Offset(from, dx, dy) = scene.stand {
-        scene.stand = Stand::Offset(moved(from), dx, dy);
+    each_stand(scene, |stand| match stand {
+        Stand::Point(..) => stand,
+        Stand::Offset(from, dx, dy) => Stand::Offset(moved(from), dx, dy),
+    });
+}
+
+/// Changes the scene's stand, and each of its morning that means one.
+fn each_stand(scene: &mut Scene, change: impl Fn(Stand) -> Stand) {
+    scene.stand = change(scene.stand);
+    let (stands, _) = scene.stands.as_chunks_mut();
+    for numbers in stands {
+        if let Some(stand) = paper::stand_of(*numbers) {
+            // A number that is the same stays as it is written: minus zero too.
+            let changed = numbers.iter_mut().zip(change(stand).numbers());
+            changed
+                .filter(|(old, new)| **old != *new)
+                .for_each(|(old, new)| *old = new);
+        }
     }
 }
 
@@ -271,18 +310,19 @@ fn nearer_to_zero(scene: &Scene) -> Vec<Step> {
     steps
 }
 
-/// Maps every coordinate, and the stand where it is a point of whole numbers.
+/// Maps every coordinate, and each stand that is a point of whole numbers.
 fn map_scene(scene: &mut Scene, map: impl Fn(i64, usize) -> i64) {
     for (i, number) in scene.plan.corners.iter_mut().enumerate() {
         *number = map(i64::from(*number), i % 2) as i32;
     }
-    if let Stand::Point(x, y) = scene.stand {
-        // Beyond this no double has a fraction, nor is any within the limits.
-        let whole = |n: f64| n.fract() == 0.0 && n.abs() < (1u64 << 53) as f64;
-        if whole(x) && whole(y) {
-            scene.stand = Stand::Point(map(x as i64, 0) as f64, map(y as i64, 1) as f64);
+    // Beyond this no double has a fraction, nor is any within the limits.
+    let whole = |n: f64| n.fract() == 0.0 && n.abs() < (1u64 << 53) as f64;
+    each_stand(scene, |stand| match stand {
+        Stand::Point(x, y) if whole(x) && whole(y) => {
+            Stand::Point(map(x as i64, 0) as f64, map(y as i64, 1) as f64)
         }
-    }
+        _ => stand,
+    });
 }
 
 /// One coordinate zero, or half as far from zero.
@@ -297,15 +337,26 @@ fn simpler_coordinates(scene: &Scene) -> Vec<Step> {
 /// One number of the stand zero, or half as far from zero.
 fn simpler_stands(scene: &Scene) -> Vec<Step> {
     let (Stand::Point(x, y) | Stand::Offset(_, x, y)) = scene.stand;
-    let simpler = |n: f64| {
-        let zero = (n != 0.0).then_some(0.0);
-        let half = (n.is_finite() && n.abs() >= 2.0).then(|| (n / 2.0).trunc());
-        [zero, half].into_iter().flatten()
-    };
-    simpler(x)
+    simpler_number(x)
         .map(|x| Step::SetStand(x, y))
-        .chain(simpler(y).map(|y| Step::SetStand(x, y)))
+        .chain(simpler_number(y).map(|y| Step::SetStand(x, y)))
         .collect()
+}
+
+/// One number of the morning's stands likewise; points stay points.
+fn simpler_numbers(scene: &Scene) -> Vec<Step> {
+    let numbers = scene.stands.iter().enumerate();
+    numbers
+        .filter(|&(at, &n)| at % 3 != 0 || n != POINT)
+        .flat_map(|(at, &n)| simpler_number(n).map(move |new| Step::SetNumber(at, new)))
+        .collect()
+}
+
+/// Zero, and half the number without its fraction.
+fn simpler_number(n: f64) -> impl Iterator<Item = f64> {
+    let zero = (n != 0.0).then_some(0.0);
+    let half = (n.is_finite() && n.abs() >= 2.0).then(|| (n / 2.0).trunc());
+    [zero, half].into_iter().flatten()
 }
 
 /// Inputs whose records are sound, made smaller as scenes.
@@ -317,6 +368,7 @@ fn smaller_inputs(bytes: &[u8], asked: &AskedOfBytes) -> Box<dyn Iterator<Item =
             setting,
             stand,
             door: 0,
+            stands: Vec::new(),
         }))
     };
     match asked {

@@ -2,7 +2,7 @@
 //! their answers.
 
 use super::{Call, Tally};
-use crate::calls::{Calls, DoorChange, Plan, Refusal, Reply};
+use crate::calls::{Calls, DoorChange, Plan, Refusal, Reply, Stand};
 use crate::generate::{Given, Room, Scene};
 use crate::paper::{self, Direction, Floor, Listing, Paper, Row, View};
 use std::fmt::Debug;
@@ -17,6 +17,11 @@ pub enum Asked {
     Find,
     List {
         table: Room,
+    },
+    /// The scene's morning, with its table and its replies: what the single
+    /// calls reply, stand by stand.
+    ListStands {
+        room: [Room; 2],
     },
     Change {
         shut: bool,
@@ -105,6 +110,16 @@ fn run_scene(scene: &Scene, asked: &Asked, both: Both<'_>, tally: &mut Tally) ->
             let (reply, _) = both.ask(|calls| list(calls, scene, scene.setting, *table))?;
             tally.count(Call::List, reply.number);
         }
+        Asked::ListStands { room } => {
+            let morning = both.ask(|calls| list_stands(calls, scene, *room))?;
+            tally.count(Call::ListStands, morning.reply.number);
+            if morning.reply.number == 0 {
+                let morning = same(morning, single_calls(both.right, scene, *room))?;
+                let (own, _) = morning.replies.as_chunks();
+                let count = own.len().min(scene.stands.len() / 3);
+                tally.count_stands(&own[..count]);
+            }
+        }
         Asked::Change { shut, given, table } => {
             let given = given.numbers(&true_numbers(scene));
             let (reply, _) = both.ask(|calls| change(calls, scene, &given, *shut, *table))?;
@@ -163,9 +178,47 @@ fn read(calls: &dyn Calls, file: &[u8], room: [usize; 3]) -> (Reply, Plan) {
 }
 
 fn list(calls: &dyn Calls, scene: &Scene, setting: u64, room: Room) -> (Reply, Vec<u16>) {
+    list_from(calls, scene, setting, scene.stand, room)
+}
+
+fn list_from(
+    calls: &dyn Calls,
+    scene: &Scene,
+    setting: u64,
+    stand: Stand,
+    room: Room,
+) -> (Reply, Vec<u16>) {
     let mut table = lent_words(room.length(table_asked(scene)));
-    let reply = calls.list(scene.plan.lists(), setting, scene.stand, &mut table);
+    let reply = calls.list(scene.plan.lists(), setting, stand, &mut table);
     (reply, table)
+}
+
+/// What a call for a morning leaves.
+#[derive(Debug, PartialEq)]
+struct Morning {
+    reply: Reply,
+    table: Vec<u16>,
+    replies: Vec<u64>,
+}
+
+fn list_stands(calls: &dyn Calls, scene: &Scene, room: [Room; 2]) -> Morning {
+    let (mut table, mut replies) = lent_for_morning(scene, room);
+    let (lists, stands) = (scene.plan.lists(), &scene.stands);
+    let reply = calls.list_stands(lists, scene.setting, stands, &mut table, &mut replies);
+    Morning {
+        reply,
+        table,
+        replies,
+    }
+}
+
+/// A table and replies for the scene's morning, before a call.
+fn lent_for_morning(scene: &Scene, [table, replies]: [Room; 2]) -> (Vec<u16>, Vec<u64>) {
+    let count = scene.stands.len() / 3;
+    (
+        lent_words(table.length(count * table_asked(scene))),
+        lent(replies.length(3 * count), u64::from),
+    )
 }
 
 fn change(
@@ -240,6 +293,43 @@ fn listing_of((reply, table): (Reply, Vec<u16>)) -> Result<Listing, u32> {
         rows: rows[..count].to_vec(),
         crossings: reply.values[1],
     })
+}
+
+/// What single calls give for a morning, stand by stand: their rows one after
+/// another, their replies and counts, and the sums.
+fn single_calls(calls: &dyn Calls, scene: &Scene, room: [Room; 2]) -> Morning {
+    let (mut rows, mut own, mut crossings) = (Vec::new(), Vec::new(), 0);
+    let (stands, _) = scene.stands.as_chunks();
+    for &numbers in stands {
+        match single_call(calls, scene, numbers) {
+            Ok(listing) => {
+                own.push([0, listing.rows.len() as u64, listing.crossings]);
+                crossings += listing.crossings;
+                rows.extend(listing.rows);
+            }
+            Err(number) => own.push([number.into(), 0, 0]),
+        }
+    }
+    let (mut table, mut replies) = lent_for_morning(scene, room);
+    put(&mut table, rows.as_flattened());
+    put(&mut replies, own.as_flattened());
+    Morning {
+        reply: Reply::done([rows.len() as u64, crossings, 0]),
+        table,
+        replies,
+    }
+}
+
+/// The listing of one stand, given by three numbers, or the refusal's number.
+fn single_call(calls: &dyn Calls, scene: &Scene, numbers: [f64; 3]) -> Result<Listing, u32> {
+    let stand = paper::stand_of(numbers).ok_or(Refusal::Stand.reply().number)?;
+    listing_of(list_from(calls, scene, scene.setting, stand, Room::Exact))
+}
+
+/// Puts numbers at the beginning of lent memory, as far as it goes.
+fn put<T: Copy>(lent: &mut [T], numbers: &[T]) {
+    let length = numbers.len().min(lent.len());
+    lent[..length].copy_from_slice(&numbers[..length]);
 }
 
 /// Reading what was written returns the lists, and writing what was read

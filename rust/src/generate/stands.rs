@@ -37,27 +37,28 @@ pub fn near(mesh: &Mesh, stand: Stand) -> Spot {
     }
 }
 
-/// A stand moved as the corners are by a linear map. Numbers that mean no
-/// spot stay as they are.
+/// A stand moved as the corners are by a linear map.
 pub fn mapped(stand: Stand, map: impl Fn(Spot) -> Spot) -> Stand {
-    let mapped = |x: f64, y: f64| {
-        let whole = |n: f64| n.fract() == 0.0 && n.abs() <= *COORDINATES.end() as f64;
-        if whole(x) && whole(y) {
-            let [x, y] = map([x as i64, y as i64]);
-            (x as f64, y as f64)
-        } else {
-            (x, y)
-        }
-    };
     match stand {
         Stand::Point(x, y) => {
-            let (x, y) = mapped(x, y);
+            let [x, y] = mapped_numbers([x, y], map);
             Stand::Point(x, y)
         }
         Stand::Offset(corner, dx, dy) => {
-            let (dx, dy) = mapped(dx, dy);
+            let [dx, dy] = mapped_numbers([dx, dy], map);
             Stand::Offset(corner, dx, dy)
         }
+    }
+}
+
+/// The two numbers of a stand, moved as the corners are by a linear map.
+/// Numbers that mean no spot stay as they are.
+pub fn mapped_numbers(at: [f64; 2], map: impl Fn(Spot) -> Spot) -> [f64; 2] {
+    let whole = |n: f64| n.fract() == 0.0 && n.abs() <= *COORDINATES.end() as f64;
+    if at.into_iter().all(whole) {
+        map(at.map(|n| n as i64)).map(|n| n as f64)
+    } else {
+        at
     }
 }
 
@@ -75,7 +76,7 @@ fn in_line(mesh: &Mesh, dice: &mut Dice) -> Spot {
     [0, 1].map(|i| near[i] + times * (near[i] - far[i]))
 }
 
-fn on_border(mesh: &Mesh, dice: &mut Dice) -> Spot {
+pub fn on_border(mesh: &Mesh, dice: &mut Dice) -> Spot {
     let face = dice.below(mesh.across.len());
     match spot_on_line(mesh, face, dice) {
         Some(at) if dice.percent(70) => at,

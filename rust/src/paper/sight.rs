@@ -39,7 +39,11 @@ pub struct View<'a> {
 
 impl<'a> View<'a> {
     pub fn new(floor: &'a Floor, setting: u64, stand: Stand) -> Result<View<'a>, Refusal> {
-        let across = floor.across_under(setting)?;
+        View::through(floor, floor.across_under(setting)?, stand)
+    }
+
+    /// The view with the opposite faces that a setting leaves.
+    pub fn through(floor: &'a Floor, across: Vec<u16>, stand: Stand) -> Result<View<'a>, Refusal> {
         let q = stand::millimetres(floor, stand)?;
         let cell = stand::cell_of(floor, q)?;
         Ok(View {

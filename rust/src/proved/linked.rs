@@ -111,6 +111,24 @@ pub fn list(lists: Lists<'_>, setting: u64, stand: Stand, table: &mut [u16], rep
     }
 }
 
+pub fn list_stands(
+    lists: Lists<'_>,
+    setting: u64,
+    stands: &[f64],
+    table: &mut [u16],
+    replies: &mut [u64],
+    reply: &mut [u64],
+) {
+    call!(manopluea_list_stands(
+        lists: Lists,
+        setting: u64,
+        stands: &[f64],
+        table: &mut [u16],
+        replies: &mut [u64],
+        reply: &mut [u64],
+    ))
+}
+
 pub fn change(lists: Lists<'_>, asked: DoorChange<'_>, table: &mut [u16], reply: &mut [u64]) {
     let DoorChange {
         setting,

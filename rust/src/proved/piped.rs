@@ -18,12 +18,13 @@ enum Function {
     FindOffset,
     ListPoint,
     ListOffset,
+    ListStands,
     ChangePoint,
     ChangeOffset,
     Print,
 }
 
-/// A request: numbers, and the eight lists. The file of `Print` is its input.
+/// A request: numbers, and the ten lists. The file of `Print` is its input.
 #[derive(Default)]
 struct Request<'a> {
     setting: u64,
@@ -33,6 +34,8 @@ struct Request<'a> {
     door: usize,
     shut: bool,
     reply: &'a [u64],
+    replies: &'a [u64],
+    stands: &'a [f64],
     corners: &'a [i32],
     cells: &'a [u16],
     doors: &'a [u16],
@@ -42,9 +45,11 @@ struct Request<'a> {
     text: &'a [u8],
 }
 
-/// The eight lists after a call.
+/// The ten lists after a call, the stands as bits: NaN does not equal itself.
 struct Answer {
     reply: Vec<u64>,
+    replies: Vec<u64>,
+    stands: Vec<u64>,
     corners: Vec<i32>,
     cells: Vec<u16>,
     doors: Vec<u16>,
@@ -81,6 +86,8 @@ impl Server {
     fn ask(&mut self, function: Function, request: &Request<'_>) -> Answer {
         let lists = [
             bytes_of(request.reply, u64::to_le_bytes),
+            bytes_of(request.replies, u64::to_le_bytes),
+            bytes_of(request.stands, f64::to_le_bytes),
             bytes_of(request.corners, i32::to_le_bytes),
             bytes_of(request.cells, u16::to_le_bytes),
             bytes_of(request.doors, u16::to_le_bytes),
@@ -99,6 +106,8 @@ impl Server {
             request.door as u64,
             u64::from(request.shut),
             request.reply.len() as u64,
+            request.replies.len() as u64,
+            request.stands.len() as u64,
             request.corners.len() as u64,
             request.cells.len() as u64,
             request.doors.len() as u64,
@@ -119,6 +128,8 @@ impl Server {
         let mut rest = answered.as_slice();
         Answer {
             reply: numbers_of(&mut rest, request.reply.len(), u64::from_le_bytes),
+            replies: numbers_of(&mut rest, request.replies.len(), u64::from_le_bytes),
+            stands: numbers_of(&mut rest, request.stands.len(), u64::from_le_bytes),
             corners: numbers_of(&mut rest, request.corners.len(), i32::from_le_bytes),
             cells: numbers_of(&mut rest, request.cells.len(), u16::from_le_bytes),
             doors: numbers_of(&mut rest, request.doors.len(), u16::from_le_bytes),
@@ -286,6 +297,30 @@ pub fn list(lists: Lists<'_>, setting: u64, stand: Stand, table: &mut [u16], rep
     let answer = ask(function, &request);
     kept(lists, &answer);
     table.copy_from_slice(&answer.table);
+    reply.copy_from_slice(&answer.reply);
+}
+
+pub fn list_stands(
+    lists: Lists<'_>,
+    setting: u64,
+    stands: &[f64],
+    table: &mut [u16],
+    replies: &mut [u64],
+    reply: &mut [u64],
+) {
+    let request = Request {
+        setting,
+        stands,
+        table,
+        replies,
+        ..of_lists(lists, reply)
+    };
+    let answer = ask(Function::ListStands, &request);
+    kept(lists, &answer);
+    let bits: Vec<u64> = stands.iter().map(|number| number.to_bits()).collect();
+    assert_eq!(answer.stands, bits, "the stands are not lent");
+    table.copy_from_slice(&answer.table);
+    replies.copy_from_slice(&answer.replies);
     reply.copy_from_slice(&answer.reply);
 }
 
