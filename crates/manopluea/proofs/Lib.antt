@@ -10,5 +10,7 @@ pub mod Numbered
 pub mod Cases
 -- the door change, computed on plan Q
 pub mod ChangesOfQ
+-- several stands in one call, computed on plan Q
+pub mod MorningOfQ
 -- wrong versions break the demand that document 01 names
 pub mod ShutOut

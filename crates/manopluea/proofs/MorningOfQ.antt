@@ -1,0 +1,42 @@
+-- Several stands in one call, computed on document 01's plan Q: the stands of cases j, a, i, c and h, of which the first, the third and the last are refused.
+use mathlib.Core.List.{List, [], _∷_, _++_}
+use mathlib.Core.Path.{_≡_, refl}
+use Prim.Native.Nat.{ℕ}
+use lib.Ieee.{ofBits}
+use lib.ListN.{replicate}
+use Rattle.plane.specs.Side.{side}
+use Rattle.plane.specs.Tests.{by-sides}
+use Rattle.limits.specs.Limits.{sized}
+use Rattle.plan.specs.Least.{least}
+use Rattle.plan.specs.Lists.{next, start, neighbour, answers, back}
+use Rattle.plan.specs.Check.{outside, wrong-corner, wrong-cell, wrong-neighbour, names, wrong-door, checked}
+use Rattle.setting.specs.Setting.{shut, wrong-setting, bars, ends}
+use Rattle.limits.specs.declared.Refusal.the-variants.{Size, Room}
+use Rattle.number.specs.Whole.{whole}
+use Rattle.stand.specs.Spot.{whole-point, stood}
+use Rattle.stand.specs.Find.{against, located}
+use Rattle.stand.specs.declared.spot.Stand.{Stand}
+use Rattle.stand.specs.declared.spot.Stand.the-variants.{Point}
+use Rattle.expand.specs.Sight.{follow, numbers, row-count, crossings}
+use Rattle.expand.specs.Floor.{placed}
+use Rattle.sight.specs.Listing.{viewed, listing-numbers, listing-row-count, listing-crossings, listed}
+use Rattle.sight.specs.declared.list.Listed.{Listed}
+use Rattle.sight.specs.declared.list.Listed.the-variants.{Rows, Refused}
+use Rattle.plan.specs.PlanQ.{corners-of-Q, cells-of-Q, doors-of-Q}
+use Rattle.morning.specs.Morning.{one-after-another, in-all, single, asked, listed-stands}
+use Rattle.manopluea.specs.Cases.{three, five, six, six-and-a-half, eleven, old}
+
+abbrev stands : List Stand
+stands = Point six-and-a-half three ∷ Point six three ∷ Point eleven five ∷ Point three six ∷ Point five five ∷ []
+
+-- the rows of case a, which are those of case c
+abbrev rows : List ℕ
+rows = 0 ∷ 0 ∷ 1 ∷ 1 ∷ 1 ∷ 2 ∷ 4 ∷ 2 ∷ 3 ∷ 5 ∷ 3 ∷ 0 ∷ []
+
+abbrev listed-on-Q : ℕ → ℕ → ℕ → Listed × (List ℕ × List ℕ)
+listed-on-Q n room places = listed-stands corners-of-Q cells-of-Q doors-of-Q 0 stands n (replicate room old) (replicate places old)
+
+-- all five; the first two; none; a table and replies that are one short; more than 32
+pub morning-of-Q : (listed-on-Q 5 60 15 ∷ listed-on-Q 2 24 9 ∷ listed-on-Q 0 1 1 ∷ listed-on-Q 5 59 15 ∷ listed-on-Q 5 60 14 ∷ listed-on-Q 33 1 1 ∷ []) ≡ ((Rows 8 2, (rows ++ rows ++ replicate 36 old, 8 ∷ 0 ∷ 0 ∷ 0 ∷ 4 ∷ 1 ∷ 10 ∷ 0 ∷ 0 ∷ 0 ∷ 4 ∷ 1 ∷ 9 ∷ 0 ∷ 0 ∷ [])) ∷ (Rows 4 1, (rows ++ replicate 12 old, 8 ∷ 0 ∷ 0 ∷ 0 ∷ 4 ∷ 1 ∷ old ∷ old ∷ old ∷ [])) ∷ (Rows 0 0, (old ∷ [], old ∷ [])) ∷ (Refused Room, (replicate 59 old, replicate 15 old)) ∷ (Refused Room, (replicate 60 old, replicate 14 old)) ∷ (Refused Size, (old ∷ [], old ∷ [])) ∷ [])
+unfolding ofBits side by-sides sized least next start neighbour answers back outside wrong-corner wrong-cell wrong-neighbour names wrong-door checked shut wrong-setting bars ends whole whole-point stood against located follow numbers row-count crossings placed viewed listing-numbers listing-row-count listing-crossings listed one-after-another in-all single asked listed-stands
+morning-of-Q = refl
