@@ -10,5 +10,5 @@ pub mod Certificate
 pub mod Bounds
 -- what `&&` and `||` say of their two sides
 pub mod Truth
--- lent memory that is written from its beginning: what stands there then, and what is kept
+-- lent memory that is written from its beginning: what stands there then, and what is kept; runs of stores one behind the other
 pub mod Lent

@@ -1,14 +1,14 @@
 -- The expansion step by step: what a line or a cell hands on, how much of the table that takes, and what is written there.
 use mathlib.Core.Bool.{false}
-use mathlib.Core.List.{List, [], _∷_, _++_}
+use mathlib.Core.List.{List}
 use mathlib.Core.Path.{_≡_, refl, ap, ap₂, sym, subst, _∙_}
 use Prim.Native.Nat.{ℕ, zero, suc, _+_, _*_, _-_, _^_, _%_, _<_, _≤_}
-use native.Mathlib.Nat.{add-zero}
 use native.Mathlib.Numerals.{add-one, sub-one}
 use native.Mathlib.Omega.{arith}
 use lib.ListN.{length, getD, set}
 use lib.Seq.{sets}
 use lib.IntN.{ℤ}
+use Rattle.exact.proofs.Lent.{sets-append}
 use Rattle.plane.specs.Side.{Point}
 use Rattle.plan.specs.Lists.{next}
 use Rattle.expand.specs.Sight.{Floor, Sight, follow, hand-on, numbers, row-count, crossings, Whole}
@@ -72,12 +72,6 @@ module _ (at n : ℕ) {s : Sight} where
 
 -- ---- what is written
 
-pub sets-behind : (a b old : List ℕ) (i : ℕ) → sets (sets old i a) (i + length a) b ≡ sets old i (a ++ b)
-sets-behind [] b old i = rw add-zero
-sets-behind (x ∷ a) b old i =
-    let e : i + suc (length a) ≡ suc i + length a = omega arith in
-    ap (λ (k : ℕ). sets (sets (set old i x) (suc i) a) k b) e ∙ sets-behind a b (set old i x) (suc i)
-
 -- the table `new` is the table `old` with the tree's rows, k of them, from `at` on, and the tree has m crossings
 abbrev pub Written : List ℕ → List ℕ → ℕ → ℕ → ℕ → Sight → Type 0
 Written old new at k m t = (k ≡ row-count t) × ((m ≡ crossings t) × (new ≡ sets old at (numbers t)))
@@ -98,7 +92,7 @@ module _ (old new : List ℕ) (at k m : ℕ) {s : Sight} where
       subst
       (Written old new at (i + k) (j + m))
       (sym e)
-      (ap₂ _+_ (w .0) (x .0), (ap₂ _+_ (w .1 .0) (x .1 .0), x .1 .1 ∙ ap₂ (λ (o : List ℕ) (i : ℕ). sets o i (numbers u)) (w .1 .1) d ∙ sets-behind (numbers t) (numbers u) old at))
+      (ap₂ _+_ (w .0) (x .0), (ap₂ _+_ (w .1 .0) (x .1 .0), x .1 .1 ∙ ap₂ (λ (o : List ℕ) (i : ℕ). sets o i (numbers u)) (w .1 .1) d ∙ sets-append old at (numbers t) (numbers u)))
 
 pub row-written : (old : List ℕ) (at : ℕ) {f r l : ℕ} {s : Sight} → s ≡ row f r l → Written old (set (set (set old at f) (at + 1) r) (at + 2) l) at 1 0 s
 unfolding numbers row-count crossings

@@ -23,7 +23,8 @@ use Rattle.sight.specs.Listing.{viewed, listing-numbers, listing-row-count, lis
 use Rattle.sight.specs.declared.list.Listed.{Listed}
 use Rattle.sight.specs.declared.list.Listed.the-variants.{Rows, Refused}
 use Rattle.plan.specs.PlanQ.{corners-of-Q, cells-of-Q, doors-of-Q}
-use Rattle.morning.specs.Morning.{one-after-another, in-all, single, asked, listed-stands}
+use Rattle.grant.specs.Asked.{asked}
+use Rattle.morning.specs.Morning.{one-after-another, in-all, single, listed-stands}
 use Rattle.manopluea.specs.Cases.{three, five, six, six-and-a-half, eleven, old}
 
 abbrev stands : List Stand

@@ -33,7 +33,8 @@ use Rattle.sight.specs.Reply.{listed-reply}
 use Rattle.sight.specs.declared.view.View.{View}
 use Rattle.sight.specs.declared.view.View.the-variants as O
 use Rattle.doors.specs.Change.{same-list, no-change, wished, refuse, changed-from, changed}
-use Rattle.morning.specs.Morning.{too-many, no-room, then-asked, asked, stands-from, listed-stands}
+use Rattle.grant.specs.Asked.{too-many, no-room, then-asked, asked}
+use Rattle.morning.specs.Morning.{stands-from, listed-stands}
 use Rattle.manopluea.specs.Conditions.{Condition, when, lowest, CheckAnswers, ReadAnswers, WriteAnswers, FindAnswers, ListAnswers, ChangeAnswers, ListStandsAnswers, plan-conditions, plan-conditions-with, read-conditions, inside-some, on-some-border, stand-conditions, true-numbers}
 
 -- what an answer tells in numbers

@@ -14,8 +14,9 @@ use Rattle.sight.specs.Listing.{listed}
 use Rattle.sight.specs.Written.{row-at, OneRow}
 use Rattle.sight.specs.declared.list.Listed.{Listed}
 use Rattle.sight.specs.declared.list.Listed.the-variants as L
-use Rattle.morning.specs.Morning.{rows-of, rows-in-all, crossings-in-all, all-rows, asked, stands-from, listed-stands}
-use Rattle.morning.proofs.Grants.{grant-says}
+use Rattle.morning.specs.Morning.{rows-of, rows-in-all, crossings-in-all, all-rows, stands-from, listed-stands}
+use Rattle.grant.specs.Asked.{asked}
+use Rattle.grant.proofs.Grants.{grant-says}
 use Rattle.morning.proofs.Together.{reply-is-the-single-one, rows-are-the-single-ones, table-is-kept-beyond, replies-are-kept-beyond}
 use Rattle.manopluea.specs.Demands.{Sighted}
 use Rattle.manopluea.specs.Together.{SingleCalls}

@@ -23,7 +23,7 @@ use Rattle.stand.specs.declared.spot.Spot.{Spot}
 use Rattle.stand.specs.declared.spot.Spot.the-variants.{At, Refused}
 use Rattle.sight.specs.Listing.{listing-numbers}
 use Rattle.doors.specs.Change.{same-list, no-change}
-use Rattle.morning.specs.Morning.{no-room}
+use Rattle.grant.specs.Asked.{no-room}
 use Rattle.manopluea.specs.Calls.{check-replies, read-replies, write-replies, find-replies, list-replies, change-replies, list-stands-replies}
 
 pub record Condition : Type 0 where

@@ -2,49 +2,24 @@
 use mathlib.Core.List.{List, [], _∷_, _++_, append-assoc, append-nil}
 use mathlib.Core.Path.{_≡_, refl, sym, ap, _∙_, subst}
 use Prim.Native.Nat.{ℕ, suc, _+_, _*_, _-_, _<_, _≤_}
-use native.Mathlib.Nat.{zero-add, add-zero, suc-add, add-suc, mul-suc, mul-add, mul-assoc, mul-le-mul, le-trans, le-refl}
+use native.Mathlib.Nat.{add-zero, mul-suc, mul-add, mul-assoc, mul-le-mul, le-trans, le-refl}
 use native.Mathlib.Omega.{arith}
 use borrow.Rule.Slice.PartAt.{part-to-end}
 use borrow.Rule.Slice.PartMut.{putMid}
-use lib.ListN.{length, getD, set, take, drop, replicate, length-append, length-drop, length-replicate, take-append-drop, drop-of-length-le}
+use lib.ListN.{length, getD, take, drop, replicate, length-append, length-drop, length-replicate}
 use lib.Seq.{sets, length-sets, length-take-le, take-suc}
 use lib.IntN.{ℤ}
+use Rattle.exact.proofs.Lent.{sets-append, part-put-back}
 use Rattle.plan.specs.Lists.{corner-count}
 use Rattle.plan.proofs.Plans.{counts}
 use Rattle.stand.specs.declared.spot.Stand.{Stand}
-use Rattle.expand.proofs.Expansion.{sets-behind}
 use Rattle.lines.specs.Lined.{Lined}
 use Rattle.sight.specs.Listing.{listed}
 use Rattle.sight.specs.declared.list.Listed.{Listed}
 use Rattle.morning.specs.Morning.{rows-of, crossings-of, three-of, rows-in, one-after-another, in-all, single, rows-in-all, crossings-in-all, all-rows, all-replies}
 use Rattle.morning.specs.OverLines.{over-lines}
-use Rattle.morning.proofs.Grants.{Grant}
+use Rattle.grant.proofs.Grants.{Grant}
 use Rattle.morning.proofs.Single.{AsSingle, listed-as-single, over-lines-is-listed}
-
--- ---- lists: a part that is written from its beginning
-
-module _ {A : Type 0} where
-  set-after : (p q : List A) (i : ℕ) (x : A) → set (p ++ q) (length p + i) x ≡ p ++ set q i x
-  set-after [] q i x = rw (zero-add i) refl
-  set-after (y ∷ p) q i x = rw (suc-add (length p) i) (ap (λ (l : List A). y ∷ l) (set-after p q i x))
-
-  sets-after : (p q vs : List A) (i : ℕ) → sets (p ++ q) (length p + i) vs ≡ p ++ sets q i vs
-  sets-after p q [] i = refl
-  sets-after p q (x ∷ vs) i =
-      ap (λ (l : List A). sets l (suc (length p + i)) vs) (set-after p q i x)
-      ∙ ap (λ (n : ℕ). sets (p ++ set q i x) n vs) (sym (add-suc (length p) i))
-      ∙ sets-after p (set q i x) vs (suc i)
-
-  -- the part from a on, written from its beginning and put back, is the whole written from a on
-  pub part-put-back : (xs vs : List A) (a : ℕ) → a ≤ length xs → {ys : List A} → ys ≡ sets (take (length xs - a) (drop a xs)) 0 vs → putMid a (length xs - a) xs ys ≡ sets xs a vs
-  part-put-back xs vs a h {ys} e =
-      let front : length (take a xs) + 0 ≡ a = add-zero (length (take a xs)) ∙ length-take-le a xs h in
-      let none : drop (length xs - a) (drop a xs) ≡ [] = drop-of-length-le (drop a xs) {i = length xs - a} (omega (arith, length-drop a xs)) in
-      ap (λ (l : List A). take a xs ++ (ys ++ l)) none
-      ∙ ap (λ (l : List A). take a xs ++ l) (append-nil ys ∙ e ∙ ap (λ (l : List A). sets l 0 vs) (part-to-end xs a))
-      ∙ sym (sets-after (take a xs) (drop a xs) vs 0)
-      ∙ ap (λ (n : ℕ). sets (take a xs ++ drop a xs) n vs) front
-      ∙ ap (λ (l : List A). sets l a vs) (take-append-drop a xs)
 
 -- ---- one after another, and in all
 
@@ -142,82 +117,79 @@ module _ (cs : List ℤ) (ts ds : List ℕ) (w : ℕ) (stands : List Stand) wher
         subst (λ (n : ℕ). (rows ≡ rows-in-all cs ts ds w (take n stands)) × ((crossings ≡ crossings-in-all cs ts ds w (take n stands)) × ((table ≡ sets table₀ 0 (all-rows cs ts ds w (take n stands))) × (replies ≡ sets replies₀ 0 (all-replies cs ts ds w (take n stands)))))) e
         (so .rows-are, (so .crossings-are, (so .table-is, so .replies-are)))
 
-  module _ {n room places : ℕ} (grant : Grant cs ts ds w n room places) where
-    module _ (i : ℕ) (below : i < n) (in-array : n ≤ length stands) {rows crossings : ℕ} {table₀ table replies₀ replies : List ℕ} (long : length table₀ ≡ room) (wide : length replies₀ ≡ places) (so : SoFar i rows crossings table₀ table replies₀ replies) where
-      taken : length (take i stands) ≡ i
-      taken = length-take-le i stands (omega arith)
+  module _ {n room places : ℕ} (grant : Grant cs ts ds w n room places) (i : ℕ) (below : i < n) (in-array : n ≤ length stands) {rows crossings : ℕ} {table₀ table replies₀ replies : List ℕ} (long : length table₀ ≡ room) (wide : length replies₀ ≡ places) (so : SoFar i rows crossings table₀ table replies₀ replies) where
+    taken : length (take i stands) ≡ i
+    taken = length-take-le i stands (omega arith)
 
-      pub next : Next cs i rows crossings table replies
-      next =
-          let all-rows-fit = few-rows-in-all cs ts ds w grant (take i stands) in
-          let all-crossings-fit = few-crossings-in-all cs ts ds w grant (take i stands) in
-          let rows-so : rows ≤ corner-count cs * i = subst (λ (k : ℕ). rows ≤ corner-count cs * k) taken (omega (arith, so .rows-are)) in
-          let same : length table ≡ room = table-keeps-its-length so ∙ long in
-          let same-places : length replies ≡ places = replies-keep-their-length so ∙ wide in
-          let stands-fit : corner-count cs * suc i ≤ corner-count cs * n = mul-le-mul (omega arith) below in
-          let room-for-all : 3 * (corner-count cs * n) ≤ room = subst (λ (k : ℕ). k ≤ room) (mul-assoc 3 (corner-count cs) n) (grant .table-long) in
+    pub next : Next cs i rows crossings table replies
+    next =
+        let all-rows-fit = few-rows-in-all cs ts ds w grant (take i stands) in
+        let all-crossings-fit = few-crossings-in-all cs ts ds w grant (take i stands) in
+        let rows-so : rows ≤ corner-count cs * i = subst (λ (k : ℕ). rows ≤ corner-count cs * k) taken (omega (arith, so .rows-are)) in
+        let same : length table ≡ room = table-keeps-its-length so ∙ long in
+        let same-places : length replies ≡ places = replies-keep-their-length so ∙ wide in
+        let stands-fit : corner-count cs * suc i ≤ corner-count cs * n = mul-le-mul (omega arith) below in
+        let room-for-all : 3 * (corner-count cs * n) ≤ room = subst (λ (k : ℕ). k ≤ room) (mul-assoc 3 (corner-count cs) n) (grant .table-long) in
+        record {
+          few-rows = le-trans rows-so (mul-le-mul (counts _ _ _ (grant .sound .in-size) .corners-at-most) (le-refl i));
+          few-crossings = subst (λ (k : ℕ). crossings ≤ 2048 * 2999 * k) taken (omega (arith, so .crossings-are));
+          room-left = omega (arith, mul-suc (corner-count cs) i);
+          places-left = omega (arith, grant .replies-long);
+        }
+
+    -- after it
+    module _ (d : Stand) {ls : List ℕ} (lined : Lined ts ds w ls) where
+      abbrev stand : Stand
+      stand = getD stands i d
+
+      abbrev part : List ℕ
+      part = take (length table - 3 * rows) (drop (3 * rows) table)
+
+      one-more-taken : take (i + 1) stands ≡ take i stands ++ (stand ∷ [])
+      one-more-taken =
+          let after : i + 1 ≡ suc i = omega arith in
+          ap (λ (k : ℕ). take k stands) after ∙ take-suc stands i d (omega arith)
+
+      as-single : AsSingle cs ts ds w stand part (over-lines cs ts ls stand part .0) (over-lines cs ts ls stand part .1)
+      as-single =
+          let same : over-lines cs ts ls stand part ≡ listed cs ts ds w stand part = over-lines-is-listed cs ts ds w (grant .plan-accepted) (grant .setting-right) stand lined part in
+          let fits : 3 * corner-count cs ≤ length part = omega (arith, ap length (part-to-end table (3 * rows)), length-drop (3 * rows) table, next .room-left) in
+          subst (λ (p : Listed × List ℕ). AsSingle cs ts ds w stand part (p .0) (p .1)) (sym same) (alone cs ts ds w grant stand part fits)
+
+      pub few-here : {m k : ℕ} → m ≡ rows-of (over-lines cs ts ls stand part .0) → k ≡ crossings-of (over-lines cs ts ls stand part .0) → (m ≤ 2048) × (k ≤ 2048 * 2999)
+      few-here {m} {k} e f =
+          let m-is : m ≡ rows-of (single cs ts ds w stand .0) = e ∙ ap rows-of (as-single .same-answer) in
+          let k-is : k ≡ crossings-of (single cs ts ds w stand .0) = f ∙ ap crossings-of (as-single .same-answer) in (
+            omega (arith, m-is, as-single .few-rows, counts _ _ _ (grant .sound .in-size) .corners-at-most),
+            omega (arith, k-is, as-single .few-crossings),
+          )
+
+      pub one-more : {m k : ℕ} {new new-replies : List ℕ} → (m ≡ rows-of (over-lines cs ts ls stand part .0)) × ((k ≡ crossings-of (over-lines cs ts ls stand part .0)) × ((new ≡ over-lines cs ts ls stand part .1) × (new-replies ≡ sets replies (3 * i) (three-of (over-lines cs ts ls stand part .0))))) → SoFar (i + 1) (rows + m) (crossings + k) table₀ (putMid (3 * rows) (length table - 3 * rows) table new) replies₀ new-replies
+      one-more {m} {k} {new} {new-replies} h =
+          let one = as-single in
+          let ss = take i stands in
+          let rows-here : 0 + length (all-rows cs ts ds w ss) ≡ 3 * rows = omega (arith, rows-are-three-numbers cs ts ds w grant ss, so .rows-are) in
+          let places-here : 0 + length (all-replies cs ts ds w ss) ≡ 3 * i = omega (arith, replies-are-three-numbers cs ts ds w grant ss, taken) in
+          let m-is : m ≡ rows-of (single cs ts ds w stand .0) = h .0 ∙ ap rows-of (one .same-answer) in
+          let k-is : k ≡ crossings-of (single cs ts ds w stand .0) = h .1 .0 ∙ ap crossings-of (one .same-answer) in
           record {
-            few-rows = le-trans rows-so (mul-le-mul (counts _ _ _ (grant .sound .in-size) .corners-at-most) (le-refl i));
-            few-crossings = subst (λ (k : ℕ). crossings ≤ 2048 * 2999 * k) taken (omega (arith, so .crossings-are));
-            room-left = omega (arith, mul-suc (corner-count cs) i);
-            places-left = omega (arith, grant .replies-long);
+            rows-are =
+                omega (arith, so .rows-are, m-is, with-the-last (λ s. rows-of (single cs ts ds w s .0)) ss stand)
+                ∙ ap (rows-in-all cs ts ds w) (sym one-more-taken);
+            crossings-are =
+                omega (arith, so .crossings-are, k-is, with-the-last (λ s. crossings-of (single cs ts ds w s .0)) ss stand)
+                ∙ ap (crossings-in-all cs ts ds w) (sym one-more-taken);
+            table-is =
+                part-put-back table (rows-in (single cs ts ds w stand)) (3 * rows) (omega (arith, next .room-left)) (h .1 .1 .0 ∙ one .same-rows)
+                ∙ ap (λ (t : List ℕ). sets t (3 * rows) (rows-in (single cs ts ds w stand))) (so .table-is)
+                ∙ ap (λ (a : ℕ). sets (sets table₀ 0 (all-rows cs ts ds w ss)) a (rows-in (single cs ts ds w stand))) (sym rows-here)
+                ∙ sets-append table₀ 0 (all-rows cs ts ds w ss) (rows-in (single cs ts ds w stand))
+                ∙ ap (sets table₀ 0) (sym (and-the-last (λ s. rows-in (single cs ts ds w s)) ss stand) ∙ ap (all-rows cs ts ds w) (sym one-more-taken));
+            replies-are =
+                h .1 .1 .1
+                ∙ ap (λ (a : Listed). sets replies (3 * i) (three-of a)) (one .same-answer)
+                ∙ ap (λ (t : List ℕ). sets t (3 * i) (three-of (single cs ts ds w stand .0))) (so .replies-are)
+                ∙ ap (λ (a : ℕ). sets (sets replies₀ 0 (all-replies cs ts ds w ss)) a (three-of (single cs ts ds w stand .0))) (sym places-here)
+                ∙ sets-append replies₀ 0 (all-replies cs ts ds w ss) (three-of (single cs ts ds w stand .0))
+                ∙ ap (sets replies₀ 0) (sym (and-the-last (λ s. three-of (single cs ts ds w s .0)) ss stand) ∙ ap (all-replies cs ts ds w) (sym one-more-taken));
           }
-
-      -- after it
-      module _ (d : Stand) {ls : List ℕ} (lined : Lined ts ds w ls) where
-        abbrev stand : Stand
-        stand = getD stands i d
-
-        abbrev part : List ℕ
-        part = take (length table - 3 * rows) (drop (3 * rows) table)
-
-        abbrev places-part : List ℕ
-        places-part = take (length replies - 3 * i) (drop (3 * i) replies)
-
-        one-more-taken : take (i + 1) stands ≡ take i stands ++ (stand ∷ [])
-        one-more-taken =
-            let after : i + 1 ≡ suc i = omega arith in
-            ap (λ (k : ℕ). take k stands) after ∙ take-suc stands i d (omega arith)
-
-        as-single : AsSingle cs ts ds w stand part (over-lines cs ts ls stand part .0) (over-lines cs ts ls stand part .1)
-        as-single =
-            let same : over-lines cs ts ls stand part ≡ listed cs ts ds w stand part = over-lines-is-listed cs ts ds w (grant .plan-accepted) (grant .setting-right) stand lined part in
-            let fits : 3 * corner-count cs ≤ length part = omega (arith, ap length (part-to-end table (3 * rows)), length-drop (3 * rows) table, next .room-left) in
-            subst (λ (p : Listed × List ℕ). AsSingle cs ts ds w stand part (p .0) (p .1)) (sym same) (alone cs ts ds w grant stand part fits)
-
-        pub few-here : {m k : ℕ} → m ≡ rows-of (over-lines cs ts ls stand part .0) → k ≡ crossings-of (over-lines cs ts ls stand part .0) → (m ≤ 2048) × (k ≤ 2048 * 2999)
-        few-here {m} {k} e f =
-            let m-is : m ≡ rows-of (single cs ts ds w stand .0) = e ∙ ap rows-of (as-single .same-answer) in
-            let k-is : k ≡ crossings-of (single cs ts ds w stand .0) = f ∙ ap crossings-of (as-single .same-answer) in (
-              omega (arith, m-is, as-single .few-rows, counts _ _ _ (grant .sound .in-size) .corners-at-most),
-              omega (arith, k-is, as-single .few-crossings),
-            )
-
-        pub one-more : {m k : ℕ} {new new-replies : List ℕ} → (m ≡ rows-of (over-lines cs ts ls stand part .0)) × ((k ≡ crossings-of (over-lines cs ts ls stand part .0)) × ((new ≡ over-lines cs ts ls stand part .1) × (new-replies ≡ sets places-part 0 (three-of (over-lines cs ts ls stand part .0))))) → SoFar (i + 1) (rows + m) (crossings + k) table₀ (putMid (3 * rows) (length table - 3 * rows) table new) replies₀ (putMid (3 * i) (length replies - 3 * i) replies new-replies)
-        one-more {m} {k} {new} {new-replies} h =
-            let one = as-single in
-            let ss = take i stands in
-            let rows-here : 0 + length (all-rows cs ts ds w ss) ≡ 3 * rows = omega (arith, rows-are-three-numbers cs ts ds w grant ss, so .rows-are) in
-            let places-here : 0 + length (all-replies cs ts ds w ss) ≡ 3 * i = omega (arith, replies-are-three-numbers cs ts ds w grant ss, taken) in
-            let m-is : m ≡ rows-of (single cs ts ds w stand .0) = h .0 ∙ ap rows-of (one .same-answer) in
-            let k-is : k ≡ crossings-of (single cs ts ds w stand .0) = h .1 .0 ∙ ap crossings-of (one .same-answer) in
-            record {
-              rows-are =
-                  omega (arith, so .rows-are, m-is, with-the-last (λ s. rows-of (single cs ts ds w s .0)) ss stand)
-                  ∙ ap (rows-in-all cs ts ds w) (sym one-more-taken);
-              crossings-are =
-                  omega (arith, so .crossings-are, k-is, with-the-last (λ s. crossings-of (single cs ts ds w s .0)) ss stand)
-                  ∙ ap (crossings-in-all cs ts ds w) (sym one-more-taken);
-              table-is =
-                  part-put-back table (rows-in (single cs ts ds w stand)) (3 * rows) (omega (arith, next .room-left)) (h .1 .1 .0 ∙ one .same-rows)
-                  ∙ ap (λ (t : List ℕ). sets t (3 * rows) (rows-in (single cs ts ds w stand))) (so .table-is)
-                  ∙ ap (λ (a : ℕ). sets (sets table₀ 0 (all-rows cs ts ds w ss)) a (rows-in (single cs ts ds w stand))) (sym rows-here)
-                  ∙ sets-behind (all-rows cs ts ds w ss) (rows-in (single cs ts ds w stand)) table₀ 0
-                  ∙ ap (sets table₀ 0) (sym (and-the-last (λ s. rows-in (single cs ts ds w s)) ss stand) ∙ ap (all-rows cs ts ds w) (sym one-more-taken));
-              replies-are =
-                  part-put-back replies (three-of (single cs ts ds w stand .0)) (3 * i) (omega (arith, next .places-left)) (h .1 .1 .1 ∙ ap (λ (a : Listed). sets places-part 0 (three-of a)) (one .same-answer))
-                  ∙ ap (λ (t : List ℕ). sets t (3 * i) (three-of (single cs ts ds w stand .0))) (so .replies-are)
-                  ∙ ap (λ (a : ℕ). sets (sets replies₀ 0 (all-replies cs ts ds w ss)) a (three-of (single cs ts ds w stand .0))) (sym places-here)
-                  ∙ sets-behind (all-replies cs ts ds w ss) (three-of (single cs ts ds w stand .0)) replies₀ 0
-                  ∙ ap (sets replies₀ 0) (sym (and-the-last (λ s. three-of (single cs ts ds w s .0)) ss stand) ∙ ap (all-replies cs ts ds w) (sym one-more-taken));
-            }

@@ -1,8 +1,9 @@
 -- One stand over the lines drawn: what following its cell's sides asks, and what is written.
 use mathlib.Core.List.{List, [], _∷_}
 use mathlib.Core.Path.{_≡_, refl, sym, ap, _∙_, subst}
-use Prim.Native.Nat.{ℕ, _+_, _*_, _-_, _^_, _<_, _≤_}
-use lib.ListN.{length}
+use Prim.Native.Nat.{ℕ, suc, _+_, _*_, _-_, _^_, _<_, _≤_}
+use native.Mathlib.Omega.{arith}
+use lib.ListN.{length, set}
 use lib.Seq.{sets}
 use lib.IntN.{ℤ}
 use mir.Syntax.{w64}
@@ -29,6 +30,13 @@ use Rattle.sight.proofs.Views.{Spotted, spot-says}
 use Rattle.morning.specs.Morning.{rows-of, crossings-of, three-of}
 use Rattle.morning.specs.OverLines.{Drawn, over-lines-from, over-lines}
 
+-- three stores one behind the other
+pub three-put : (l : List ℕ) (at a b c : ℕ) → set (set (set l at a) (at + 1) b) (at + 2) c ≡ sets l at (a ∷ b ∷ c ∷ [])
+three-put l at a b c =
+    let second : at + 1 ≡ suc at = omega arith in
+    let third : at + 2 ≡ suc (suc at) = omega arith in
+    λ k. set (set (set l at a) (second k) b) (third k) c
+
 module _ {cs : List ℤ} {ts ls : List ℕ} (drawn : Drawn cs ts ls) where
   pub corners-checked : CornersNear cs × CornersExist cs ts
   corners-checked = (drawn .sound .corners, corners-exist (drawn .sound))
@@ -36,23 +44,23 @@ module _ {cs : List ℤ} {ts ls : List ℕ} (drawn : Drawn cs ts ls) where
   pub some-cell : 1 ≤ cell-count ts
   some-cell = counts _ _ _ (drawn .sound .in-size) .cells-at-least
 
-  module _ (s : Stand) (table : List ℕ) where
+  module _ (s : Stand) (table : List ℕ) (at : ℕ) where
     -- what list_stand leaves: counts, table and replies
     abbrev Left : ℕ → ℕ → List ℕ → List ℕ → List ℕ → Type 0
     Left i j new old-replies new-replies =
         (i ≡ rows-of (over-lines cs ts ls s table .0))
         × ((j ≡ crossings-of (over-lines cs ts ls s table .0))
-        × ((new ≡ over-lines cs ts ls s table .1) × (new-replies ≡ sets old-replies 0 (three-of (over-lines cs ts ls s table .0)))))
+        × ((new ≡ over-lines cs ts ls s table .1) × (new-replies ≡ sets old-replies at (three-of (over-lines cs ts ls s table .0)))))
 
-    pub stand-refused : (old : List ℕ) {r : Refusal} {n : ℕ} {new : List ℕ} → view-of-spot cs ts (length table) (stood cs s) ≡ O.Refused r → n ≡ number r → new ≡ sets old 0 (n ∷ 0 ∷ 0 ∷ []) → Left 0 0 table old new
+    pub stand-refused : (old : List ℕ) {r : Refusal} {n : ℕ} {new : List ℕ} → view-of-spot cs ts (length table) (stood cs s) ≡ O.Refused r → n ≡ number r → new ≡ sets old at (n ∷ 0 ∷ 0 ∷ []) → Left 0 0 table old new
     unfolding over-lines
-    stand-refused old {r} {n} {new} v e h = subst (λ (v : View). By v) (sym v) (refl, (refl, (refl, h ∙ ap (λ (n : ℕ). sets old 0 (n ∷ 0 ∷ 0 ∷ [])) e)))
+    stand-refused old {r} {n} {new} v e h = subst (λ (v : View). By v) (sym v) (refl, (refl, (refl, h ∙ ap (λ (n : ℕ). sets old at (n ∷ 0 ∷ 0 ∷ [])) e)))
       where
         By : View → Type 0
         By v =
             (0 ≡ rows-of (over-lines-from cs ts ls table v .0))
             × ((0 ≡ crossings-of (over-lines-from cs ts ls table v .0))
-            × ((table ≡ over-lines-from cs ts ls table v .1) × (new ≡ sets old 0 (three-of (over-lines-from cs ts ls table v .0)))))
+            × ((table ≡ over-lines-from cs ts ls table v .1) × (new ≡ sets old at (three-of (over-lines-from cs ts ls table v .0)))))
 
     module _ {x y : ℤ} {c : ℕ} (view : view-of-spot cs ts (length table) (stood cs s) ≡ O.From x y c) where
       abbrev q : Point
@@ -85,16 +93,16 @@ module _ {cs : List ℤ} {ts ls : List ℕ} (drawn : Drawn cs ts ls) where
             ),
           )
 
-      pub stand-listed : (old-replies : List ℕ) {i j : ℕ} {new new-replies : List ℕ} → (i ≡ row-count (tree as-passed)) × ((j ≡ crossings (tree as-passed)) × (new ≡ sets table 0 (numbers (tree as-passed)))) → new-replies ≡ sets old-replies 0 (0 ∷ i ∷ j ∷ []) → Left i j new old-replies new-replies
+      pub stand-listed : (old-replies : List ℕ) {i j : ℕ} {new new-replies : List ℕ} → (i ≡ row-count (tree as-passed)) × ((j ≡ crossings (tree as-passed)) × (new ≡ sets table 0 (numbers (tree as-passed)))) → new-replies ≡ sets old-replies at (0 ∷ i ∷ j ∷ []) → Left i j new old-replies new-replies
       unfolding over-lines
       stand-listed old-replies {i} {j} {new} {new-replies} h e =
           let rows = h .0 ∙ ap (λ (p : Point). row-count (tree p)) read in
           let passed = h .1 .0 ∙ ap (λ (p : Point). crossings (tree p)) read in
           let written = h .1 .1 ∙ ap (λ (p : Point). sets table 0 (numbers (tree p))) read in
-          subst (λ (v : View). By v) (sym view) (rows, (passed, (written, e ∙ (λ k. sets old-replies 0 (0 ∷ rows k ∷ passed k ∷ [])))))
+          subst (λ (v : View). By v) (sym view) (rows, (passed, (written, e ∙ (λ k. sets old-replies at (0 ∷ rows k ∷ passed k ∷ [])))))
         where
           By : View → Type 0
           By v =
               (i ≡ rows-of (over-lines-from cs ts ls table v .0))
               × ((j ≡ crossings-of (over-lines-from cs ts ls table v .0))
-              × ((new ≡ over-lines-from cs ts ls table v .1) × (new-replies ≡ sets old-replies 0 (three-of (over-lines-from cs ts ls table v .0)))))
+              × ((new ≡ over-lines-from cs ts ls table v .1) × (new-replies ≡ sets old-replies at (three-of (over-lines-from cs ts ls table v .0)))))

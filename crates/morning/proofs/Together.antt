@@ -21,8 +21,9 @@ use Rattle.sight.specs.Once.At.{first, later}
 use Rattle.sight.specs.declared.list.Listed.{Listed}
 use Rattle.sight.specs.declared.list.Listed.the-variants as L
 use Rattle.sight.proofs.Tables.{place-is-within}
-use Rattle.morning.specs.Morning.{rows-of, three-of, rows-in, one-after-another, single, rows-in-all, crossings-in-all, all-rows, all-replies, asked, stands-from, listed-stands}
-use Rattle.morning.proofs.Grants.{Grant, grant-says}
+use Rattle.morning.specs.Morning.{rows-of, three-of, rows-in, one-after-another, single, rows-in-all, crossings-in-all, all-rows, all-replies, stands-from, listed-stands}
+use Rattle.grant.specs.Asked.{asked}
+use Rattle.grant.proofs.Grants.{Grant, grant-says}
 use Rattle.morning.proofs.Single.{AsSingle, listed-as-single}
 use Rattle.morning.proofs.Each.{followed-by, rows-are-three-numbers, replies-are-three-numbers, few-rows-in-all}
 

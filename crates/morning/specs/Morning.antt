@@ -1,21 +1,13 @@
 -- A morning's stands together (document 02, A1): the rows of each stand's own listing, one after another, and three numbers a stand.
-use mathlib.Core.Bool.{Bool, true, false, _||_}
 use mathlib.Core.List.{List, [], _∷_, _++_}
-use mathlib.Core.Path.{_≡_}
 use Prim.Native.Nat.{ℕ, _+_, _*_}
-use lib.Dec.{ltb}
 use lib.ListN.{length, getD, take, replicate}
 use lib.Seq.{sets}
 use lib.IntN.{ℤ}
-use Rattle.limits.specs.Limits.{most-stands}
-use Rattle.limits.specs.declared.Plan.{Plan}
-use Rattle.limits.specs.declared.Refusal.{Refusal}
-use Rattle.limits.specs.declared.Refusal.the-variants.{Frame, Size, Setting, Room}
 use Rattle.limits.specs.declared.Checked.{Checked}
 use Rattle.limits.specs.declared.Checked.the-variants as C
 use Rattle.plan.specs.Lists.{corner-count}
-use Rattle.plan.specs.Check.{framed, refuse-if, checked}
-use Rattle.setting.specs.Setting.{wrong-setting}
+use Rattle.grant.specs.Asked.{asked}
 use Rattle.stand.specs.declared.spot.Stand.{Stand}
 use Rattle.sight.specs.Listing.{listed}
 use Rattle.sight.specs.Reply.{listed-reply}
@@ -64,34 +56,6 @@ module _ (cs : List ℤ) (ts ds : List ℕ) (w : ℕ) where
 
   abbrev pub all-replies : List Stand → List ℕ
   all-replies = one-after-another (λ s. three-of (single s .0))
-
--- more than 32 stands are SIZE, where the plan's lists are not FRAME
-abbrev pub too-many : Bool → Refusal
-too-many true = Size
-too-many false = Frame
-
--- a table below 3·corners·stands numbers, or fewer than 3·stands places for the replies
-abbrev pub no-room : ℕ → ℕ → ℕ → ℕ → Bool
-no-room corners n room places = ltb room (3 * corners * n) || ltb places (3 * n)
-
--- an accepted plan is asked further
-abbrev pub then-asked : Checked → (Plan → Checked) → Checked
-then-asked (C.Accepted p) more = more p
-then-asked (C.Refused r) more = C.Refused r
-
--- the refusals of the whole call, before any stand is looked at; n is the number of stands
-unfoldable pub asked : List ℤ → List ℕ → List ℕ → ℕ → ℕ → ℕ → ℕ → Checked
-asked cs ts ds w n room places =
-    refuse-if (ltb most-stands n) (too-many (framed cs ts))
-    (then-asked (checked cs ts ds)
-    (λ p. refuse-if (wrong-setting w (length ds)) Setting
-    (refuse-if (no-room (corner-count cs) n room places) Room
-    (C.Accepted p))))
-
--- the call is granted: it is refused for no reason
-pub record Granted (cs : List ℤ) (ts ds : List ℕ) (w n room places : ℕ) : Type 0 where
-  pub plan : Plan
-  pub accepted : asked cs ts ds w n room places ≡ C.Accepted plan
 
 -- the answer, the table and the replies at exit: on a refusal they keep their contents, and beyond the numbers written they keep their values
 abbrev pub stands-from : List ℤ → List ℕ → List ℕ → ℕ → List Stand → List ℕ → List ℕ → Checked → Listed × (List ℕ × List ℕ)

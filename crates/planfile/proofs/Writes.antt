@@ -17,7 +17,7 @@ use Rattle.limits.specs.declared.Checked.the-variants.{Accepted, Refused}
 use Rattle.records.specs.Bytes.{all-bytes}
 use Rattle.records.specs.Record.{record-of, corner-record, cell-record, door-record}
 use Rattle.records.proofs.Spelled.{length-corner-record, length-number-record}
-use Rattle.records.proofs.Stores.{sets-then}
+use Rattle.exact.proofs.Lent.{sets-then}
 use Rattle.planfile.specs.File.{file-of}
 use Rattle.planfile.specs.Calls.{given-room, left-by, written-reply, written}
 use Rattle.planfile.proofs.Accepts.{refused-stays}

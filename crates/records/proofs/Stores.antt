@@ -1,26 +1,18 @@
 -- Laws of runs of stores, and of the loops that make them.
 use mathlib.Core.List.{List, [], _∷_, _++_, append-assoc, append-nil, map}
 use mathlib.Core.Path.{_≡_, refl, sym, ap, ap₂, _∙_}
-use Prim.Native.Nat.{ℕ, suc, _+_, _*_, _/_, _<_, _≤_}
-use native.Mathlib.Nat.{add-zero, add-suc, suc-add}
+use Prim.Native.Nat.{ℕ, _+_, _*_, _/_, _<_, _≤_}
 use native.Mathlib.Numerals.{add-one}
 use native.Mathlib.Omega.{arith}
 use lib.ListN.{length, take, getD, set, length-append, length-set, length-map, List·getD-map, drop-of-length-le}
 use lib.IntN.{ℤ}
 use lib.Seq.{sets, length-sets, take-suc, take-all, length-take-le, sets-eq}
+use Rattle.exact.proofs.Lent.{sets-then}
 use Rattle.records.specs.Bytes.{bytes, number-at, all-bytes, numbers-at, complement, signed}
 use Rattle.records.specs.Record.{record-of, corner-record}
 use Rattle.records.proofs.Spelled.{length-bytes, four-bytes, length-all-bytes, all-bytes-one-more, length-numbers-at, number-listed}
 
 module _ {ℓ} {A : Type ℓ} where
-  -- a second run that begins where the first ends
-  pub sets-append : (l : List A) (i : ℕ) (a b : List A) → sets (sets l i a) (i + length a) b ≡ sets l i (a ++ b)
-  sets-append l i [] b = rw add-zero
-  sets-append l i (x ∷ a) b = rw (add-suc i (length a), ← suc-add i (length a)) (sets-append (set l i x) (suc i) a b)
-
-  pub sets-then : (l : List A) (i j : ℕ) (a b : List A) → i + length a ≡ j → sets (sets l i a) j b ≡ sets l i (a ++ b)
-  sets-then l i j a b e = rw (← e) (sets-append l i a b)
-
   -- a run over the whole list
   pub sets-all : (l vs : List A) → length l ≡ length vs → sets l 0 vs ≡ vs
   sets-all l vs e =

@@ -5,7 +5,8 @@ use Prim.Native.Nat.{ℕ, _+_, _/_, _%_, _≤_, _<_}
 use native.Mathlib.Omega.{arith}
 use lib.ListN.{length, set, length-append, length-set}
 use lib.Seq.{length-sets}
-use Rattle.records.proofs.Stores.{sets-append, Fills, fills-end}
+use Rattle.exact.proofs.Lent.{sets-append}
+use Rattle.records.proofs.Stores.{Fills, fills-end}
 use Rattle.text.specs.Text.{decimal, number-then}
 use Rattle.text.specs.Wrote.{Wrote}
 use Rattle.text.proofs.Decimals.{decimal-of-a-digit, decimal-of-more}

@@ -3,10 +3,10 @@ use Prim.Native.Nat.{_-_, _≤_}
 use mathlib.Core.Path.{_≡_, refl}
 use native.Mathlib.Omega.{arith}
 use denote.Ref.{now}
-use lib.ListN.{length, length-take, length-drop}
+use lib.ListN.{length, length-take}
 use Rattle.plan.proofs.Plans.{counts}
 use Rattle.sight.proofs.Lined.{sound-cells}
-use Rattle.morning.proofs.Grants.{grant-says}
+use Rattle.grant.proofs.Grants.{grant-says}
 use Rattle.morning.proofs.Each.{SoFar, none-yet, Next, next, table-keeps-its-length, replies-keep-their-length, all-listed, few-here, one-more}
 use borrow.Author.Needs.{needs}
 use Rattle.morning.proofs.list_each.Statement.{statement}
@@ -53,9 +53,6 @@ array-copy-out-stand c = omega (arith, grant-says _ _ _ _ _ _ _ (c .before .befo
 mul-row : tie.Need-mul-row Inv-loop μ-loop
 mul-row c = omega (arith, next-at (c .before) .few-rows, grant-says _ _ _ _ _ _ _ (c .before .before .before .before .before .before .before .before .before .before .before .before .before .pre .0) .few-stands)
 
-mul-place : tie.Need-mul-place Inv-loop μ-loop
-mul-place c = omega (arith, grant-says _ _ _ _ _ _ _ (c .before .before .before .before .before .before .before .before .before .before .before .before .before .pre .0) .few-stands)
-
 mul-list-stand : tie.Need-mul-list-stand Inv-loop μ-loop
 mul-list-stand c = omega (arith, next-at (c .before .before) .few-rows, grant-says _ _ _ _ _ _ _ (c .before .before .before .before .before .before .before .before .before .before .before .before .before .before .pre .0) .few-stands)
 
@@ -69,21 +66,12 @@ part-list-stand-end : tie.Need-part-list-stand-end Inv-loop μ-loop
 part-list-stand-end c = search needs
 
 mul-list-stand-2 : tie.Need-mul-list-stand-2 Inv-loop μ-loop
-mul-list-stand-2 c = omega (arith, grant-says _ _ _ _ _ _ _ (c .before .before .before .before .before .before .before .before .before .before .before .before .before .before .before .pre .0) .few-stands)
-
-sub-list-stand-2 : tie.Need-sub-list-stand-2 Inv-loop μ-loop
-sub-list-stand-2 c = omega (arith, next-at (c .before .before .before) .places-left)
-
-part-list-stand-start-2 : tie.Need-part-list-stand-start-2 Inv-loop μ-loop
-part-list-stand-start-2 c = omega (arith, next-at (c .before .before .before) .places-left)
-
-part-list-stand-end-2 : tie.Need-part-list-stand-end-2 Inv-loop μ-loop
-part-list-stand-end-2 c = search needs
+mul-list-stand-2 c = omega (arith, grant-says _ _ _ _ _ _ _ (c .before .before .before .before .before .before .before .before .before .before .before .before .before .before .before .before .pre .0) .few-stands)
 
 list-stand-requires : tie.Need-list-stand-requires Inv-loop μ-loop
 list-stand-requires c κs =
     let grant = grant-says _ _ _ _ _ _ _ (c .before .before .before .before .before .before .before .before .before .before .before .before .before .before .before .before .pre .0) in
-    (record { doors = now (c .before .before .before .before .before .before .before .before .before .before .before .before .before .before .before .before .args .doors); setting = c .before .before .before .before .before .before .before .before .before .before .before .before .before .before .before .before .args .setting; sound = grant .sound; lined = c .before .before .before .before .before .before .before .before .lines-of .ensures }, simp (length-take, length-drop) (omega (arith, next-at (c .before .before .before .before) .places-left)))
+    (record { doors = now (c .before .before .before .before .before .before .before .before .before .before .before .before .before .before .before .before .args .doors); setting = c .before .before .before .before .before .before .before .before .before .before .before .before .before .before .before .before .args .setting; sound = grant .sound; lined = c .before .before .before .before .before .before .before .before .lines-of .ensures }, next-at (c .before .before .before .before) .places-left)
 
 add-rows : tie.Need-add-rows Inv-loop μ-loop
 add-rows c = omega (arith, next-at (c .before .before .before .before .before .before .before .before .before .before) .few-rows, grant-says _ _ _ _ _ _ _ (c .before .before .before .before .before .before .before .before .before .before .before .before .before .before .before .before .before .before .before .before .before .before .pre .0) .few-stands, few-here (now (c .before .before .before .before .before .before .before .before .before .before .before .before .before .before .before .before .before .before .before .before .before .before .args .corners)) (now (c .before .before .before .before .before .before .before .before .before .before .before .before .before .before .before .before .before .before .before .before .before .before .args .cells)) (now (c .before .before .before .before .before .before .before .before .before .before .before .before .before .before .before .before .before .before .before .before .before .before .args .doors)) (c .before .before .before .before .before .before .before .before .before .before .before .before .before .before .before .before .before .before .before .before .before .before .args .setting) (c .before .before .before .before .before .before .before .before .before .before .before .before .before .before .before .before .before .before .before .before .before .before .args .t5) (grant-says _ _ _ _ _ _ _ (c .before .before .before .before .before .before .before .before .before .before .before .before .before .before .before .before .before .before .before .before .before .before .pre .0)) (c .before .before .before .before .before .before .before .before .before .before .before .loop .i) (c .before .before .before .before .before .before .before .before .before .before .loop-test .taken) (in-array (c .before .before .before .before .before .before .before .before .before .before)) refl refl (c .before .before .before .before .before .before .before .before .before .before .before .loop .inv .1) _ (c .before .before .before .before .before .before .before .before .before .before .before .before .before .before .lines-of .ensures) (c .before .before .before .before .before .list-stand .ensures .0) (c .before .before .before .before .before .list-stand .ensures .1 .0) .0)
@@ -126,15 +114,11 @@ list-each-spec =
     mul-stand
     array-copy-out-stand
     mul-row
-    mul-place
     mul-list-stand
     sub-list-stand
     part-list-stand-start
     part-list-stand-end
     mul-list-stand-2
-    sub-list-stand-2
-    part-list-stand-start-2
-    part-list-stand-end-2
     list-stand-requires
     add-rows
     add-crossings

@@ -22,7 +22,7 @@ use Rattle.plan.specs.Sound.{Sound}
 use Rattle.plan.proofs.Accepted.{passed, accepted-is-sound}
 use Rattle.plan.proofs.Plans.{counts}
 use Rattle.setting.specs.Setting.{wrong-setting}
-use Rattle.morning.specs.Morning.{too-many, no-room, then-asked, asked, Granted}
+use Rattle.grant.specs.Asked.{too-many, no-room, then-asked, asked, Granted}
 
 -- ---- more than 32 stands
 

@@ -1,11 +1,11 @@
--- `morning::asked` meets its contract.
+-- `grant::asked` meets its contract.
 use mathlib.Core.Path.{sym, _∙_}
 use native.Mathlib.Omega.{arith}
 use denote.Ref.{now}
-use Rattle.morning.proofs.Grants.{many-refused, plan-refused, few-doors, few-corners, few-numbers, setting-refused, table-too-short, too-few-places, granted}
+use Rattle.grant.proofs.Grants.{many-refused, plan-refused, few-doors, few-corners, few-numbers, setting-refused, table-too-short, too-few-places, granted}
 use borrow.Author.Needs.{needs}
-use Rattle.morning.proofs.asked.Statement.{statement}
-use Rattle.morning.proofs.asked.Tie as tie
+use Rattle.grant.proofs.asked.Statement.{statement}
+use Rattle.grant.proofs.asked.Tie as tie
 
 too-many-requires : tie.Need-too-many-requires
 too-many-requires c κs = search needs

@@ -1,8 +1,8 @@
--- `morning::too_many` meets its contract.
+-- `grant::too_many` meets its contract.
 use denote.Ref.{now}
-use Rattle.morning.proofs.Grants.{odd-corners, odd-cells, all-framed}
-use Rattle.morning.proofs.too_many.Statement.{statement}
-use Rattle.morning.proofs.too_many.Tie as tie
+use Rattle.grant.proofs.Grants.{odd-corners, odd-cells, all-framed}
+use Rattle.grant.proofs.too_many.Statement.{statement}
+use Rattle.grant.proofs.too_many.Tie as tie
 
 returns : tie.Need-returns
 returns c = odd-corners (now (c .before .args .corners)) (now (c .before .args .cells)) (c .if1 .taken)

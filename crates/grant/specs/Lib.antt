@@ -1,0 +1,2 @@
+-- what a call of several stands is refused for
+pub mod Asked
