@@ -1,23 +1,42 @@
 -- Several stands in one call are single calls, so demand 2 holds for each of them (document 02, A1).
-use mathlib.Core.List.{List}
+use mathlib.Core.Bool.{Bool, true, false, not, _&&_, true≢false}
+use mathlib.Core.List.{List, [], _∷_}
 use mathlib.Core.Path.{_≡_, refl, sym, ap, _∙_, subst}
-use Prim.Native.Nat.{ℕ, _+_, _*_, _<_}
+use Prim.Native.Nat.{ℕ, _+_, _*_, _<_, _≤_}
+use native.Mathlib.Nat.{add-zero}
 use native.Mathlib.Omega.{arith}
+use borrow.Author.Tests.{le-ltb}
+use lib.Dec.{ltb}
 use lib.ListN.{length, getD, take, drop}
-use lib.Seq.{sets, getD-take}
+use lib.Seq.{sets, getD-take, getD-drop}
 use lib.IntN.{ℤ}
+use Rattle.plane.specs.Side.{Point}
+use Rattle.limits.specs.declared.Plan.{Plan}
+use Rattle.limits.specs.declared.Refusal.the-variants.{Room}
 use Rattle.limits.specs.declared.Checked.{Checked}
 use Rattle.limits.specs.declared.Checked.the-variants as C
+use Rattle.plan.specs.Lists.{corner-count}
+use Rattle.plan.specs.Check.{checked}
+use Rattle.setting.specs.Setting.{wrong-setting}
+use Rattle.stand.specs.Spot.{stood}
+use Rattle.stand.specs.Find.{first-inside, by-cells, located}
 use Rattle.stand.specs.declared.spot.Stand.{Stand}
+use Rattle.stand.specs.declared.spot.Spot.{Spot}
+use Rattle.stand.specs.declared.spot.Spot.the-variants as S
 use Rattle.expand.specs.Sight.{Row}
-use Rattle.sight.specs.Listing.{listed}
+use Rattle.sight.specs.Listing.{unless, view-of-cell, view-of-spot, listed-from, listed}
+use Rattle.sight.specs.Reply.{listed-reply}
+use Rattle.sight.specs.declared.view.View.{View}
+use Rattle.sight.specs.declared.view.View.the-variants as O
 use Rattle.sight.specs.Written.{row-at, OneRow}
 use Rattle.sight.specs.declared.list.Listed.{Listed}
 use Rattle.sight.specs.declared.list.Listed.the-variants as L
-use Rattle.morning.specs.Morning.{rows-of, rows-in-all, crossings-in-all, all-rows, stands-from, listed-stands}
+use Rattle.morning.specs.Morning.{rows-of, rows-in-all, crossings-in-all, all-rows, all-replies, stands-from, listed-stands}
 use Rattle.grant.specs.Asked.{asked}
 use Rattle.grant.proofs.Grants.{grant-says}
+use Rattle.morning.proofs.Single.{listed-by-spot}
 use Rattle.morning.proofs.Together.{reply-is-the-single-one, rows-are-the-single-ones, table-is-kept-beyond, replies-are-kept-beyond}
+use Rattle.manopluea.specs.Conditions.{when, lowest, inside-some, on-some-border, stand-conditions}
 use Rattle.manopluea.specs.Demands.{Sighted}
 use Rattle.manopluea.specs.Together.{SingleCalls}
 use Rattle.manopluea.proofs.Demands.{demand-2}
@@ -61,6 +80,40 @@ module _ (n : ℕ) (a b : List ℕ) (same : take (3 * n) a ≡ take (3 * n) b) w
             record { row = once .row; one = same-one-row (once .one); met = once .met };
       }
 
+-- ---- a stand's own reply, by its condition
+
+module _ (cs : List ℤ) (ts ds : List ℕ) (w : ℕ) {p : Plan} (accepted : checked cs ts ds ≡ C.Accepted p) (right : wrong-setting w (length ds) ≡ false) (s : Stand) (lent : List ℕ) (room : 3 * corner-count cs ≤ length lent) where
+  -- the reply number of the listing, by a view
+  abbrev number-by : View → ℕ
+  number-by v = listed-reply (listed-from cs ts ds w lent v .0) .number
+
+  by-room : (x y : ℤ) (c : ℕ) (b : Bool) → b ≡ false → number-by (unless b Room (O.From x y c)) ≡ 0
+  by-room x y c true e = absurd (true≢false e)
+  by-room x y c false e = refl
+
+  by-cell : (x y : ℤ) (c : ℕ) (inside border : Bool) → number-by (view-of-cell cs (length lent) x y (by-cells inside border c)) ≡ lowest (when 9 (not inside && border) 0 ∷ when 10 (not inside && not border) 0 ∷ []) .0
+  unfolding lowest
+  by-cell x y c true true = by-room x y c (ltb (length lent) (3 * corner-count cs)) (le-ltb _ _ room)
+  by-cell x y c true false = by-room x y c (ltb (length lent) (3 * corner-count cs)) (le-ltb _ _ room)
+  by-cell x y c false true = refl
+  by-cell x y c false false = refl
+
+  by-spot : (spot : Spot) → number-by (view-of-spot cs ts (length lent) spot) ≡ lowest (stand-conditions cs ts spot) .0
+  unfolding lowest located
+  by-spot (S.At x y) =
+      let q : Point = record { x = x; y = y } in
+      by-cell x y (first-inside cs ts q) (inside-some cs ts q) (on-some-border cs ts q)
+  by-spot S.Refused = refl
+
+  stand-by-condition : listed-reply (listed cs ts ds w s lent .0) .number ≡ lowest (stand-conditions cs ts (stood cs s)) .0
+  stand-by-condition = ap (λ (l : Listed × List ℕ). listed-reply (l .0) .number) (listed-by-spot cs ts ds w accepted right s lent) ∙ by-spot (stood cs s)
+
+-- the first of three numbers that stand from a place on
+first-of-three : (l : List ℕ) (a : ℕ) {x y z : ℕ} → take 3 (drop a l) ≡ x ∷ y ∷ z ∷ [] → getD l a 0 ≡ x
+first-of-three l a e =
+    let at-a : a + 0 ≡ a = add-zero a in
+    sym (ap (λ (k : ℕ). getD l k 0) at-a) ∙ sym (getD-drop a l 0 0) ∙ sym (getD-take 3 (drop a l) 0 0 (omega arith)) ∙ ap (λ (m : List ℕ). getD m 0 0) e
+
 -- ---- the whole call
 
 module _ (cs : List ℤ) (ts ds : List ℕ) (w : ℕ) (stands : List Stand) (m : ℕ) (table replies : List ℕ) where
@@ -81,8 +134,12 @@ module _ (cs : List ℤ) (ts ds : List ℕ) (w : ℕ) (stands : List Stand) (m :
           record {
             each = λ i s at lent room.
                 let rows = rows-are-the-single-ones cs ts ds w stands m table replies grant at lent room in
+                let reply = reply-is-the-single-one cs ts ds w stands m table replies grant at lent room in
                 record {
-                  reply = reply-is-the-single-one cs ts ds w stands m table replies grant at lent room;
+                  reply = reply;
+                  by-condition =
+                      first-of-three (sets replies 0 (all-replies cs ts ds w ss)) (3 * i) reply
+                      ∙ stand-by-condition cs ts ds w (grant .plan-accepted) (grant .setting-right) s lent room;
                   rows = rows;
                   sighted = λ a b alone.
                       same-sighted a (listed cs ts ds w s lent .1) (drop (3 * rows-in-all cs ts ds w (take i ss)) (sets table 0 (all-rows cs ts ds w ss))) (sym (subst (λ (l : Listed). take (3 * rows-of l) (drop (3 * rows-in-all cs ts ds w (take i ss)) (sets table 0 (all-rows cs ts ds w ss))) ≡ take (3 * rows-of l) (listed cs ts ds w s lent .1)) alone rows)) (demand-2 cs ts ds w s lent .sighted a b alone);

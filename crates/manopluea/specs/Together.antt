@@ -2,14 +2,16 @@
 use mathlib.Core.List.{List}
 use mathlib.Core.Path.{_≡_}
 use Prim.Native.Nat.{ℕ, _*_, _≤_}
-use lib.ListN.{length, take, drop}
+use lib.ListN.{length, getD, take, drop}
 use lib.IntN.{ℤ}
 use Rattle.plan.specs.Lists.{corner-count}
+use Rattle.stand.specs.Spot.{stood}
 use Rattle.stand.specs.declared.spot.Stand.{Stand}
 use Rattle.sight.specs.Listing.{listed}
 use Rattle.sight.specs.Once.{At}
 use Rattle.sight.specs.declared.list.Listed.the-variants.{Rows}
 use Rattle.morning.specs.Morning.{rows-of, three-of, rows-in-all, crossings-in-all}
+use Rattle.manopluea.specs.Conditions.{lowest, stand-conditions}
 use Rattle.manopluea.specs.Demands.{Sighted}
 
 module _ (cs : List ℤ) (ts ds : List ℕ) (w : ℕ) (ss : List Stand) where
@@ -21,6 +23,8 @@ module _ (cs : List ℤ) (ts ds : List ℕ) (w : ℕ) (ss : List Stand) where
   pub record SingleCall (i : ℕ) (s : Stand) (lent table replies : List ℕ) : Type 0 where
     -- reply number, row count and crossings
     pub reply : take 3 (drop (3 * i) replies) ≡ three-of (listed cs ts ds w s lent .0)
+    -- by the exact condition: the lowest of 8, 9 and 10 that applies to it, or 0
+    pub by-condition : getD replies (3 * i) 0 ≡ lowest (stand-conditions cs ts (stood cs s)) .0
     -- its rows, behind those of the stands before
     pub rows : take (3 * rows-of (listed cs ts ds w s lent .0)) (drop (3 * rows-before i) table) ≡ take (3 * rows-of (listed cs ts ds w s lent .0)) (listed cs ts ds w s lent .1)
     -- so demand 2 holds for them
