@@ -1,7 +1,7 @@
 -- Each call's reply has the number and place of the lowest condition that applies, and a refusal keeps all lent memory.
 use mathlib.Core.Bool.{Bool, true, false, not, _&&_}
 use mathlib.Core.List.{List, [], _∷_, _++_}
-use mathlib.Core.Path.{_≡_, refl, sym, ap₂, _∙_}
+use mathlib.Core.Path.{_≡_, refl, sym, ap, ap₂, _∙_}
 use Prim.Native.Nat.{ℕ, _*_}
 use lib.Dec.{ltb, leb}
 use lib.ListN.{length, getD, take, drop}
@@ -67,6 +67,13 @@ number-tells Rows = refl
 -- what has the same number and place is the same refusal
 pub numbers-tell-refusals-apart : (r s : Refusal) → number r ≡ number s → place r ≡ place s → r ≡ s
 numbers-tell-refusals-apart r s e f = sym (number-tells r) ∙ ap₂ refusal-of e f ∙ number-tells s
+
+-- a condition that stands last and does not apply does not show
+pub last-does-not-apply : (conditions : List Condition) (n p : ℕ) → lowest (conditions ++ (when n false p ∷ [])) ≡ lowest conditions
+unfolding lowest
+last-does-not-apply [] n p = refl
+last-does-not-apply (c ∷ conditions) n p =
+    ap (λ (rest : ℕ × ℕ). elim (c .applies) [ true ↦ (c .number, c .place) | false ↦ rest ]) (last-does-not-apply conditions n p)
 
 -- ---- the plan
 
@@ -177,19 +184,19 @@ module _ (cs : List ℤ) (ts ds : List ℕ) (w : ℕ) (s : Stand) (room : ℕ) (
   refused-unless true r v more e = as-refused r
   refused-unless false r v more e = e
 
-  by-spot : (spot : Spot) → f (view-of-spot cs ts room spot) ≡ lowest (stand-conditions cs ts spot ++ (when 11 (ltb room (3 * corner-count cs)) 0 ∷ later spot))
+  pub by-stand : (spot : Spot) → f (view-of-spot cs ts room spot) ≡ lowest (stand-conditions cs ts spot ++ (when 11 (ltb room (3 * corner-count cs)) 0 ∷ later spot))
   unfolding lowest located
-  by-spot (S.At x y) =
+  by-stand (S.At x y) =
       let q : Point = record { x = x; y = y } in
       by-cell (λ g. f (view-of-cell cs room x y g)) as-refused (inside-some cs ts q) (on-some-border cs ts q) (first-inside cs ts q) (when 11 (ltb room (3 * corner-count cs)) 0 ∷ later (S.At x y))
       (refused-unless (ltb room (3 * corner-count cs)) Room (O.From x y (first-inside cs ts q)) (later (S.At x y)) (as-viewed x y))
-  by-spot S.Refused = as-refused NoStand
+  by-stand S.Refused = as-refused NoStand
 
   pub by-view : f (viewed cs ts ds w s room) ≡ lowest (plan-conditions cs ts ds ++ (when 7 (wrong-setting w (length ds)) 0 ∷ stand-conditions cs ts (stood cs s) ++ (when 11 (ltb room (3 * corner-count cs)) 0 ∷ later (stood cs s))))
   unfolding viewed
   by-view =
       by-plan (λ k. f (view-of-plan cs ts ds w s room k)) as-refused cs ts ds _
-      (refused-unless (wrong-setting w (length ds)) Setting (view-of-spot cs ts room (stood cs s)) _ (by-spot (stood cs s)))
+      (refused-unless (wrong-setting w (length ds)) Setting (view-of-spot cs ts room (stood cs s)) _ (by-stand (stood cs s)))
 
 pub list-answers : (cs : List ℤ) (ts ds : List ℕ) (w : ℕ) (s : Stand) (table : List ℕ) → ListAnswers cs ts ds w s table
 unfolding listed lowest

@@ -1,33 +1,25 @@
 -- Several stands in one call are single calls, so demand 2 holds for each of them (document 02, A1).
-use mathlib.Core.Bool.{Bool, true, false, not, _&&_, true≢false}
-use mathlib.Core.List.{List, [], _∷_}
+use mathlib.Core.Bool.{Bool, false}
+use mathlib.Core.List.{List, [], _∷_, _++_}
 use mathlib.Core.Path.{_≡_, refl, sym, ap, _∙_, subst}
 use Prim.Native.Nat.{ℕ, _+_, _*_, _<_, _≤_}
 use native.Mathlib.Nat.{add-zero}
 use native.Mathlib.Omega.{arith}
 use borrow.Author.Tests.{le-ltb}
-use lib.Dec.{ltb}
 use lib.ListN.{length, getD, take, drop}
 use lib.Seq.{sets, getD-take, getD-drop}
 use lib.IntN.{ℤ}
-use Rattle.plane.specs.Side.{Point}
 use Rattle.limits.specs.declared.Plan.{Plan}
-use Rattle.limits.specs.declared.Refusal.the-variants.{Room}
 use Rattle.limits.specs.declared.Checked.{Checked}
 use Rattle.limits.specs.declared.Checked.the-variants as C
 use Rattle.plan.specs.Lists.{corner-count}
 use Rattle.plan.specs.Check.{checked}
 use Rattle.setting.specs.Setting.{wrong-setting}
 use Rattle.stand.specs.Spot.{stood}
-use Rattle.stand.specs.Find.{first-inside, by-cells, located}
 use Rattle.stand.specs.declared.spot.Stand.{Stand}
-use Rattle.stand.specs.declared.spot.Spot.{Spot}
-use Rattle.stand.specs.declared.spot.Spot.the-variants as S
 use Rattle.expand.specs.Sight.{Row}
-use Rattle.sight.specs.Listing.{unless, view-of-cell, view-of-spot, listed-from, listed}
+use Rattle.sight.specs.Listing.{listed-from, listed}
 use Rattle.sight.specs.Reply.{listed-reply}
-use Rattle.sight.specs.declared.view.View.{View}
-use Rattle.sight.specs.declared.view.View.the-variants as O
 use Rattle.sight.specs.Written.{row-at, OneRow}
 use Rattle.sight.specs.declared.list.Listed.{Listed}
 use Rattle.sight.specs.declared.list.Listed.the-variants as L
@@ -36,9 +28,10 @@ use Rattle.grant.specs.Asked.{asked}
 use Rattle.grant.proofs.Grants.{grant-says}
 use Rattle.morning.proofs.Single.{listed-by-spot}
 use Rattle.morning.proofs.Together.{reply-is-the-single-one, rows-are-the-single-ones, table-is-kept-beyond, replies-are-kept-beyond}
-use Rattle.manopluea.specs.Conditions.{when, lowest, inside-some, on-some-border, stand-conditions}
+use Rattle.manopluea.specs.Conditions.{when, lowest, stand-conditions}
 use Rattle.manopluea.specs.Demands.{Sighted}
 use Rattle.manopluea.specs.Together.{SingleCalls}
+use Rattle.manopluea.proofs.Replies.{told, last-does-not-apply, by-stand}
 use Rattle.manopluea.proofs.Demands.{demand-2}
 
 -- ---- what demand 2 asks of n rows it asks of the first 3·n numbers only
@@ -82,31 +75,14 @@ module _ (n : ℕ) (a b : List ℕ) (same : take (3 * n) a ≡ take (3 * n) b) w
 
 -- ---- a stand's own reply, by its condition
 
-module _ (cs : List ℤ) (ts ds : List ℕ) (w : ℕ) {p : Plan} (accepted : checked cs ts ds ≡ C.Accepted p) (right : wrong-setting w (length ds) ≡ false) (s : Stand) (lent : List ℕ) (room : 3 * corner-count cs ≤ length lent) where
-  -- the reply number of the listing, by a view
-  abbrev number-by : View → ℕ
-  number-by v = listed-reply (listed-from cs ts ds w lent v .0) .number
-
-  by-room : (x y : ℤ) (c : ℕ) (b : Bool) → b ≡ false → number-by (unless b Room (O.From x y c)) ≡ 0
-  by-room x y c true e = absurd (true≢false e)
-  by-room x y c false e = refl
-
-  by-cell : (x y : ℤ) (c : ℕ) (inside border : Bool) → number-by (view-of-cell cs (length lent) x y (by-cells inside border c)) ≡ lowest (when 9 (not inside && border) 0 ∷ when 10 (not inside && not border) 0 ∷ []) .0
-  unfolding lowest
-  by-cell x y c true true = by-room x y c (ltb (length lent) (3 * corner-count cs)) (le-ltb _ _ room)
-  by-cell x y c true false = by-room x y c (ltb (length lent) (3 * corner-count cs)) (le-ltb _ _ room)
-  by-cell x y c false true = refl
-  by-cell x y c false false = refl
-
-  by-spot : (spot : Spot) → number-by (view-of-spot cs ts (length lent) spot) ≡ lowest (stand-conditions cs ts spot) .0
-  unfolding lowest located
-  by-spot (S.At x y) =
-      let q : Point = record { x = x; y = y } in
-      by-cell x y (first-inside cs ts q) (inside-some cs ts q) (on-some-border cs ts q)
-  by-spot S.Refused = refl
-
-  stand-by-condition : listed-reply (listed cs ts ds w s lent .0) .number ≡ lowest (stand-conditions cs ts (stood cs s)) .0
-  stand-by-condition = ap (λ (l : Listed × List ℕ). listed-reply (l .0) .number) (listed-by-spot cs ts ds w accepted right s lent) ∙ by-spot (stood cs s)
+stand-by-condition : (cs : List ℤ) (ts ds : List ℕ) (w : ℕ) {p : Plan} → checked cs ts ds ≡ C.Accepted p → wrong-setting w (length ds) ≡ false → (s : Stand) (lent : List ℕ) → 3 * corner-count cs ≤ length lent → listed-reply (listed cs ts ds w s lent .0) .number ≡ lowest (stand-conditions cs ts (stood cs s)) .0
+unfolding lowest
+stand-by-condition cs ts ds w accepted right s lent room =
+    ap (λ (l : Listed × List ℕ). listed-reply (l .0) .number) (listed-by-spot cs ts ds w accepted right s lent)
+    ∙ ap (λ (t : ℕ × ℕ). t .0)
+    (by-stand cs ts ds w s (length lent) (λ v. told (listed-reply (listed-from cs ts ds w lent v .0))) (λ r. refl) (λ spot. []) (λ x y. refl) (stood cs s)
+    ∙ ap (λ (b : Bool). lowest (stand-conditions cs ts (stood cs s) ++ (when 11 b 0 ∷ []))) (le-ltb _ _ room)
+    ∙ last-does-not-apply (stand-conditions cs ts (stood cs s)) 11 0)
 
 -- the first of three numbers that stand from a place on
 first-of-three : (l : List ℕ) (a : ℕ) {x y z : ℕ} → take 3 (drop a l) ≡ x ∷ y ∷ z ∷ [] → getD l a 0 ≡ x
