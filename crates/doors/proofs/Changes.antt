@@ -24,17 +24,14 @@ use Rattle.stand.specs.declared.spot.Stand.{Stand}
 use Rattle.stand.specs.declared.find.Found.the-variants as F
 use Rattle.stand.proofs.Finds.{as-read}
 use Rattle.stand.proofs.Located.{found-cell-holds-the-stand}
-use Rattle.expand.specs.Sight.{row-count}
 use Rattle.sight.specs.Listing.{viewed, listing-numbers, listing-row-count, listing-crossings, listed-from}
 use Rattle.sight.specs.declared.view.View.the-variants as O
 use Rattle.sight.specs.declared.list.Listed.{Listed}
 use Rattle.sight.specs.declared.list.Listed.the-variants as L
-use Rattle.expand.proofs.Trees.{three-numbers-a-row}
 use Rattle.sight.proofs.Sightings.{rows-never-outnumber-corners}
 use Rattle.sight.proofs.Views.{view-says}
-use Rattle.doors.specs.PlanFloor.{sight-from}
+use Rattle.sight.proofs.Written.{the-numbers-are-three-a-row}
 use Rattle.doors.specs.Change.{same-list, in-state, wished, no-change, refuse, changed-from, changed}
-use Rattle.doors.proofs.Fresh.{numbers-are}
 
 pub same-is-true : (a : List ℕ) → same-list a a ≡ true
 unfolding same-list
@@ -59,10 +56,6 @@ is-another {a} {b} apart = by-test (same-list a b) refl
     by-test false h = sym h
 
 module _ {cs : List ℤ} {ts ds : List ℕ} (sound : Sound cs ts ds) (w : ℕ) (q : Point) (c : ℕ) (stands : located cs ts q ≡ F.Cell c) where
-  counted : length (listing-numbers cs ts ds w q c) ≡ 3 * listing-row-count cs ts ds w q c
-  unfolding listing-row-count row-count
-  counted = ap length (numbers-are cs ts ds w q c) ∙ three-numbers-a-row (sight-from cs ts ds w q c)
-
   pub numbers-fit : {n : ℕ} → n ≡ listing-row-count cs ts ds w q c → 3 * n ≤ 3 * corner-count cs
   numbers-fit e =
       let most = rows-never-outnumber-corners sound w q c (found-cell-holds-the-stand cs ts q stands) in
@@ -76,7 +69,7 @@ module _ {cs : List ℤ} {ts ds : List ℕ} (sound : Sound cs ts ds) (w : ℕ) (
   pub listed-anew : {n : ℕ} (table : List ℕ) {new : List ℕ} → n ≡ listing-row-count cs ts ds w q c → 3 * corner-count cs ≤ length table → new ≡ sets table 0 (listing-numbers cs ts ds w q c) → take (3 * n) new ≡ listing-numbers cs ts ds w q c
   listed-anew {n} table {new} e room is =
       let fit = numbers-fit e in
-      ap (take (3 * n)) is ∙ first-is-new table (listing-numbers cs ts ds w q c) (3 * n) (counted ∙ ap (λ (k : ℕ). 3 * k) (sym e)) (omega arith)
+      ap (take (3 * n)) is ∙ first-is-new table (listing-numbers cs ts ds w q c) (3 * n) (the-numbers-are-three-a-row cs ts ds w q c ∙ ap (λ (k : ℕ). 3 * k) (sym e)) (omega arith)
 
 -- ---- replies 12 and 13, or the list under the new setting
 

@@ -2,10 +2,10 @@
 use mathlib.Core.Bool.{Bool, true, false, _||_}
 use mathlib.Core.List.{List}
 use mathlib.Core.Path.{_≡_, refl, sym, ap, _∙_, subst}
-use Prim.Native.Nat.{ℕ, _*_, _%_, _<_, _≤_}
+use Prim.Native.Nat.{ℕ, _*_, _<_, _≤_}
 use native.Mathlib.Nat.{mul-le-mul}
 use native.Mathlib.Omega.{arith}
-use borrow.Author.Tests.{lt-ltb, le-ltb, ltb-false, eq-eqb, ne-eqb}
+use borrow.Author.Tests.{lt-ltb, le-ltb, ltb-false}
 use lib.Dec.{ltb}
 use lib.ListN.{length}
 use lib.IntN.{ℤ}
@@ -13,39 +13,28 @@ use Rattle.exact.proofs.Truth.{neither-true}
 use Rattle.limits.specs.Limits.{most-stands}
 use Rattle.limits.specs.declared.Plan.{Plan}
 use Rattle.limits.specs.declared.Refusal.{Refusal}
-use Rattle.limits.specs.declared.Refusal.the-variants.{Frame, Size, Setting, Room}
+use Rattle.limits.specs.declared.Refusal.the-variants.{Setting, Room}
 use Rattle.limits.specs.declared.Checked.{Checked}
 use Rattle.limits.specs.declared.Checked.the-variants as C
-use Rattle.plan.specs.Lists.{corner-count, cell-count}
+use Rattle.plan.specs.Lists.{corner-count}
 use Rattle.plan.specs.Check.{framed, refuse-if, checked}
 use Rattle.plan.specs.Sound.{Sound}
-use Rattle.plan.proofs.Accepted.{passed, accepted-is-sound}
-use Rattle.plan.proofs.Plans.{counts}
+use Rattle.plan.proofs.Accepted.{passed, accepted-is-sound, accepted-corners, few-corners}
+use Rattle.setting.proofs.Settings.{wrong-for-the-plan}
 use Rattle.setting.specs.Setting.{wrong-setting}
 use Rattle.grant.specs.Asked.{too-many, no-room, then-asked, asked, Granted}
-
--- ---- more than 32 stands
-
-module _ (cs : List ℤ) (ts : List ℕ) where
-  pub odd-corners : (length cs % 2 ≡ 0 → ⊥) → C.Refused Frame ≡ C.Refused (too-many (framed cs ts))
-  odd-corners h = simp (ne-eqb _ _ h)
-
-  pub odd-cells : length cs % 2 ≡ 0 → (length ts % 6 ≡ 0 → ⊥) → C.Refused Frame ≡ C.Refused (too-many (framed cs ts))
-  odd-cells even h = simp (eq-eqb _ _ even, ne-eqb _ _ h)
-
-  pub all-framed : length cs % 2 ≡ 0 → length ts % 6 ≡ 0 → C.Refused Size ≡ C.Refused (too-many (framed cs ts))
-  all-framed even six = simp (eq-eqb _ _ even, eq-eqb _ _ six)
-
--- ---- the whole call
 
 module _ (cs : List ℤ) (ts ds : List ℕ) (w n room places : ℕ) where
   -- what is asked after the plan
   abbrev later : Plan → Checked
   later p = refuse-if (wrong-setting w (length ds)) Setting (refuse-if (no-room (corner-count cs) n room places) Room (C.Accepted p))
 
-  pub many-refused : {r : Checked} → most-stands < n → r ≡ C.Refused (too-many (framed cs ts)) → r ≡ asked cs ts ds w n room places
+  -- more than 32 stands are FRAME where the plan's lists are, else SIZE
+  pub many-refused : {b : Bool} → most-stands < n → b ≡ framed cs ts → C.Refused (too-many b) ≡ asked cs ts ds w n room places
   unfolding asked
-  many-refused h e = e ∙ ap (λ (b : Bool). refuse-if b (too-many (framed cs ts)) (then-asked (checked cs ts ds) later)) (sym (lt-ltb _ _ h))
+  many-refused h e =
+      ap (λ (b : Bool). C.Refused (too-many b)) e
+      ∙ ap (λ (b : Bool). refuse-if b (too-many (framed cs ts)) (then-asked (checked cs ts ds) later)) (sym (lt-ltb _ _ h))
 
   module _ (few : n ≤ most-stands) where
     by-few : {r : Checked} → r ≡ then-asked (checked cs ts ds) later → r ≡ asked cs ts ds w n room places
@@ -56,46 +45,31 @@ module _ (cs : List ℤ) (ts ds : List ℕ) (w n room places : ℕ) where
     plan-refused e = by-few (ap (λ (k : Checked). then-asked k later) (sym e))
 
     module _ {p : Plan} (accepted : checked cs ts ds ≡ C.Accepted p) where
-      sound : Sound cs ts ds × (p ≡ record { corners = corner-count cs; cells = cell-count ts; doors = length ds })
-      sound = accepted-is-sound cs ts ds p accepted
-
-      corners-are : p .corners ≡ corner-count cs
-      corners-are = ap (λ (p : Plan). p .corners) (sound .1)
-
       by-accepted : {r : Checked} → r ≡ later p → r ≡ asked cs ts ds w n room places
       by-accepted e = by-few (e ∙ ap (λ (k : Checked). then-asked k later) (sym accepted))
 
-      pub few-doors : p .doors ≤ 64
-      few-doors = subst (λ (k : ℕ). k ≤ 64) (sym (ap (λ (p : Plan). p .doors) (sound .1))) (counts _ _ _ (sound .0 .in-size) .doors-at-most)
-
-      pub few-corners : p .corners ≤ 2048
-      few-corners = subst (λ (k : ℕ). k ≤ 2048) (sym corners-are) (counts _ _ _ (sound .0 .in-size) .corners-at-most)
-
       pub few-numbers : 3 * p .corners * n ≤ 3 * 2048 * 32
-      few-numbers = let f : 3 * p .corners ≤ 3 * 2048 = omega (arith, few-corners) in mul-le-mul f few
+      few-numbers = let f : 3 * p .corners ≤ 3 * 2048 = omega (arith, few-corners cs ts ds accepted) in mul-le-mul f few
 
       module _ {b : Bool} (is-wrong : b ≡ wrong-setting w (p .doors)) where
-        wrong-is : wrong-setting w (length ds) ≡ b
-        wrong-is = ap (λ (p : Plan). wrong-setting w (p .doors)) (sym (sound .1)) ∙ sym is-wrong
-
         pub setting-refused : b ≡ true → C.Refused Setting ≡ asked cs ts ds w n room places
         setting-refused h =
-            by-accepted (ap (λ (t : Bool). refuse-if t Setting (refuse-if (no-room (corner-count cs) n room places) Room (C.Accepted p))) (sym (wrong-is ∙ h)))
+            by-accepted (ap (λ (t : Bool). refuse-if t Setting (refuse-if (no-room (corner-count cs) n room places) Room (C.Accepted p))) (sym (wrong-for-the-plan cs ts ds w accepted is-wrong ∙ h)))
 
         module _ (right : b ≡ false) where
           by-room : {r : Checked} → r ≡ refuse-if (no-room (corner-count cs) n room places) Room (C.Accepted p) → r ≡ asked cs ts ds w n room places
           by-room e =
-              by-accepted (e ∙ ap (λ (t : Bool). refuse-if t Setting (refuse-if (no-room (corner-count cs) n room places) Room (C.Accepted p))) (sym (wrong-is ∙ right)))
+              by-accepted (e ∙ ap (λ (t : Bool). refuse-if t Setting (refuse-if (no-room (corner-count cs) n room places) Room (C.Accepted p))) (sym (wrong-for-the-plan cs ts ds w accepted is-wrong ∙ right)))
 
           pub table-too-short : room < 3 * p .corners * n → C.Refused Room ≡ asked cs ts ds w n room places
           table-too-short h =
-              let short : ltb room (3 * corner-count cs * n) ≡ true = lt-ltb _ _ (subst (λ (k : ℕ). room < 3 * k * n) corners-are h) in
+              let short : ltb room (3 * corner-count cs * n) ≡ true = lt-ltb _ _ (subst (λ (k : ℕ). room < 3 * k * n) (accepted-corners cs ts ds accepted) h) in
               by-room (ap (λ (t : Bool). refuse-if (t || ltb places (3 * n)) Room (C.Accepted p)) (sym short))
 
           module _ (long : 3 * p .corners * n ≤ room) where
             by-places : {r : Checked} → r ≡ refuse-if (ltb places (3 * n)) Room (C.Accepted p) → r ≡ asked cs ts ds w n room places
             by-places e =
-                let enough : ltb room (3 * corner-count cs * n) ≡ false = le-ltb _ _ (subst (λ (k : ℕ). 3 * k * n ≤ room) corners-are long) in
+                let enough : ltb room (3 * corner-count cs * n) ≡ false = le-ltb _ _ (subst (λ (k : ℕ). 3 * k * n ≤ room) (accepted-corners cs ts ds accepted) long) in
                 by-room (e ∙ ap (λ (t : Bool). refuse-if (t || ltb places (3 * n)) Room (C.Accepted p)) (sym enough))
 
             pub too-few-places : places < 3 * n → C.Refused Room ≡ asked cs ts ds w n room places

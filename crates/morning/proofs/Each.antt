@@ -10,6 +10,7 @@ use lib.ListN.{length, getD, take, drop, replicate, length-append, length-drop, 
 use lib.Seq.{sets, length-sets, length-take-le, take-suc}
 use lib.IntN.{ℤ}
 use Rattle.exact.proofs.Lent.{sets-append, part-put-back}
+use Rattle.limits.specs.Limits.{most-corners, most-cells}
 use Rattle.plan.specs.Lists.{corner-count}
 use Rattle.plan.proofs.Plans.{counts}
 use Rattle.stand.specs.declared.spot.Stand.{Stand}
@@ -28,7 +29,7 @@ unfolding one-after-another
 followed-by f [] us = refl
 followed-by f (s ∷ ss) us = ap (λ (l : List ℕ). f s ++ l) (followed-by f ss us) ∙ sym (append-assoc (f s) (one-after-another f ss) (one-after-another f us))
 
-pub added-to : (f : Stand → ℕ) (ss us : List Stand) → in-all f (ss ++ us) ≡ in-all f ss + in-all f us
+added-to : (f : Stand → ℕ) (ss us : List Stand) → in-all f (ss ++ us) ≡ in-all f ss + in-all f us
 unfolding in-all
 added-to f [] us = omega arith
 added-to f (s ∷ ss) us = omega (arith, added-to f ss us)
@@ -43,7 +44,7 @@ unfolding in-all
 with-the-last f ss s = added-to f ss (s ∷ []) ∙ ap (λ (n : ℕ). in-all f ss + n) (add-zero (f s))
 
 -- so many of each is so many in all
-pub at-most-each : (f : Stand → ℕ) (m : ℕ) → ((s : Stand) → f s ≤ m) → (ss : List Stand) → in-all f ss ≤ m * length ss
+at-most-each : (f : Stand → ℕ) (m : ℕ) → ((s : Stand) → f s ≤ m) → (ss : List Stand) → in-all f ss ≤ m * length ss
 unfolding in-all
 at-most-each f m h [] = omega arith
 at-most-each f m h (s ∷ ss) =
@@ -52,44 +53,43 @@ at-most-each f m h (s ∷ ss) =
     omega (arith, mul-suc m (length ss))
 
 -- the numbers of each are so many
-pub long-in-all : (f : Stand → List ℕ) (g : Stand → ℕ) (m : ℕ) → ((s : Stand) → length (f s) ≡ m * g s) → (ss : List Stand) → length (one-after-another f ss) ≡ m * in-all g ss
+long-in-all : (f : Stand → List ℕ) (g : Stand → ℕ) (m : ℕ) → ((s : Stand) → length (f s) ≡ m * g s) → (ss : List Stand) → length (one-after-another f ss) ≡ m * in-all g ss
 unfolding one-after-another in-all
 long-in-all f g m h [] = omega arith
 long-in-all f g m h (s ∷ ss) =
     length-append (f s) (one-after-another f ss)
     ∙ omega (arith, h s, long-in-all f g m h ss, mul-add m (g s) (in-all g ss))
 
-pub three-each : (f : Stand → List ℕ) (m : ℕ) → ((s : Stand) → length (f s) ≡ m) → (ss : List Stand) → length (one-after-another f ss) ≡ m * length ss
-unfolding one-after-another
-three-each f m h [] = omega arith
-three-each f m h (s ∷ ss) =
-    length-append (f s) (one-after-another f ss)
-    ∙ omega (arith, h s, three-each f m h ss, mul-suc m (length ss))
+-- one of each is as many as there are stands
+one-each : (ss : List Stand) → in-all (λ s. 1) ss ≡ length ss
+unfolding in-all
+one-each [] = refl
+one-each (s ∷ ss) = omega (arith, one-each ss)
 
 module _ (cs : List ℤ) (ts ds : List ℕ) (w : ℕ) {n room places : ℕ} (grant : Grant cs ts ds w n room places) where
   -- with a table that has room for 3·corners numbers every stand is listed as alone
-  alone : (s : Stand) (t : List ℕ) → 3 * corner-count cs ≤ length t → AsSingle cs ts ds w s t (listed cs ts ds w s t .0) (listed cs ts ds w s t .1)
-  alone s t h = listed-as-single cs ts ds w (grant .plan-accepted) (grant .setting-right) s t h
+  alone : (s : Stand) (t : List ℕ) → 3 * corner-count cs ≤ length t → AsSingle cs t (single cs ts ds w s) (listed cs ts ds w s t)
+  alone = listed-as-single cs ts ds w (grant .plan-accepted) (grant .setting-right)
 
-  blank-alone : (s : Stand) → AsSingle cs ts ds w s (replicate (3 * corner-count cs) 0) (listed cs ts ds w s (replicate (3 * corner-count cs) 0) .0) (listed cs ts ds w s (replicate (3 * corner-count cs) 0) .1)
-  blank-alone s = alone s (replicate (3 * corner-count cs) 0) (omega (arith, length-replicate {A = ℕ} (3 * corner-count cs) 0))
+  itself : (s : Stand) → AsSingle cs (replicate (3 * corner-count cs) 0) (single cs ts ds w s) (listed cs ts ds w s (replicate (3 * corner-count cs) 0))
+  itself s = alone s (replicate (3 * corner-count cs) 0) (omega (arith, length-replicate {A = ℕ} (3 * corner-count cs) 0))
 
   pub few-rows-in-all : (ss : List Stand) → rows-in-all cs ts ds w ss ≤ corner-count cs * length ss
-  few-rows-in-all = at-most-each (λ s. rows-of (single cs ts ds w s .0)) (corner-count cs) (λ s. blank-alone s .few-rows)
+  few-rows-in-all = at-most-each (λ s. rows-of (single cs ts ds w s .0)) (corner-count cs) (λ s. itself s .few-rows)
 
-  pub few-crossings-in-all : (ss : List Stand) → crossings-in-all cs ts ds w ss ≤ 2048 * 2999 * length ss
-  few-crossings-in-all = at-most-each (λ s. crossings-of (single cs ts ds w s .0)) (2048 * 2999) (λ s. blank-alone s .few-crossings)
+  pub few-crossings-in-all : (ss : List Stand) → crossings-in-all cs ts ds w ss ≤ most-corners * most-cells * length ss
+  few-crossings-in-all = at-most-each (λ s. crossings-of (single cs ts ds w s .0)) (most-corners * most-cells) (λ s. itself s .few-crossings)
 
   pub rows-are-three-numbers : (ss : List Stand) → length (all-rows cs ts ds w ss) ≡ 3 * rows-in-all cs ts ds w ss
-  rows-are-three-numbers = long-in-all (λ s. rows-in (single cs ts ds w s)) (λ s. rows-of (single cs ts ds w s .0)) 3 (λ s. blank-alone s .three-a-row)
+  rows-are-three-numbers = long-in-all (λ s. rows-in (single cs ts ds w s)) (λ s. rows-of (single cs ts ds w s .0)) 3 (λ s. itself s .three-a-row)
 
   pub replies-are-three-numbers : (ss : List Stand) → length (all-replies cs ts ds w ss) ≡ 3 * length ss
-  replies-are-three-numbers = three-each (λ s. three-of (single cs ts ds w s .0)) 3 (λ s. refl)
+  replies-are-three-numbers ss = long-in-all (λ s. three-of (single cs ts ds w s .0)) (λ s. 1) 3 (λ s. refl) ss ∙ ap (λ (n : ℕ). 3 * n) (one-each ss)
 
 -- before stand i: few rows and crossings yet, and room for its own
 pub record Next (cs : List ℤ) (i rows crossings : ℕ) (table replies : List ℕ) : Type 0 where
-  pub few-rows : rows ≤ 2048 * i
-  pub few-crossings : crossings ≤ 2048 * 2999 * i
+  pub few-rows : rows ≤ most-corners * i
+  pub few-crossings : crossings ≤ most-corners * most-cells * i
   pub room-left : 3 * rows + 3 * corner-count cs ≤ length table
   pub places-left : 3 * i + 3 ≤ length replies
 
@@ -112,10 +112,14 @@ module _ (cs : List ℤ) (ts ds : List ℕ) (w : ℕ) (stands : List Stand) wher
     pub replies-keep-their-length : length replies ≡ length replies₀
     replies-keep-their-length = ap length (so .replies-are) ∙ length-sets replies₀ 0 (all-replies cs ts ds w (take i stands))
 
-    pub all-listed : (n : ℕ) → i ≡ n → (rows ≡ rows-in-all cs ts ds w (take n stands)) × ((crossings ≡ crossings-in-all cs ts ds w (take n stands)) × ((table ≡ sets table₀ 0 (all-rows cs ts ds w (take n stands))) × (replies ≡ sets replies₀ 0 (all-replies cs ts ds w (take n stands)))))
-    all-listed n e =
-        subst (λ (n : ℕ). (rows ≡ rows-in-all cs ts ds w (take n stands)) × ((crossings ≡ crossings-in-all cs ts ds w (take n stands)) × ((table ≡ sets table₀ 0 (all-rows cs ts ds w (take n stands))) × (replies ≡ sets replies₀ 0 (all-replies cs ts ds w (take n stands)))))) e
-        (so .rows-are, (so .crossings-are, (so .table-is, so .replies-are)))
+    abbrev Listed-to : ℕ → Type 0
+    Listed-to n =
+        (rows ≡ rows-in-all cs ts ds w (take n stands))
+        × ((crossings ≡ crossings-in-all cs ts ds w (take n stands))
+        × ((table ≡ sets table₀ 0 (all-rows cs ts ds w (take n stands))) × (replies ≡ sets replies₀ 0 (all-replies cs ts ds w (take n stands)))))
+
+    pub all-listed : (n : ℕ) → i ≡ n → Listed-to n
+    all-listed n e = subst Listed-to e (so .rows-are, (so .crossings-are, (so .table-is, so .replies-are)))
 
   module _ {n room places : ℕ} (grant : Grant cs ts ds w n room places) (i : ℕ) (below : i < n) (in-array : n ≤ length stands) {rows crossings : ℕ} {table₀ table replies₀ replies : List ℕ} (long : length table₀ ≡ room) (wide : length replies₀ ≡ places) (so : SoFar i rows crossings table₀ table replies₀ replies) where
     taken : length (take i stands) ≡ i
@@ -132,7 +136,7 @@ module _ (cs : List ℤ) (ts ds : List ℕ) (w : ℕ) (stands : List Stand) wher
         let room-for-all : 3 * (corner-count cs * n) ≤ room = subst (λ (k : ℕ). k ≤ room) (mul-assoc 3 (corner-count cs) n) (grant .table-long) in
         record {
           few-rows = le-trans rows-so (mul-le-mul (counts _ _ _ (grant .sound .in-size) .corners-at-most) (le-refl i));
-          few-crossings = subst (λ (k : ℕ). crossings ≤ 2048 * 2999 * k) taken (omega (arith, so .crossings-are));
+          few-crossings = subst (λ (k : ℕ). crossings ≤ most-corners * most-cells * k) taken (omega (arith, so .crossings-are));
           room-left = omega (arith, mul-suc (corner-count cs) i);
           places-left = omega (arith, grant .replies-long);
         }
@@ -150,13 +154,13 @@ module _ (cs : List ℤ) (ts ds : List ℕ) (w : ℕ) (stands : List Stand) wher
           let after : i + 1 ≡ suc i = omega arith in
           ap (λ (k : ℕ). take k stands) after ∙ take-suc stands i d (omega arith)
 
-      as-single : AsSingle cs ts ds w stand part (over-lines cs ts ls stand part .0) (over-lines cs ts ls stand part .1)
+      as-single : AsSingle cs part (single cs ts ds w stand) (over-lines cs ts ls stand part)
       as-single =
           let same : over-lines cs ts ls stand part ≡ listed cs ts ds w stand part = over-lines-is-listed cs ts ds w (grant .plan-accepted) (grant .setting-right) stand lined part in
           let fits : 3 * corner-count cs ≤ length part = omega (arith, ap length (part-to-end table (3 * rows)), length-drop (3 * rows) table, next .room-left) in
-          subst (λ (p : Listed × List ℕ). AsSingle cs ts ds w stand part (p .0) (p .1)) (sym same) (alone cs ts ds w grant stand part fits)
+          subst (AsSingle cs part (single cs ts ds w stand)) (sym same) (alone cs ts ds w grant stand part fits)
 
-      pub few-here : {m k : ℕ} → m ≡ rows-of (over-lines cs ts ls stand part .0) → k ≡ crossings-of (over-lines cs ts ls stand part .0) → (m ≤ 2048) × (k ≤ 2048 * 2999)
+      pub few-here : {m k : ℕ} → m ≡ rows-of (over-lines cs ts ls stand part .0) → k ≡ crossings-of (over-lines cs ts ls stand part .0) → (m ≤ most-corners) × (k ≤ most-corners * most-cells)
       few-here {m} {k} e f =
           let m-is : m ≡ rows-of (single cs ts ds w stand .0) = e ∙ ap rows-of (as-single .same-answer) in
           let k-is : k ≡ crossings-of (single cs ts ds w stand .0) = f ∙ ap crossings-of (as-single .same-answer) in (

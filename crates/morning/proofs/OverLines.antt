@@ -27,6 +27,7 @@ use Rattle.sight.specs.declared.view.View.the-variants as O
 use Rattle.sight.proofs.Lined.{lined-is-lines}
 use Rattle.sight.proofs.Lister.{cell-in-the-table, cell-is-whole, cell-has-room, few-crossings}
 use Rattle.sight.proofs.Views.{Spotted, spot-says}
+use Rattle.sight.specs.declared.list.Listed.{Listed}
 use Rattle.morning.specs.Morning.{rows-of, crossings-of, three-of}
 use Rattle.morning.specs.OverLines.{Drawn, over-lines-from, over-lines}
 
@@ -45,22 +46,16 @@ module _ {cs : List ℤ} {ts ls : List ℕ} (drawn : Drawn cs ts ls) where
   some-cell = counts _ _ _ (drawn .sound .in-size) .cells-at-least
 
   module _ (s : Stand) (table : List ℕ) (at : ℕ) where
-    -- what list_stand leaves: counts, table and replies
-    abbrev Left : ℕ → ℕ → List ℕ → List ℕ → List ℕ → Type 0
-    Left i j new old-replies new-replies =
-        (i ≡ rows-of (over-lines cs ts ls s table .0))
-        × ((j ≡ crossings-of (over-lines cs ts ls s table .0))
-        × ((new ≡ over-lines cs ts ls s table .1) × (new-replies ≡ sets old-replies at (three-of (over-lines cs ts ls s table .0)))))
+    -- what is left by the listing l: counts, table and replies
+    abbrev Left : Listed × List ℕ → ℕ → ℕ → List ℕ → List ℕ → List ℕ → Type 0
+    Left l i j new old-replies new-replies =
+        (i ≡ rows-of (l .0)) × ((j ≡ crossings-of (l .0)) × ((new ≡ l .1) × (new-replies ≡ sets old-replies at (three-of (l .0)))))
 
-    pub stand-refused : (old : List ℕ) {r : Refusal} {n : ℕ} {new : List ℕ} → view-of-spot cs ts (length table) (stood cs s) ≡ O.Refused r → n ≡ number r → new ≡ sets old at (n ∷ 0 ∷ 0 ∷ []) → Left 0 0 table old new
+    pub stand-refused : (old : List ℕ) {r : Refusal} {n : ℕ} {new : List ℕ} → view-of-spot cs ts (length table) (stood cs s) ≡ O.Refused r → n ≡ number r → new ≡ sets old at (n ∷ 0 ∷ 0 ∷ []) → Left (over-lines cs ts ls s table) 0 0 table old new
     unfolding over-lines
-    stand-refused old {r} {n} {new} v e h = subst (λ (v : View). By v) (sym v) (refl, (refl, (refl, h ∙ ap (λ (n : ℕ). sets old at (n ∷ 0 ∷ 0 ∷ [])) e)))
-      where
-        By : View → Type 0
-        By v =
-            (0 ≡ rows-of (over-lines-from cs ts ls table v .0))
-            × ((0 ≡ crossings-of (over-lines-from cs ts ls table v .0))
-            × ((table ≡ over-lines-from cs ts ls table v .1) × (new ≡ sets old at (three-of (over-lines-from cs ts ls table v .0)))))
+    stand-refused old {new = new} v e h =
+        subst (λ (v : View). Left (over-lines-from cs ts ls table v) 0 0 table old new) (sym v)
+        (refl, (refl, (refl, h ∙ ap (λ (n : ℕ). sets old at (n ∷ 0 ∷ 0 ∷ [])) e)))
 
     module _ {x y : ℤ} {c : ℕ} (view : view-of-spot cs ts (length table) (stood cs s) ≡ O.From x y c) where
       abbrev q : Point
@@ -93,16 +88,11 @@ module _ {cs : List ℤ} {ts ls : List ℕ} (drawn : Drawn cs ts ls) where
             ),
           )
 
-      pub stand-listed : (old-replies : List ℕ) {i j : ℕ} {new new-replies : List ℕ} → (i ≡ row-count (tree as-passed)) × ((j ≡ crossings (tree as-passed)) × (new ≡ sets table 0 (numbers (tree as-passed)))) → new-replies ≡ sets old-replies at (0 ∷ i ∷ j ∷ []) → Left i j new old-replies new-replies
+      pub stand-listed : (old-replies : List ℕ) {i j : ℕ} {new new-replies : List ℕ} → (i ≡ row-count (tree as-passed)) × ((j ≡ crossings (tree as-passed)) × (new ≡ sets table 0 (numbers (tree as-passed)))) → new-replies ≡ sets old-replies at (0 ∷ i ∷ j ∷ []) → Left (over-lines cs ts ls s table) i j new old-replies new-replies
       unfolding over-lines
       stand-listed old-replies {i} {j} {new} {new-replies} h e =
           let rows = h .0 ∙ ap (λ (p : Point). row-count (tree p)) read in
           let passed = h .1 .0 ∙ ap (λ (p : Point). crossings (tree p)) read in
           let written = h .1 .1 ∙ ap (λ (p : Point). sets table 0 (numbers (tree p))) read in
-          subst (λ (v : View). By v) (sym view) (rows, (passed, (written, e ∙ (λ k. sets old-replies at (0 ∷ rows k ∷ passed k ∷ [])))))
-        where
-          By : View → Type 0
-          By v =
-              (i ≡ rows-of (over-lines-from cs ts ls table v .0))
-              × ((j ≡ crossings-of (over-lines-from cs ts ls table v .0))
-              × ((new ≡ over-lines-from cs ts ls table v .1) × (new-replies ≡ sets old-replies at (three-of (over-lines-from cs ts ls table v .0)))))
+          subst (λ (v : View). Left (over-lines-from cs ts ls table v) i j new old-replies new-replies) (sym view)
+          (rows, (passed, (written, e ∙ (λ k. sets old-replies at (0 ∷ rows k ∷ passed k ∷ [])))))

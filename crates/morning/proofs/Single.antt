@@ -1,9 +1,8 @@
 -- A stand over the lines drawn is the single listing, in the part of the table that is left.
 use mathlib.Core.Bool.{Bool, false}
 use mathlib.Core.List.{List}
-use mathlib.Core.Path.{_≡_, refl, sym, ap, _∙_, subst}
+use mathlib.Core.Path.{_≡_, refl, sym, ap, _∙_, subst₂}
 use Prim.Native.Nat.{ℕ, _*_, _-_, _≤_}
-use native.Mathlib.Nat.{mul-le-mul}
 use native.Mathlib.Omega.{arith}
 use borrow.Author.Tests.{le-ltb}
 use lib.ListN.{length, replicate, length-replicate}
@@ -11,6 +10,7 @@ use lib.Seq.{sets}
 use lib.IntN.{ℤ}
 use Rattle.exact.proofs.Lent.{first-is-new}
 use Rattle.plane.specs.Side.{Point}
+use Rattle.limits.specs.Limits.{most-corners, most-cells}
 use Rattle.limits.specs.declared.Plan.{Plan}
 use Rattle.limits.specs.declared.Refusal.the-variants.{Room}
 use Rattle.limits.specs.declared.Checked.the-variants.{Accepted}
@@ -18,7 +18,6 @@ use Rattle.plan.specs.Lists.{corner-count, cell-count}
 use Rattle.plan.specs.Check.{checked}
 use Rattle.plan.specs.Sound.{Sound}
 use Rattle.plan.proofs.Accepted.{accepted-is-sound}
-use Rattle.plan.proofs.Plans.{counts}
 use Rattle.setting.specs.Setting.{wrong-setting}
 use Rattle.stand.specs.Spot.{stood}
 use Rattle.stand.specs.Find.{located}
@@ -31,16 +30,16 @@ use Rattle.stand.proofs.Located.{found-cell-holds-the-stand}
 use Rattle.expand.specs.Sight.{numbers, row-count, crossings}
 use Rattle.lines.specs.Lined.{Lined}
 use Rattle.sight.specs.CellTree.{cell-tree}
-use Rattle.sight.specs.Listing.{unless, view-of-cell, view-of-spot, listing-numbers, listing-row-count, listing-rows, listed-from, listed}
+use Rattle.sight.specs.Listing.{unless, view-of-cell, view-of-spot, listing-numbers, listing-row-count, listed-from, listed}
 use Rattle.sight.specs.declared.view.View.{View}
 use Rattle.sight.specs.declared.view.View.the-variants as O
 use Rattle.sight.specs.declared.list.Listed.{Listed}
 use Rattle.sight.specs.declared.list.Listed.the-variants as L
 use Rattle.sight.proofs.Lister.{listing-written}
-use Rattle.sight.proofs.Sightings.{rows-never-outnumber-corners, crossings-never-exceed-rows-times-other-cells}
-use Rattle.sight.proofs.Tables.{length-of-rows}
+use Rattle.sight.proofs.Sightings as Sightings
+use Rattle.sight.proofs.Sightings.{rows-never-outnumber-corners}
 use Rattle.sight.proofs.Views.{setting-accepted, spot-says}
-use Rattle.sight.proofs.Written.{the-numbers-are-the-rows, the-count-is-the-rows}
+use Rattle.sight.proofs.Written.{the-numbers-are-three-a-row}
 use Rattle.morning.specs.Morning.{rows-of, crossings-of, rows-in, single}
 use Rattle.morning.specs.OverLines.{over-lines-from, over-lines}
 
@@ -53,20 +52,13 @@ enough-is-enough cs ts n m h k (S.At x y) = by-cell (located cs ts (record { x =
     by-cell (F.Refused r) = refl
 enough-is-enough cs ts n m h k S.Refused = refl
 
--- the numbers of a listing are three a row
-pub numbers-are-three-a-row : (cs : List ℤ) (ts ds : List ℕ) (w : ℕ) (q : Point) (c : ℕ) → length (listing-numbers cs ts ds w q c) ≡ 3 * listing-row-count cs ts ds w q c
-numbers-are-three-a-row cs ts ds w q c =
-    ap length (the-numbers-are-the-rows cs ts ds w q c)
-    ∙ length-of-rows (listing-rows cs ts ds w q c)
-    ∙ ap (λ (n : ℕ). 3 * n) (sym (the-count-is-the-rows cs ts ds w q c))
-
--- an answer and a table are the single listing's: the same answer, and its rows written from the beginning of t
-pub record AsSingle (cs : List ℤ) (ts ds : List ℕ) (w : ℕ) (s : Stand) (t : List ℕ) (answer : Listed) (now : List ℕ) : Type 0 where
-  pub few-rows : rows-of (single cs ts ds w s .0) ≤ corner-count cs
-  pub few-crossings : crossings-of (single cs ts ds w s .0) ≤ 2048 * 2999
-  pub three-a-row : length (rows-in (single cs ts ds w s)) ≡ 3 * rows-of (single cs ts ds w s .0)
-  pub same-answer : answer ≡ single cs ts ds w s .0
-  pub same-rows : now ≡ sets t 0 (rows-in (single cs ts ds w s))
+-- the listing `one` has few rows and crossings, and `other`, written to t, has its answer and its rows
+pub record AsSingle (cs : List ℤ) (t : List ℕ) (one other : Listed × List ℕ) : Type 0 where
+  pub few-rows : rows-of (one .0) ≤ corner-count cs
+  pub few-crossings : crossings-of (one .0) ≤ most-corners * most-cells
+  pub three-a-row : length (rows-in one) ≡ 3 * rows-of (one .0)
+  pub same-answer : other .0 ≡ one .0
+  pub same-rows : other .1 ≡ sets t 0 (rows-in one)
 
 module _ (cs : List ℤ) (ts ds : List ℕ) (w : ℕ) {p : Plan} (accepted : checked cs ts ds ≡ Accepted p) (right : wrong-setting w (length ds) ≡ false) (s : Stand) where
   sound : Sound cs ts ds
@@ -90,47 +82,26 @@ module _ (cs : List ℤ) (ts ds : List ℕ) (w : ℕ) {p : Plan} (accepted : che
         listed-by-spot blank
         ∙ ap (listed-from cs ts ds w blank) (enough-is-enough cs ts (length blank) (length t) (omega arith) room (stood cs s))
 
-    -- what the single listing is, by the view of the stand
-    record Alike (v : View) : Type 0 where
-      pub few-rows : rows-of (listed-from cs ts ds w blank v .0) ≤ corner-count cs
-      pub few-crossings : crossings-of (listed-from cs ts ds w blank v .0) ≤ 2048 * 2999
-      pub three-a-row : length (rows-in (listed-from cs ts ds w blank v)) ≡ 3 * rows-of (listed-from cs ts ds w blank v .0)
-      pub same-answer : listed-from cs ts ds w t v .0 ≡ listed-from cs ts ds w blank v .0
-      pub same-rows : listed-from cs ts ds w t v .1 ≡ sets t 0 (rows-in (listed-from cs ts ds w blank v))
-
-    alike : (v : View) → view-of-spot cs ts (length t) (stood cs s) ≡ v → Alike v
-    alike (O.From x y c) e =
+    by-view : (v : View) → view-of-spot cs ts (length t) (stood cs s) ≡ v → AsSingle cs t (listed-from cs ts ds w blank v) (listed-from cs ts ds w t v)
+    by-view (O.From x y c) e =
         let q : Point = record { x = x; y = y } in
         let in-cell = found-cell-holds-the-stand cs ts q (spot-says cs ts s (length t) e .stand-cell) in
         let few = rows-never-outnumber-corners sound w q c in-cell in
-        let k = counts _ _ _ (sound .in-size) in
-        let rows : listing-row-count cs ts ds w q c ≤ 2048 = omega (arith, few, k .corners-at-most) in
-        let cells : cell-count ts - 1 ≤ 2999 = omega (arith, k .cells-at-most) in
-        let product : listing-row-count cs ts ds w q c * (cell-count ts - 1) ≤ 2048 * 2999 = mul-le-mul rows cells in
         let long : length blank ≡ 3 * corner-count cs = length-replicate (3 * corner-count cs) 0 in
-        let new = first-is-new blank (listing-numbers cs ts ds w q c) (3 * listing-row-count cs ts ds w q c) (numbers-are-three-a-row cs ts ds w q c) (omega arith) in
+        let three = the-numbers-are-three-a-row cs ts ds w q c in
+        let new = first-is-new blank (listing-numbers cs ts ds w q c) (3 * listing-row-count cs ts ds w q c) three (omega arith) in
         record {
           few-rows = few;
-          few-crossings = omega (arith, crossings-never-exceed-rows-times-other-cells sound w q c in-cell);
-          three-a-row = ap length new ∙ numbers-are-three-a-row cs ts ds w q c;
+          few-crossings = Sightings.few-crossings sound w q c in-cell;
+          three-a-row = ap length new ∙ three;
           same-answer = refl;
           same-rows = ap (sets t 0) (sym new);
         }
-    alike (O.Refused r) e = record { few-rows = omega arith; few-crossings = omega arith; three-a-row = refl; same-answer = refl; same-rows = refl }
+    by-view (O.Refused r) e = record { few-rows = omega arith; few-crossings = omega arith; three-a-row = refl; same-answer = refl; same-rows = refl }
 
     -- a listing with any table that has room has the single listing's answer, and writes its rows
-    pub listed-as-single : AsSingle cs ts ds w s t (listed cs ts ds w s t .0) (listed cs ts ds w s t .1)
-    listed-as-single =
-        let a = alike (view-of-spot cs ts (length t) (stood cs s)) refl in
-        let one = sym single-by-spot in
-        let here = listed-by-spot t in
-        record {
-          few-rows = subst (λ (p : Listed × List ℕ). rows-of (p .0) ≤ corner-count cs) one (a .few-rows);
-          few-crossings = subst (λ (p : Listed × List ℕ). crossings-of (p .0) ≤ 2048 * 2999) one (a .few-crossings);
-          three-a-row = subst (λ (p : Listed × List ℕ). length (rows-in p) ≡ 3 * rows-of (p .0)) one (a .three-a-row);
-          same-answer = ap (λ (p : Listed × List ℕ). p .0) here ∙ a .same-answer ∙ ap (λ (p : Listed × List ℕ). p .0) one;
-          same-rows = ap (λ (p : Listed × List ℕ). p .1) here ∙ a .same-rows ∙ ap (λ (p : Listed × List ℕ). sets t 0 (rows-in p)) one;
-        }
+    pub listed-as-single : AsSingle cs t (single cs ts ds w s) (listed cs ts ds w s t)
+    listed-as-single = subst₂ (AsSingle cs t) (sym single-by-spot) (sym (listed-by-spot t)) (by-view (view-of-spot cs ts (length t) (stood cs s)) refl)
 
   -- over the lines drawn under the setting it is the listing
   pub over-lines-is-listed : {ls : List ℕ} → Lined ts ds w ls → (t : List ℕ) → over-lines cs ts ls s t ≡ listed cs ts ds w s t

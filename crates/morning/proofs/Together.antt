@@ -93,7 +93,7 @@ module _ (cs : List ℤ) (ts ds : List ℕ) (w : ℕ) (stands : List Stand) (m :
   replies-have-room = omega (arith, grant .replies-long, no-more)
 
   module _ {i : ℕ} {s : Stand} (at : At s ss i) (lent : List ℕ) (room : 3 * corner-count cs ≤ length lent) where
-    alone : AsSingle cs ts ds w s lent (listed cs ts ds w s lent .0) (listed cs ts ds w s lent .1)
+    alone : AsSingle cs lent (single cs ts ds w s) (listed cs ts ds w s lent)
     alone = listed-as-single cs ts ds w (grant .plan-accepted) (grant .setting-right) s lent room
 
     -- three numbers at the stand's place are the reply of the single listing

@@ -1,15 +1,15 @@
 -- What the check accepts is sound, and its reply has the counts.
 use mathlib.Core.Bool.{Bool, true, false, not}
 use mathlib.Core.List.{List}
-use mathlib.Core.Path.{_≡_, refl, sym}
-use Prim.Native.Nat.{ℕ, _%_}
+use mathlib.Core.Path.{_≡_, refl, sym, ap, subst}
+use Prim.Native.Nat.{ℕ, _%_, _≤_}
 use native.Mathlib.Omega.{arith}
 use borrow.Author.Tests.{eqb-true, ltb-false, not-false}
 use lib.Dec.{eqb, ltb}
 use lib.ListN.{length}
 use lib.IntN.{ℤ}
 use Rattle.exact.proofs.Truth.{both-true}
-use Rattle.limits.specs.Limits.{sized}
+use Rattle.limits.specs.Limits.{most-corners, most-doors, sized}
 use Rattle.plan.specs.Lists.{corner-count, cell-count, face-count}
 use Rattle.plan.specs.Check.{framed, wrong-cell, wrong-door, refuse-if, checked, first-wrong-corner, first-wrong-cell, first-wrong-face, first-wrong-door}
 use Rattle.plan.specs.Sound.{Sound}
@@ -20,6 +20,7 @@ use Rattle.limits.specs.declared.Checked.{Checked}
 use Rattle.limits.specs.declared.Checked.the-variants.{Accepted, Refused}
 use Rattle.plan.proofs.Least.{none-holds}
 use Rattle.plan.proofs.Checks.{corners-near, neighbours-right}
+use Rattle.plan.proofs.Plans.{counts}
 
 -- an acceptance passes each test on the way to it
 module _ {p : Plan} where
@@ -55,3 +56,17 @@ module _ (cs : List ℤ) (ts ds : List ℕ) where
     where
       same : {q : Plan} → Accepted q ≡ Accepted p → q ≡ p
       same e = cc
+
+  -- the counts replied are within the limits
+  module _ {p : Plan} (accepted : checked cs ts ds ≡ Accepted p) where
+    pub accepted-corners : p .corners ≡ corner-count cs
+    accepted-corners = ap (λ (p : Plan). p .corners) (accepted-is-sound p accepted .1)
+
+    pub accepted-doors : p .doors ≡ length ds
+    accepted-doors = ap (λ (p : Plan). p .doors) (accepted-is-sound p accepted .1)
+
+    pub few-corners : p .corners ≤ most-corners
+    few-corners = subst (λ (k : ℕ). k ≤ most-corners) (sym accepted-corners) (counts _ _ _ (accepted-is-sound p accepted .0 .in-size) .corners-at-most)
+
+    pub few-doors : p .doors ≤ most-doors
+    few-doors = subst (λ (k : ℕ). k ≤ most-doors) (sym accepted-doors) (counts _ _ _ (accepted-is-sound p accepted .0 .in-size) .doors-at-most)

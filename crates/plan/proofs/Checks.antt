@@ -5,7 +5,7 @@ use mathlib.Core.Path.{_≡_}
 use Prim.Native.Nat.{ℕ, _%_, _<_, _≤_}
 use native.Mathlib.Omega.{arith}
 use borrow.Author.Tests.{eq-eqb, ne-eqb, lt-ltb, le-ltb}
-use lib.Dec.{leb→le}
+use lib.Dec.{leb→le, eqb}
 use lib.ListN.{length}
 use lib.IntN.{ℤ, pos, negsuc, negℤ, natAbs}
 use lib.Signed.{_≤ℤ_, ltZ}
@@ -14,7 +14,7 @@ use Rattle.exact.proofs.Order.{ltZ-false}
 use Rattle.exact.proofs.Truth.{neither-true}
 use Rattle.limits.specs.Limits.{sized, coordinate-limit}
 use Rattle.plan.specs.Lists.{corner-count, cell-count, face-count, corner-at}
-use Rattle.plan.specs.Check.{outside, wrong-corner, checked, first-wrong-corner, first-wrong-cell, first-wrong-face, first-wrong-door}
+use Rattle.plan.specs.Check.{framed, outside, wrong-corner, checked, first-wrong-corner, first-wrong-cell, first-wrong-face, first-wrong-door}
 use Rattle.plan.specs.Sound.{CornersNear, NeighboursRight}
 use Rattle.limits.specs.declared.Refusal.the-variants.{Frame, Size, Corner, Cell, Neighbour, Door}
 use Rattle.limits.specs.declared.Checked.the-variants.{Accepted, Refused}
@@ -44,52 +44,59 @@ corners-near cs h =
 pub neighbours-right : (ts : List ℕ) → face-count ts ≤ first-wrong-face ts → NeighboursRight ts
 neighbours-right ts h = record { right = none-holds _ (face-count ts) h }
 
+-- ---- the lists are multiples
+
+module _ (cs : List ℤ) (ts : List ℕ) where
+  pub odd-corners : (length cs % 2 ≡ 0 → ⊥) → false ≡ framed cs ts
+  odd-corners h = simp (ne-eqb _ _ h)
+
+  pub by-cells : length cs % 2 ≡ 0 → eqb (length ts % 6) 0 ≡ framed cs ts
+  by-cells h = simp (eq-eqb _ _ h)
+
+  pub multiples-are-framed : length cs % 2 ≡ 0 → length ts % 6 ≡ 0 → framed cs ts ≡ true
+  multiples-are-framed h k = simp (eq-eqb _ _ h, eq-eqb _ _ k)
+
 -- ---- the replies, in their order
 
 module _ (cs : List ℤ) (ts ds : List ℕ) where
-  pub odd-corners : (length cs % 2 ≡ 0 → ⊥) → Refused Frame ≡ checked cs ts ds
+  pub not-framed : framed cs ts ≡ false → Refused Frame ≡ checked cs ts ds
   unfolding checked
-  odd-corners h = simp (ne-eqb _ _ h)
+  not-framed h = simp h
 
-  module _ (even : length cs % 2 ≡ 0) where
-    pub odd-cells : (length ts % 6 ≡ 0 → ⊥) → Refused Frame ≡ checked cs ts ds
+  module _ (whole : framed cs ts ≡ true) where
+    pub out-of-size : sized (corner-count cs) (cell-count ts) (length ds) ≡ false → Refused Size ≡ checked cs ts ds
     unfolding checked
-    odd-cells h = simp (eq-eqb _ _ even, ne-eqb _ _ h)
+    out-of-size h = simp (whole, h)
 
-    module _ (six : length ts % 6 ≡ 0) where
-      pub out-of-size : sized (corner-count cs) (cell-count ts) (length ds) ≡ false → Refused Size ≡ checked cs ts ds
+    module _ (in-size : sized (corner-count cs) (cell-count ts) (length ds) ≡ true) where
+      pub at-a-corner : {i : ℕ} → i ≡ first-wrong-corner cs → i < corner-count cs → Refused (Corner i) ≡ checked cs ts ds
       unfolding checked
-      out-of-size h = simp (eq-eqb _ _ even, eq-eqb _ _ six, h)
+      at-a-corner {i} e h =
+          let k : first-wrong-corner cs < corner-count cs = rw e at h in
+          simp (whole, in-size, lt-ltb _ _ k, e)
 
-      module _ (in-size : sized (corner-count cs) (cell-count ts) (length ds) ≡ true) where
-        pub at-a-corner : {i : ℕ} → i ≡ first-wrong-corner cs → i < corner-count cs → Refused (Corner i) ≡ checked cs ts ds
+      module _ (corners : corner-count cs ≤ first-wrong-corner cs) where
+        pub at-a-cell : {i : ℕ} → i ≡ first-wrong-cell cs ts → i < cell-count ts → Refused (Cell i) ≡ checked cs ts ds
         unfolding checked
-        at-a-corner {i} e h =
-            let k : first-wrong-corner cs < corner-count cs = rw e at h in
-            simp (eq-eqb _ _ even, eq-eqb _ _ six, in-size, lt-ltb _ _ k, e)
+        at-a-cell {i} e h =
+            let k : first-wrong-cell cs ts < cell-count ts = rw e at h in
+            simp (whole, in-size, le-ltb _ _ corners, lt-ltb _ _ k, e)
 
-        module _ (corners : corner-count cs ≤ first-wrong-corner cs) where
-          pub at-a-cell : {i : ℕ} → i ≡ first-wrong-cell cs ts → i < cell-count ts → Refused (Cell i) ≡ checked cs ts ds
+        module _ (cells : cell-count ts ≤ first-wrong-cell cs ts) where
+          pub at-a-face : {i : ℕ} → i ≡ first-wrong-face ts → i < face-count ts → Refused (Neighbour i) ≡ checked cs ts ds
           unfolding checked
-          at-a-cell {i} e h =
-              let k : first-wrong-cell cs ts < cell-count ts = rw e at h in
-              simp (eq-eqb _ _ even, eq-eqb _ _ six, in-size, le-ltb _ _ corners, lt-ltb _ _ k, e)
+          at-a-face {i} e h =
+              let k : first-wrong-face ts < face-count ts = rw e at h in
+              simp (whole, in-size, le-ltb _ _ corners, le-ltb _ _ cells, lt-ltb _ _ k, e)
 
-          module _ (cells : cell-count ts ≤ first-wrong-cell cs ts) where
-            pub at-a-face : {i : ℕ} → i ≡ first-wrong-face ts → i < face-count ts → Refused (Neighbour i) ≡ checked cs ts ds
+          module _ (faces : face-count ts ≤ first-wrong-face ts) where
+            pub at-a-door : {i : ℕ} → i ≡ first-wrong-door ts ds → i < length ds → Refused (Door i) ≡ checked cs ts ds
             unfolding checked
-            at-a-face {i} e h =
-                let k : first-wrong-face ts < face-count ts = rw e at h in
-                simp (eq-eqb _ _ even, eq-eqb _ _ six, in-size, le-ltb _ _ corners, le-ltb _ _ cells, lt-ltb _ _ k, e)
+            at-a-door {i} e h =
+                let k : first-wrong-door ts ds < length ds = rw e at h in
+                simp (whole, in-size, le-ltb _ _ corners, le-ltb _ _ cells, le-ltb _ _ faces, lt-ltb _ _ k, e)
 
-            module _ (faces : face-count ts ≤ first-wrong-face ts) where
-              pub at-a-door : {i : ℕ} → i ≡ first-wrong-door ts ds → i < length ds → Refused (Door i) ≡ checked cs ts ds
-              unfolding checked
-              at-a-door {i} e h =
-                  let k : first-wrong-door ts ds < length ds = rw e at h in
-                  simp (eq-eqb _ _ even, eq-eqb _ _ six, in-size, le-ltb _ _ corners, le-ltb _ _ cells, le-ltb _ _ faces, lt-ltb _ _ k, e)
-
-              pub accepted : length ds ≤ first-wrong-door ts ds → Accepted (record { corners = corner-count cs; cells = cell-count ts; doors = length ds }) ≡ checked cs ts ds
-              unfolding checked
-              accepted h =
-                  simp (eq-eqb _ _ even, eq-eqb _ _ six, in-size, le-ltb _ _ corners, le-ltb _ _ cells, le-ltb _ _ faces, le-ltb _ _ h)
+            pub accepted : length ds ≤ first-wrong-door ts ds → Accepted (record { corners = corner-count cs; cells = cell-count ts; doors = length ds }) ≡ checked cs ts ds
+            unfolding checked
+            accepted h =
+                simp (whole, in-size, le-ltb _ _ corners, le-ltb _ _ cells, le-ltb _ _ faces, le-ltb _ _ h)

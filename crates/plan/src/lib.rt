@@ -1,6 +1,6 @@
 // Plans: the plan check (document 01, "Side value and plan check").
 ghost use mathlib.Core.Path.{_≡_};
-ghost use Rattle.plan.specs.Check.{checked};
+ghost use Rattle.plan.specs.Check.{framed, checked};
 pub use limits::Checked;
 pub use limits::Plan;
 pub use limits::Refusal;
@@ -11,14 +11,21 @@ mod door;
 pub mod face;
 pub mod neighbour;
 
+// Are the lists multiples of 2, 6 and 1?
+pub fn is_framed(corners: &[i32], cells: &[u16]) -> bool
+    ensures { λ r. ⌜ r ≡ framed (now (corners .entry)) (now (cells .entry)) ⌝ }
+{
+    if corners.len() % 2 != 0 {
+        return false;
+    }
+    cells.len() % 6 == 0
+}
+
 // The plan check on three lists.
 pub fn check(corners: &[i32], cells: &[u16], doors: &[u16]) -> Checked
     ensures { λ r. ⌜ r ≡ checked (now (corners .entry)) (now (cells .entry)) (now (doors .entry)) ⌝ }
 {
-    if corners.len() % 2 != 0 {
-        return Checked::Refused(Refusal::Frame);
-    }
-    if cells.len() % 6 != 0 {
+    if !is_framed(corners, cells) {
         return Checked::Refused(Refusal::Frame);
     }
     let n = corners.len() / 2;

@@ -13,7 +13,7 @@ use Rattle.limits.specs.declared.Refusal.{Refusal}
 use Rattle.limits.specs.declared.Refusal.the-variants.{Frame, Size}
 use Rattle.limits.specs.declared.Checked.{Checked}
 use Rattle.limits.specs.declared.Checked.the-variants.{Refused}
-use Rattle.plan.proofs.Checks.{out-of-size}
+use Rattle.plan.proofs.Checks.{multiples-are-framed, out-of-size}
 use Rattle.records.specs.Bytes.{numbers-at, signed}
 use Rattle.records.specs.Record.{framed}
 use Rattle.records.proofs.Spelled.{length-numbers-at}
@@ -112,7 +112,7 @@ module _ (s : List ℕ) (corners : List ℤ) (cells doors : List ℕ) where
         ∙ ap₂ (λ (i j : ℕ). sized ((b - 6) / 4 / 2) (i / 6) j) m k
         ∙ h
         in
-        let size : checked (corners-in s) (cells-in s) (doors-in s) ≡ Refused Size = sym (out-of-size (corners-in s) (cells-in s) (doors-in s) even six sizes) in
+        let size : checked (corners-in s) (cells-in s) (doors-in s) ≡ Refused Size = sym (out-of-size (corners-in s) (cells-in s) (doors-in s) (multiples-are-framed (corners-in s) (cells-in s) even six) sizes) in
         refused Size (its-lists ∙ ap (given-room room) size ∙ refused-stays room Size)
 
     pub lists-read : {cs : List ℤ} {ts ds : List ℕ} → cs ≡ corners-in s → ts ≡ cells-in s → ds ≡ doors-in s → {r : Checked × (List ℤ × (List ℕ × List ℕ))} → r ≡ handed-over (lists-reply cs ts ds (length corners) (length cells) (length doors)) cs ts ds corners cells doors → r ≡ read s corners cells doors

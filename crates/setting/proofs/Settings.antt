@@ -12,13 +12,17 @@ use borrow.Author.Tests.{eq-eqb, ne-eqb, lt-ltb, le-ltb, eqb-true, eqb-false, lt
 use lib.Arith.{bin-ind}
 use lib.Bits.{bitAnd, bitOr, and-high, and-le-l, and-step, or-add-and, or-lt}
 use lib.Dec.{eqb, ltb, lit<}
+use lib.IntN.{ℤ}
 use lib.ListN.{length, getD}
 use lib.Pow.{pow-pos, pow-mono, pow-lt, shl-exact, shr-shr}
 use Rattle.limits.specs.Limits.{wall}
 use Rattle.plan.specs.Least.{least}
 use Rattle.plan.specs.Lists.{neighbour, back}
-use Rattle.plan.specs.Check.{names}
+use Rattle.plan.specs.Check.{names, checked}
+use Rattle.limits.specs.declared.Plan.{Plan}
+use Rattle.limits.specs.declared.Checked.the-variants.{Accepted}
 use Rattle.setting.specs.Setting.{shut, with-shut, with-open, wrong-setting, bars, ends}
+use Rattle.plan.proofs.Accepted.{accepted-doors}
 use Rattle.plan.proofs.Least.{not-both, none-holds, least-is-none}
 use Rattle.plan.proofs.Neighbours.{or-true}
 use Rattle.plan.proofs.Doors.{names-the-face, names-the-back, names-neither}
@@ -362,3 +366,9 @@ module _ (ts ds : List ℕ) (w i : ℕ) where
       by-door : (e : ℕ) → e < length ds → Dec (e ≡ i) → bars ds (with-open w i) f (back ts f) e ≡ false
       by-door e h (yes same) = an-open-door-bars-nothing ds (with-open w i) f (back ts f) e (ap (shut (with-open w i)) same ∙ opening-opens-the-door w i)
       by-door e h (no other) = a-door-elsewhere-bars-nothing ds (with-open w i) f (back ts f) e (only e h other)
+
+-- ---- of an accepted plan
+
+-- its door count, replied, tells whether a setting is wrong
+pub wrong-for-the-plan : (cs : List ℤ) (ts ds : List ℕ) (w : ℕ) {p : Plan} → checked cs ts ds ≡ Accepted p → {b : Bool} → b ≡ wrong-setting w (p .doors) → wrong-setting w (length ds) ≡ b
+wrong-for-the-plan cs ts ds w accepted e = ap (wrong-setting w) (sym (accepted-doors cs ts ds accepted)) ∙ sym e

@@ -2,7 +2,6 @@
 use mathlib.Core.List.{List}
 use mathlib.Core.Path.{_≡_, refl, sym, _∙_, ap, ap₂, subst}
 use Prim.Native.Nat.{ℕ, _+_, _*_, _-_, _^_, _<_, _≤_}
-use native.Mathlib.Nat.{mul-le-mul}
 use native.Mathlib.Omega.{arith}
 use lib.ListN.{length, getD}
 use lib.IntN.{ℤ}
@@ -11,7 +10,6 @@ use Rattle.plane.specs.Side.{Point}
 use Rattle.plan.specs.Lists.{corner-count, cell-count, face-count, start}
 use Rattle.plan.specs.Sound.{Sound}
 use Rattle.plan.proofs.Faces.{after-first, after-second, after-third}
-use Rattle.plan.proofs.Plans.{counts}
 use Rattle.stand.proofs.Located.{InCell}
 use Rattle.expand.specs.Sight.{Sight, numbers, row-count, crossings, Whole}
 use Rattle.expand.specs.Sight.Sight.{both}
@@ -20,7 +18,8 @@ use Rattle.sight.specs.CellTree.{side-tree, cell-tree}
 use Rattle.lines.specs.Lined.{Lined}
 use Rattle.sight.specs.Listing.{finish, through, listing-numbers, listing-row-count, listing-crossings}
 use Rattle.sight.proofs.Lined.{lined-floor-agrees}
-use Rattle.sight.proofs.Sightings.{first-side-is-whole, second-side-is-whole, third-side-is-whole, rows-never-outnumber-corners, crossings-never-exceed-rows-times-other-cells}
+use Rattle.sight.proofs.Sightings as Sightings
+use Rattle.sight.proofs.Sightings.{first-side-is-whole, second-side-is-whole, third-side-is-whole, rows-never-outnumber-corners}
 
 module _ {cs : List ℤ} {ts ds : List ℕ} (sound : Sound cs ts ds) (w : ℕ) (q : Point) (c : ℕ) (stands : InCell cs ts q c) {ls : List ℕ} (lined : Lined ts ds w ls) where
   -- the corner that the table has for a face
@@ -72,12 +71,7 @@ module _ {cs : List ℤ} {ts ds : List ℕ} (sound : Sound cs ts ds) (w : ℕ) (
   cell-has-room n h = omega (arith, rows-are, rows-never-outnumber-corners sound w q c stands)
 
   pub few-crossings : crossings (cell-tree cs ls q (cell-count ts - 1) c) < 2 ^ 63
-  few-crossings =
-      let k = counts _ _ _ (sound .in-size) in
-      let rows : listing-row-count cs ts ds w q c ≤ 2048 = omega (arith, rows-never-outnumber-corners sound w q c stands, k .corners-at-most) in
-      let cells : cell-count ts - 1 ≤ 2999 = omega (arith, k .cells-at-most) in
-      let product : listing-row-count cs ts ds w q c * (cell-count ts - 1) ≤ 2048 * 2999 = mul-le-mul rows cells in
-      omega (arith, crossings-are, crossings-never-exceed-rows-times-other-cells sound w q c stands)
+  few-crossings = omega (arith, crossings-are, Sightings.few-crossings sound w q c stands)
 
   pub listing-written : (old : List ℕ) {new : List ℕ} {i j : ℕ} → (i ≡ row-count (cell-tree cs ls q (cell-count ts - 1) c)) × ((j ≡ crossings (cell-tree cs ls q (cell-count ts - 1) c)) × (new ≡ sets old 0 (numbers (cell-tree cs ls q (cell-count ts - 1) c)))) → (i ≡ listing-row-count cs ts ds w q c) × ((j ≡ listing-crossings cs ts ds w q c) × (new ≡ sets old 0 (listing-numbers cs ts ds w q c)))
   listing-written old h = (h .0 ∙ rows-are, (h .1 .0 ∙ crossings-are, h .1 .1 ∙ ap (sets old 0) numbers-are))

@@ -2,14 +2,15 @@
 use mathlib.Core.List.{List}
 use mathlib.Core.Path.{_≡_}
 use Prim.Native.Nat.{ℕ, _+_, _*_, _-_, _/_, _<_, _≤_}
-use native.Mathlib.Nat.{add-mul}
+use native.Mathlib.Nat.{add-mul, mul-le-mul, le-trans}
 use native.Mathlib.Omega.{arith}
 use lib.IntN.{ℤ}
 use Rattle.plane.specs.Side.{Point}
 use Rattle.plane.specs.Cone.{Meets, Direction}
 use Rattle.plan.specs.Lists.{corner-count, cell-count, face-count, start}
 use Rattle.plan.specs.Sound.{Sound}
-use Rattle.plan.proofs.Plans.{corner-exists}
+use Rattle.limits.specs.Limits.{most-corners, most-cells}
+use Rattle.plan.proofs.Plans.{counts, corner-exists}
 use Rattle.stand.proofs.Located.{InCell}
 use Rattle.expand.specs.Sight.{Whole, Row}
 use Rattle.sight.specs.Walk.{RowHolds, WalkEnds}
@@ -52,6 +53,14 @@ module _ {cs : List ℤ} {ts ds : List ℕ} (sound : Sound cs ts ds) (w : ℕ) (
       let h₁ = crossings-at-most-rows-times-cells-less-one G (3 * c + 1) (S .side₁) (Listing.in-sight₁ G S 0 .seen) in
       let h₂ = crossings-at-most-rows-times-cells-less-one G (3 * c + 2) (S .side₂) (Listing.in-sight₂ G S 0 .seen) in
       rw (add-mul, add-mul) (omega arith)
+
+  -- so a word holds them
+  pub few-crossings : listing-crossings cs ts ds w q c ≤ most-corners * most-cells
+  few-crossings =
+      let k = counts _ _ _ (sound .in-size) in
+      let rows : listing-row-count cs ts ds w q c ≤ most-corners = le-trans rows-never-outnumber-corners (k .corners-at-most) in
+      let cells : cell-count ts - 1 ≤ most-cells = omega (arith, k .cells-at-most) in
+      le-trans crossings-never-exceed-rows-times-other-cells (mul-le-mul rows cells)
 
   -- each row's face ends the sight there, is seen from its inner side, and its right limit lies strictly before its left limit
   pub row-is-seen : {r : Row} {i : ℕ} → At r (listing-rows cs ts ds w q c) i → RowSeen (plan-geometry sound w q) r

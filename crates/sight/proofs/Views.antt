@@ -1,7 +1,7 @@
 -- Replies 1 to 11 or the stand and its cell, by what was found.
 use mathlib.Core.Bool.{Bool, true, false}
 use mathlib.Core.List.{List, [], _∷_}
-use mathlib.Core.Path.{_≡_, refl, ap, ap₂, sym, _∙_, subst, subst₂}
+use mathlib.Core.Path.{_≡_, refl, ap, ap₂, sym, _∙_, subst₂}
 use native.Mathlib.Omega.{arith}
 use Prim.Native.Nat.{ℕ, _*_, _<_, _≤_}
 use borrow.Author.Tests.{lt-ltb, le-ltb, ltb-false}
@@ -23,7 +23,8 @@ use Rattle.limits.specs.declared.Refusal.the-variants as R
 use Rattle.limits.specs.declared.Checked.{Checked}
 use Rattle.limits.specs.declared.Checked.the-variants as C
 use Rattle.plan.proofs.Accepted.{accepted-is-sound}
-use Rattle.plan.proofs.Plans.{corners-exist, counts}
+use Rattle.plan.proofs.Plans.{corners-exist}
+use Rattle.setting.proofs.Settings.{wrong-for-the-plan}
 use Rattle.stand.specs.Spot.{stood}
 use Rattle.stand.specs.Find.{located}
 use Rattle.stand.specs.declared.spot.Stand.{Stand}
@@ -73,26 +74,18 @@ module _ (cs : List ℤ) (ts ds : List ℕ) (w : ℕ) (s : Stand) (room : ℕ) w
   plan-refused e = ap (view-of-plan cs ts ds w s room) (sym e)
 
   module _ {p : Plan} (accepted : checked cs ts ds ≡ C.Accepted p) where
-    pub few-doors : p .doors ≤ 64
-    few-doors =
-        let sound = accepted-is-sound cs ts ds p accepted in
-        subst (λ (k : ℕ). k ≤ 64) (sym (ap (λ (p : Plan). p .doors) (sound .1))) (counts _ _ _ (sound .0 .in-size) .doors-at-most)
-
-    doors-are : {b : Bool} → b ≡ wrong-setting w (p .doors) → wrong-setting w (length ds) ≡ b
-    doors-are e = ap (λ (p : Plan). wrong-setting w (p .doors)) (sym (accepted-is-sound cs ts ds p accepted .1)) ∙ sym e
-
     pub corners-checked : CornersNear cs × CornersExist cs ts
     corners-checked = let sound = accepted-is-sound cs ts ds p accepted .0 in (sound .corners, corners-exist sound)
 
     pub setting-refused : {b : Bool} → b ≡ wrong-setting w (p .doors) → b ≡ true → O.Refused R.Setting ≡ viewed cs ts ds w s room
     unfolding viewed
     setting-refused e h =
-        ap (λ b. unless b R.Setting (view-of-spot cs ts room (stood cs s))) (sym (doors-are e ∙ h)) ∙ ap (view-of-plan cs ts ds w s room) (sym accepted)
+        ap (λ b. unless b R.Setting (view-of-spot cs ts room (stood cs s))) (sym (wrong-for-the-plan cs ts ds w accepted e ∙ h)) ∙ ap (view-of-plan cs ts ds w s room) (sym accepted)
 
     pub setting-accepted : {b : Bool} {r : View} → b ≡ wrong-setting w (p .doors) → b ≡ false → r ≡ view-of-spot cs ts room (stood cs s) → r ≡ viewed cs ts ds w s room
     unfolding viewed
     setting-accepted e h k =
-        k ∙ ap (λ b. unless b R.Setting (view-of-spot cs ts room (stood cs s))) (sym (doors-are e ∙ h)) ∙ ap (view-of-plan cs ts ds w s room) (sym accepted)
+        k ∙ ap (λ b. unless b R.Setting (view-of-spot cs ts room (stood cs s))) (sym (wrong-for-the-plan cs ts ds w accepted e ∙ h)) ∙ ap (view-of-plan cs ts ds w s room) (sym accepted)
 
 pub a-refusal-is-no-view : {r : Refusal} {x y : ℤ} {c : ℕ} → O.Refused r ≡ O.From x y c → ⊥
 a-refusal-is-no-view p = let z : _≡_ {A = ℕ} 0 1 = cc in omega arith

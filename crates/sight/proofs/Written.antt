@@ -55,6 +55,12 @@ module _ (cs : List ℤ) (ts ds : List ℕ) (w : ℕ) (q : Point) (c : ℕ) wher
   unfolding listing-row-count listing-rows row-count rows
   the-count-is-the-rows = row-count-counts-the-rows (both (both (through cs ts ds w q (3 * c)) (through cs ts ds w q (3 * c + 1))) (through cs ts ds w q (3 * c + 2)))
 
+  pub the-numbers-are-three-a-row : length (listing-numbers cs ts ds w q c) ≡ 3 * listing-row-count cs ts ds w q c
+  the-numbers-are-three-a-row =
+      ap length the-numbers-are-the-rows
+      ∙ length-of-rows (listing-rows cs ts ds w q c)
+      ∙ ap (λ (n : ℕ). 3 * n) (sym the-count-is-the-rows)
+
 -- the limits of a line's rows are corners, where the line's own are
 module _ {F : Floor} {N M : ℕ} {see : ℕ → Point} {from to cell : ℕ → ℕ} (G : Geometry F N M see from to cell) (n : ℕ) (apex-exists : (g : ℕ) → g < N → F .apex g < n) where
   limits-of-a-tree : {f r l i : ℕ} {t : Sight} {w : Row} → Grown G f r l t → r < n → l < n → At w (rows t) i → (w .right < n) × (w .left < n)

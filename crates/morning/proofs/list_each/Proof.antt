@@ -1,6 +1,6 @@
 -- `morning::list_each` meets its contract.
-use Prim.Native.Nat.{_-_, _≤_}
 use mathlib.Core.Path.{_≡_, refl}
+use Prim.Native.Nat.{_-_, _≤_}
 use native.Mathlib.Omega.{arith}
 use denote.Ref.{now}
 use lib.ListN.{length, length-take}
@@ -24,25 +24,38 @@ mul-n : tie.Need-mul-n Inv-loop μ-loop
 mul-n c = search needs
 
 slice-relend-prefix-lines : tie.Need-slice-relend-prefix-lines Inv-loop μ-loop
-slice-relend-prefix-lines c = omega (arith, c .before .before .before .before .before .pre .1, counts _ _ _ (grant-says _ _ _ _ _ _ _ (c .before .before .before .before .before .pre .0) .sound .in-size) .cells-at-most)
+slice-relend-prefix-lines c =
+    let s = c .before .before .before .before .before in
+    omega (arith, s .pre .1, counts _ _ _ (grant-says _ _ _ _ _ _ _ (s .pre .0) .sound .in-size) .cells-at-most)
 
 slice-aggregate-lines : tie.Need-slice-aggregate-lines Inv-loop μ-loop
-slice-aggregate-lines c = simp length-take (omega (arith, c .before .before .before .before .before .before .pre .1, counts _ _ _ (grant-says _ _ _ _ _ _ _ (c .before .before .before .before .before .before .pre .0) .sound .in-size) .cells-at-most))
+slice-aggregate-lines c =
+    let s = c .before .before .before .before .before .before in
+    simp length-take (omega (arith, s .pre .1, counts _ _ _ (grant-says _ _ _ _ _ _ _ (s .pre .0) .sound .in-size) .cells-at-most))
 
 lines-of-requires : tie.Need-lines-of-requires Inv-loop μ-loop
 lines-of-requires c κs =
-    let grant = grant-says _ _ _ _ _ _ _ (c .before .before .before .before .before .before .before .pre .0) in
-    (sound-cells (grant .sound), simp length-take (omega (arith, c .before .before .before .before .before .before .before .pre .1, counts _ _ _ (grant .sound .in-size) .cells-at-most)))
+    let s = c .before .before .before .before .before .before .before in
+    let grant = grant-says _ _ _ _ _ _ _ (s .pre .0) in
+    (sound-cells (grant .sound), simp length-take (omega (arith, s .pre .1, counts _ _ _ (grant .sound .in-size) .cells-at-most)))
 
 loop-holds : tie.Need-loop-holds Inv-loop μ-loop
-loop-holds c = (omega arith, none-yet (now (c .before .before .before .before .before .before .before .before .before .before .args .corners)) (now (c .before .before .before .before .before .before .before .before .before .before .args .cells)) (now (c .before .before .before .before .before .before .before .before .before .before .args .doors)) (c .before .before .before .before .before .before .before .before .before .before .args .setting) (c .before .before .before .before .before .before .before .before .before .before .args .t5) (now (c .before .before .before .before .before .before .before .before .before .before .args .table)) (now (c .before .before .before .before .before .before .before .before .before .before .args .replies)))
+loop-holds c =
+    let s = c .before .before .before .before .before .before .before .before .before .before in
+    (omega arith, none-yet (now (s .args .corners)) (now (s .args .cells)) (now (s .args .doors)) (s .args .setting) (s .args .t5) (now (s .args .table)) (now (s .args .replies)))
 
 -- the array has a place for each stand that is granted
 in-array : (c : tie.In-loop Inv-loop μ-loop) → c .before .before .before .before .before .before .before .before .before .before .before .before .args .count ≤ length (c .before .before .before .before .before .before .before .before .before .before .before .before .args .t5)
-in-array c = let whole : length (c .before .before .before .before .before .before .before .before .before .before .before .before .args .t5) ≡ 32 = search needs in omega (arith, grant-says _ _ _ _ _ _ _ (c .before .before .before .before .before .before .before .before .before .before .before .before .pre .0) .few-stands)
+in-array c =
+    let s = c .before .before .before .before .before .before .before .before .before .before .before .before in
+    let whole : length (s .args .t5) ≡ 32 = search needs in
+    omega (arith, grant-says _ _ _ _ _ _ _ (s .pre .0) .few-stands)
 
 next-at : (c : tie.In-loop Inv-loop μ-loop) → Next (now (c .before .before .before .before .before .before .before .before .before .before .before .before .args .corners)) (c .before .loop .i) (c .before .loop .rows) (c .before .loop .crossings) (c .before .loop .table) (c .before .loop .replies)
-next-at c = next (now (c .before .before .before .before .before .before .before .before .before .before .before .before .args .corners)) (now (c .before .before .before .before .before .before .before .before .before .before .before .before .args .cells)) (now (c .before .before .before .before .before .before .before .before .before .before .before .before .args .doors)) (c .before .before .before .before .before .before .before .before .before .before .before .before .args .setting) (c .before .before .before .before .before .before .before .before .before .before .before .before .args .t5) (grant-says _ _ _ _ _ _ _ (c .before .before .before .before .before .before .before .before .before .before .before .before .pre .0)) (c .before .loop .i) (c .loop-test .taken) (in-array c) refl refl (c .before .loop .inv .1)
+next-at c =
+    let s = c .before .before .before .before .before .before .before .before .before .before .before .before in
+    let l = c .before .loop in
+    next (now (s .args .corners)) (now (s .args .cells)) (now (s .args .doors)) (s .args .setting) (s .args .t5) (grant-says _ _ _ _ _ _ _ (s .pre .0)) (l .i) (c .loop-test .taken) (in-array c) refl refl (l .inv .1)
 
 mul-stand : tie.Need-mul-stand Inv-loop μ-loop
 mul-stand c = omega (arith, grant-says _ _ _ _ _ _ _ (c .before .before .before .before .before .before .before .before .before .before .before .before .pre .0) .few-stands)
@@ -70,14 +83,25 @@ mul-list-stand-2 c = omega (arith, grant-says _ _ _ _ _ _ _ (c .before .before .
 
 list-stand-requires : tie.Need-list-stand-requires Inv-loop μ-loop
 list-stand-requires c κs =
-    let grant = grant-says _ _ _ _ _ _ _ (c .before .before .before .before .before .before .before .before .before .before .before .before .before .before .before .before .pre .0) in
-    (record { doors = now (c .before .before .before .before .before .before .before .before .before .before .before .before .before .before .before .before .args .doors); setting = c .before .before .before .before .before .before .before .before .before .before .before .before .before .before .before .before .args .setting; sound = grant .sound; lined = c .before .before .before .before .before .before .before .before .lines-of .ensures }, next-at (c .before .before .before .before) .places-left)
+    let s = c .before .before .before .before .before .before .before .before .before .before .before .before .before .before .before .before in
+    let grant = grant-says _ _ _ _ _ _ _ (s .pre .0) in
+    (record { doors = now (s .args .doors); setting = s .args .setting; sound = grant .sound; lined = c .before .before .before .before .before .before .before .before .lines-of .ensures }, next-at (c .before .before .before .before) .places-left)
 
 add-rows : tie.Need-add-rows Inv-loop μ-loop
-add-rows c = omega (arith, next-at (c .before .before .before .before .before .before .before .before .before .before) .few-rows, grant-says _ _ _ _ _ _ _ (c .before .before .before .before .before .before .before .before .before .before .before .before .before .before .before .before .before .before .before .before .before .before .pre .0) .few-stands, few-here (now (c .before .before .before .before .before .before .before .before .before .before .before .before .before .before .before .before .before .before .before .before .before .before .args .corners)) (now (c .before .before .before .before .before .before .before .before .before .before .before .before .before .before .before .before .before .before .before .before .before .before .args .cells)) (now (c .before .before .before .before .before .before .before .before .before .before .before .before .before .before .before .before .before .before .before .before .before .before .args .doors)) (c .before .before .before .before .before .before .before .before .before .before .before .before .before .before .before .before .before .before .before .before .before .before .args .setting) (c .before .before .before .before .before .before .before .before .before .before .before .before .before .before .before .before .before .before .before .before .before .before .args .t5) (grant-says _ _ _ _ _ _ _ (c .before .before .before .before .before .before .before .before .before .before .before .before .before .before .before .before .before .before .before .before .before .before .pre .0)) (c .before .before .before .before .before .before .before .before .before .before .before .loop .i) (c .before .before .before .before .before .before .before .before .before .before .loop-test .taken) (in-array (c .before .before .before .before .before .before .before .before .before .before)) refl refl (c .before .before .before .before .before .before .before .before .before .before .before .loop .inv .1) _ (c .before .before .before .before .before .before .before .before .before .before .before .before .before .before .lines-of .ensures) (c .before .before .before .before .before .list-stand .ensures .0) (c .before .before .before .before .before .list-stand .ensures .1 .0) .0)
+add-rows c =
+    let s = c .before .before .before .before .before .before .before .before .before .before .before .before .before .before .before .before .before .before .before .before .before .before in
+    let d = c .before .before .before .before .before .before .before .before .before .before in
+    let l = d .before .loop in
+    let r = c .before .before .before .before .before .list-stand .ensures in
+    omega (arith, next-at d .few-rows, grant-says _ _ _ _ _ _ _ (s .pre .0) .few-stands, few-here (now (s .args .corners)) (now (s .args .cells)) (now (s .args .doors)) (s .args .setting) (s .args .t5) (grant-says _ _ _ _ _ _ _ (s .pre .0)) (l .i) (d .loop-test .taken) (in-array d) refl refl (l .inv .1) _ (c .before .before .before .before .before .before .before .before .before .before .before .before .before .before .lines-of .ensures) (r .0) (r .1 .0) .0)
 
 add-crossings : tie.Need-add-crossings Inv-loop μ-loop
-add-crossings c = omega (arith, next-at (c .before .before .before .before .before .before .before .before .before .before .before) .few-crossings, grant-says _ _ _ _ _ _ _ (c .before .before .before .before .before .before .before .before .before .before .before .before .before .before .before .before .before .before .before .before .before .before .before .pre .0) .few-stands, few-here (now (c .before .before .before .before .before .before .before .before .before .before .before .before .before .before .before .before .before .before .before .before .before .before .before .args .corners)) (now (c .before .before .before .before .before .before .before .before .before .before .before .before .before .before .before .before .before .before .before .before .before .before .before .args .cells)) (now (c .before .before .before .before .before .before .before .before .before .before .before .before .before .before .before .before .before .before .before .before .before .before .before .args .doors)) (c .before .before .before .before .before .before .before .before .before .before .before .before .before .before .before .before .before .before .before .before .before .before .before .args .setting) (c .before .before .before .before .before .before .before .before .before .before .before .before .before .before .before .before .before .before .before .before .before .before .before .args .t5) (grant-says _ _ _ _ _ _ _ (c .before .before .before .before .before .before .before .before .before .before .before .before .before .before .before .before .before .before .before .before .before .before .before .pre .0)) (c .before .before .before .before .before .before .before .before .before .before .before .before .loop .i) (c .before .before .before .before .before .before .before .before .before .before .before .loop-test .taken) (in-array (c .before .before .before .before .before .before .before .before .before .before .before)) refl refl (c .before .before .before .before .before .before .before .before .before .before .before .before .loop .inv .1) _ (c .before .before .before .before .before .before .before .before .before .before .before .before .before .before .before .lines-of .ensures) (c .before .before .before .before .before .before .list-stand .ensures .0) (c .before .before .before .before .before .before .list-stand .ensures .1 .0) .1)
+add-crossings c =
+    let s = c .before .before .before .before .before .before .before .before .before .before .before .before .before .before .before .before .before .before .before .before .before .before .before in
+    let d = c .before .before .before .before .before .before .before .before .before .before .before in
+    let l = d .before .loop in
+    let r = c .before .before .before .before .before .before .list-stand .ensures in
+    omega (arith, next-at d .few-crossings, grant-says _ _ _ _ _ _ _ (s .pre .0) .few-stands, few-here (now (s .args .corners)) (now (s .args .cells)) (now (s .args .doors)) (s .args .setting) (s .args .t5) (grant-says _ _ _ _ _ _ _ (s .pre .0)) (l .i) (d .loop-test .taken) (in-array d) refl refl (l .inv .1) _ (c .before .before .before .before .before .before .before .before .before .before .before .before .before .before .before .lines-of .ensures) (r .0) (r .1 .0) .1)
 
 add-i : tie.Need-add-i Inv-loop μ-loop
 add-i c = omega (arith, grant-says _ _ _ _ _ _ _ (c .before .before .before .before .before .before .before .before .before .before .before .before .before .before .before .before .before .before .before .before .before .before .before .pre .0) .few-stands)
@@ -86,19 +110,30 @@ loop-less : tie.Need-loop-less Inv-loop μ-loop
 loop-less c = omega arith
 
 loop-again : tie.Need-loop-again Inv-loop μ-loop
-loop-again c = (omega arith, one-more (now (c .before .before .before .before .before .before .before .before .before .before .before .before .before .before .before .before .before .before .before .before .before .before .before .args .corners)) (now (c .before .before .before .before .before .before .before .before .before .before .before .before .before .before .before .before .before .before .before .before .before .before .before .args .cells)) (now (c .before .before .before .before .before .before .before .before .before .before .before .before .before .before .before .before .before .before .before .before .before .before .before .args .doors)) (c .before .before .before .before .before .before .before .before .before .before .before .before .before .before .before .before .before .before .before .before .before .before .before .args .setting) (c .before .before .before .before .before .before .before .before .before .before .before .before .before .before .before .before .before .before .before .before .before .before .before .args .t5) (grant-says _ _ _ _ _ _ _ (c .before .before .before .before .before .before .before .before .before .before .before .before .before .before .before .before .before .before .before .before .before .before .before .pre .0)) (c .before .before .before .before .before .before .before .before .before .before .before .before .loop .i) (c .before .before .before .before .before .before .before .before .before .before .before .loop-test .taken) (in-array (c .before .before .before .before .before .before .before .before .before .before .before)) refl refl (c .before .before .before .before .before .before .before .before .before .before .before .before .loop .inv .1) _ (c .before .before .before .before .before .before .before .before .before .before .before .before .before .before .before .lines-of .ensures) (c .before .before .before .before .before .before .list-stand .ensures))
+loop-again c =
+    let s = c .before .before .before .before .before .before .before .before .before .before .before .before .before .before .before .before .before .before .before .before .before .before .before in
+    let d = c .before .before .before .before .before .before .before .before .before .before .before in
+    let l = d .before .loop in
+    (omega arith, one-more (now (s .args .corners)) (now (s .args .cells)) (now (s .args .doors)) (s .args .setting) (s .args .t5) (grant-says _ _ _ _ _ _ _ (s .pre .0)) (l .i) (d .loop-test .taken) (in-array d) refl refl (l .inv .1) _ (c .before .before .before .before .before .before .before .before .before .before .before .before .before .before .before .lines-of .ensures) (c .before .before .before .before .before .before .list-stand .ensures))
 
 same-length : tie.Need-same-length Inv-loop μ-loop
-same-length c = table-keeps-its-length (now (c .before .before .before .before .before .before .before .before .before .before .before .before .before .before .args .corners)) (now (c .before .before .before .before .before .before .before .before .before .before .before .before .before .before .args .cells)) (now (c .before .before .before .before .before .before .before .before .before .before .before .before .before .before .args .doors)) (c .before .before .before .before .before .before .before .before .before .before .before .before .before .before .args .setting) (c .before .before .before .before .before .before .before .before .before .before .before .before .before .before .args .t5) (c .before .before .before .loop .inv .1)
+same-length c =
+    let s = c .before .before .before .before .before .before .before .before .before .before .before .before .before .before in
+    table-keeps-its-length (now (s .args .corners)) (now (s .args .cells)) (now (s .args .doors)) (s .args .setting) (s .args .t5) (c .before .before .before .loop .inv .1)
 
 same-length-2 : tie.Need-same-length-2 Inv-loop μ-loop
-same-length-2 c = replies-keep-their-length (now (c .before .before .before .before .before .before .before .before .before .before .before .before .before .before .args .corners)) (now (c .before .before .before .before .before .before .before .before .before .before .before .before .before .before .args .cells)) (now (c .before .before .before .before .before .before .before .before .before .before .before .before .before .before .args .doors)) (c .before .before .before .before .before .before .before .before .before .before .before .before .before .before .args .setting) (c .before .before .before .before .before .before .before .before .before .before .before .before .before .before .args .t5) (c .before .before .before .loop .inv .1)
+same-length-2 c =
+    let s = c .before .before .before .before .before .before .before .before .before .before .before .before .before .before in
+    replies-keep-their-length (now (s .args .corners)) (now (s .args .cells)) (now (s .args .doors)) (s .args .setting) (s .args .t5) (c .before .before .before .loop .inv .1)
 
 same-length-3 : tie.Need-same-length-3 Inv-loop μ-loop
 same-length-3 c = search needs
 
 returns : tie.Need-returns Inv-loop μ-loop
-returns c = all-listed (now (c .before .before .before .before .before .before .before .before .before .before .before .before .before .before .args .corners)) (now (c .before .before .before .before .before .before .before .before .before .before .before .before .before .before .args .cells)) (now (c .before .before .before .before .before .before .before .before .before .before .before .before .before .before .args .doors)) (c .before .before .before .before .before .before .before .before .before .before .before .before .before .before .args .setting) (c .before .before .before .before .before .before .before .before .before .before .before .before .before .before .args .t5) (c .before .before .before .loop .inv .1) (c .before .before .before .before .before .before .before .before .before .before .before .before .before .before .args .count) (omega (arith, c .before .before .before .loop .inv .0, c .before .before .loop-test .left))
+returns c =
+    let s = c .before .before .before .before .before .before .before .before .before .before .before .before .before .before in
+    let l = c .before .before .before .loop in
+    all-listed (now (s .args .corners)) (now (s .args .cells)) (now (s .args .doors)) (s .args .setting) (s .args .t5) (l .inv .1) (s .args .count) (omega (arith, l .inv .0, c .before .before .loop-test .left))
 
 pub list-each-spec : {M : Type 1} → statement M
 list-each-spec =

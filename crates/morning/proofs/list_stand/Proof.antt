@@ -26,7 +26,9 @@ sub-sides : tie.Need-sub-sides
 sub-sides c = omega (arith, some-cell (c .before .before .before .before .before .before .before .before .before .pre .0))
 
 sides-requires : tie.Need-sides-requires
-sides-requires c κs = sides-asked (c .before .before .before .before .before .before .before .before .before .pre .0) (c .before .before .before .before .before .before .before .before .before .args .stand) (now (c .before .before .before .before .before .before .before .before .before .args .table)) (c .before .before .before .before .before .before .before .before .before .args .at) (sym (c .before .before .before .before .view-of-stand .ensures) ∙ (c .before .before .x .given .1))
+sides-requires c κs =
+    let s = c .before .before .before .before .before .before .before .before .before in
+    sides-asked (s .pre .0) (s .args .stand) (now (s .args .table)) (s .args .at) (sym (c .before .before .before .before .view-of-stand .ensures) ∙ (c .before .before .x .given .1))
 
 put-requires-2 : tie.Need-put-requires-2
 put-requires-2 c κs = search needs
@@ -35,7 +37,9 @@ same-length : tie.Need-same-length
 same-length c = search needs
 
 returns : tie.Need-returns
-returns c = stand-refused (c .before .before .before .before .before .before .before .before .before .before .before .before .before .pre .0) (c .before .before .before .before .before .before .before .before .before .before .before .before .before .args .stand) (now (c .before .before .before .before .before .before .before .before .before .before .before .before .before .args .table)) (c .before .before .before .before .before .before .before .before .before .before .before .before .before .args .at) (now (c .before .before .before .before .before .before .before .before .before .before .before .before .before .args .replies)) (sym (c .before .before .before .before .before .before .before .before .view-of-stand .ensures) ∙ (c .before .before .before .before .before .before .r .given .1)) (c .before .before .before .number .ensures) (c .before .before .put .ensures)
+returns c =
+    let s = c .before .before .before .before .before .before .before .before .before .before .before .before .before in
+    stand-refused (s .pre .0) (s .args .stand) (now (s .args .table)) (s .args .at) (now (s .args .replies)) (sym (c .before .before .before .before .before .before .before .before .view-of-stand .ensures) ∙ (c .before .before .before .before .before .before .r .given .1)) (c .before .before .before .number .ensures) (c .before .before .put .ensures)
 
 same-length-2 : tie.Need-same-length-2
 same-length-2 c = search needs
@@ -44,7 +48,9 @@ same-length-3 : tie.Need-same-length-3
 same-length-3 c = search needs
 
 returns-2 : tie.Need-returns-2
-returns-2 c = stand-listed (c .before .before .before .before .before .before .before .before .before .before .before .before .before .before .before .before .pre .0) (c .before .before .before .before .before .before .before .before .before .before .before .before .before .before .before .before .args .stand) (now (c .before .before .before .before .before .before .before .before .before .before .before .before .before .before .before .before .args .table)) (c .before .before .before .before .before .before .before .before .before .before .before .before .before .before .before .before .args .at) (sym (c .before .before .before .before .before .before .before .before .before .before .before .view-of-stand .ensures) ∙ (c .before .before .before .before .before .before .before .before .before .x .given .1)) (now (c .before .before .before .before .before .before .before .before .before .before .before .before .before .before .before .before .args .replies)) (c .before .before .before .before .before .before .sides .ensures) (c .before .before .put2 .ensures)
+returns-2 c =
+    let s = c .before .before .before .before .before .before .before .before .before .before .before .before .before .before .before .before in
+    stand-listed (s .pre .0) (s .args .stand) (now (s .args .table)) (s .args .at) (sym (c .before .before .before .before .before .before .before .before .before .before .before .view-of-stand .ensures) ∙ (c .before .before .before .before .before .before .before .before .before .x .given .1)) (now (s .args .replies)) (c .before .before .before .before .before .before .sides .ensures) (c .before .before .put2 .ensures)
 
 pub list-stand-spec : {M : Type 1} → statement M
 list-stand-spec =

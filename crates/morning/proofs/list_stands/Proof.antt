@@ -19,7 +19,9 @@ list-granted-requires : tie.Need-list-granted-requires
 list-granted-requires c κs = record { plan = _; accepted = sym (c .before .before .before .before .asked .ensures) ∙ (c .before .before .enum-told .given .1) }
 
 returns : tie.Need-returns
-returns c = call-refused (now (c .before .before .before .before .before .before .before .before .args .corners)) (now (c .before .before .before .before .before .before .before .before .args .cells)) (now (c .before .before .before .before .before .before .before .before .args .doors)) (c .before .before .before .before .before .before .before .before .args .setting) (c .before .before .before .before .before .before .before .before .args .stands) (c .before .before .before .before .before .before .before .before .args .count) (now (c .before .before .before .before .before .before .before .before .args .table)) (now (c .before .before .before .before .before .before .before .before .args .replies)) (sym (c .before .before .before .asked .ensures) ∙ (c .before .r .given .1))
+returns c =
+    let s = c .before .before .before .before .before .before .before .before in
+    call-refused (now (s .args .corners)) (now (s .args .cells)) (now (s .args .doors)) (s .args .setting) (s .args .stands) (s .args .count) (now (s .args .table)) (now (s .args .replies)) (sym (c .before .before .before .asked .ensures) ∙ (c .before .r .given .1))
 
 same-length : tie.Need-same-length
 same-length c = search needs
@@ -28,7 +30,9 @@ same-length-2 : tie.Need-same-length-2
 same-length-2 c = search needs
 
 returns-2 : tie.Need-returns-2
-returns-2 c = call-done (now (c .before .before .before .before .before .before .before .before .before .before .before .before .before .before .args .corners)) (now (c .before .before .before .before .before .before .before .before .before .before .before .before .before .before .args .cells)) (now (c .before .before .before .before .before .before .before .before .before .before .before .before .before .before .args .doors)) (c .before .before .before .before .before .before .before .before .before .before .before .before .before .before .args .setting) (c .before .before .before .before .before .before .before .before .before .before .before .before .before .before .args .stands) (c .before .before .before .before .before .before .before .before .before .before .before .before .before .before .args .count) (now (c .before .before .before .before .before .before .before .before .before .before .before .before .before .before .args .table)) (now (c .before .before .before .before .before .before .before .before .before .before .before .before .before .before .args .replies)) (sym (c .before .before .before .before .before .before .before .before .before .asked .ensures) ∙ (c .before .before .before .before .before .before .before .enum-told .given .1)) (c .before .before .before .before .list-granted .ensures)
+returns-2 c =
+    let s = c .before .before .before .before .before .before .before .before .before .before .before .before .before .before in
+    call-done (now (s .args .corners)) (now (s .args .cells)) (now (s .args .doors)) (s .args .setting) (s .args .stands) (s .args .count) (now (s .args .table)) (now (s .args .replies)) (sym (c .before .before .before .before .before .before .before .before .before .asked .ensures) ∙ (c .before .before .before .before .before .before .before .enum-told .given .1)) (c .before .before .before .before .list-granted .ensures)
 
 pub list-stands-spec : {M : Type 1} → statement M
 list-stands-spec =

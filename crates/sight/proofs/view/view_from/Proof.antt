@@ -1,7 +1,8 @@
 -- `sight::view::view_from` meets its contract.
 use mathlib.Core.Path.{sym, _∙_}
 use denote.Ref.{now}
-use Rattle.sight.proofs.Views.{plan-refused, few-doors, corners-checked, setting-refused, setting-accepted}
+use Rattle.plan.proofs.Accepted.{few-doors}
+use Rattle.sight.proofs.Views.{plan-refused, corners-checked, setting-refused, setting-accepted}
 use borrow.Author.Needs.{needs}
 use Rattle.sight.proofs.view.view_from.Statement.{statement}
 use Rattle.sight.proofs.view.view_from.Tie as tie
@@ -16,7 +17,7 @@ enum-known-plan : tie.Need-enum-known-plan
 enum-known-plan c = search needs
 
 is-wrong-requires : tie.Need-is-wrong-requires
-is-wrong-requires c κs = few-doors (now (c .before .before .before .before .before .before .args .corners)) (now (c .before .before .before .before .before .before .args .cells)) (now (c .before .before .before .before .before .before .args .doors)) (c .before .before .before .before .before .before .args .setting) (c .before .before .before .before .before .before .args .stand) (c .before .before .before .before .before .before .args .room) (sym (c .before .before .before .check .ensures) ∙ (c .before .plan .given .1))
+is-wrong-requires c κs = few-doors (now (c .before .before .before .before .before .before .args .corners)) (now (c .before .before .before .before .before .before .args .cells)) (now (c .before .before .before .before .before .before .args .doors)) (sym (c .before .before .before .check .ensures) ∙ (c .before .plan .given .1))
 
 returns : tie.Need-returns
 returns c = setting-refused (now (c .before .before .before .before .before .before .before .before .args .corners)) (now (c .before .before .before .before .before .before .before .before .args .cells)) (now (c .before .before .before .before .before .before .before .before .args .doors)) (c .before .before .before .before .before .before .before .before .args .setting) (c .before .before .before .before .before .before .before .before .args .stand) (c .before .before .before .before .before .before .before .before .args .room) (sym (c .before .before .before .before .before .check .ensures) ∙ (c .before .before .before .plan .given .1)) (c .before .is-wrong .ensures) (c .if1 .taken)
