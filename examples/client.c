@@ -19,8 +19,8 @@ int main(void)
     uint64_t reply[MANOPLUEA_REPLY], row;
 
     /* No doors: a list of no numbers may be null. */
-    manopluea_list_point(corners, 2 * CORNERS, cells, 6 * CELLS, NULL, 0, 0, 6.0, 3.0, table, 3 * CORNERS, reply,
-                         MANOPLUEA_REPLY);
+    manopluea_list_point(corners, 2 * CORNERS, cells, 6 * CELLS, NULL, 0, MANOPLUEA_TRIANGLES, 0, 6.0, 3.0, table,
+                         3 * CORNERS, reply, MANOPLUEA_REPLY);
     if (reply[0] != MANOPLUEA_DONE) {
         printf("refused %" PRIu64 " %" PRIu64 "\n", reply[0], reply[1]);
         return 1;

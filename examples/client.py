@@ -6,6 +6,7 @@ import ctypes
 import sys
 
 WALL = 65535
+TRIANGLES = 2
 CORNERS = [0, 0, 10, 0, 10, 10, 0, 10]
 CELLS = [0, 1, 2, WALL, WALL, 1, 0, 2, 3, 0, WALL, WALL]
 DOORS = [2]
@@ -17,14 +18,14 @@ def lend(number, numbers):
 
 
 def main(library):
-    plan = [*lend(ctypes.c_int32, CORNERS), *lend(ctypes.c_uint16, CELLS), *lend(ctypes.c_uint16, DOORS)]
-    setting, x, y = ctypes.c_uint64(0), ctypes.c_double(6), ctypes.c_double(3)
+    lists = *lend(ctypes.c_int32, CORNERS), *lend(ctypes.c_uint16, CELLS), *lend(ctypes.c_uint16, DOORS)
+    kind, setting, x, y = ctypes.c_uint16(TRIANGLES), ctypes.c_uint64(0), ctypes.c_double(6), ctypes.c_double(3)
     table, room = lend(ctypes.c_uint16, [0] * (3 * len(CORNERS) // 2))
-    reply, five = lend(ctypes.c_uint64, [0] * 5)
+    reply, seven = lend(ctypes.c_uint64, [0] * 7)
     listing = ctypes.CDLL(library).manopluea_list_point
     listing.restype = None
-    listing(*plan, setting, x, y, table, room, reply, five)
-    number, place, rows, crossings, _ = reply
+    listing(*lists, kind, setting, x, y, table, room, reply, seven)
+    number, place, rows, crossings, *_ = reply
     if number != 0:
         sys.exit(f"refused {number} {place}")
     print("rows", rows, "crossings", crossings)

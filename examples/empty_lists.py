@@ -5,7 +5,7 @@
 import ctypes
 import sys
 
-from client import CELLS, CORNERS, lend
+from client import CELLS, CORNERS, TRIANGLES, lend
 
 FRAME, SIZE, ROOM, ROWS = 1, 2, 11, 13
 NULL = None, ctypes.c_size_t(0)
@@ -16,6 +16,7 @@ TABLE = lend(ctypes.c_uint16, [0] * 12)
 MORNING = lend(ctypes.c_double, [-1, 6, 3])
 REPLIES = lend(ctypes.c_uint64, [0] * 3)
 TEXT = lend(ctypes.c_uint8, bytes(36928))
+KIND = ctypes.c_uint16(TRIANGLES)
 SETTING, CORNER, DOOR, SHUT = ctypes.c_uint64(0), ctypes.c_uint16(0), ctypes.c_size_t(0), ctypes.c_bool(True)
 AT = ctypes.c_double(6), ctypes.c_double(3)
 STANDS = {"point": AT, "offset": (CORNER, *AT)}
@@ -25,7 +26,7 @@ def main(library):
     library = ctypes.CDLL(library)
 
     def ask(function, *arguments):
-        reply = lend(ctypes.c_uint64, [7] * 5)
+        reply = lend(ctypes.c_uint64, [7] * 7)
         call = library[f"manopluea_{function}"]
         call.restype = None
         call(*arguments, *NULL)  # a reply of no numbers: nothing at all is done
@@ -37,29 +38,29 @@ def main(library):
         if replied != [number, 0, *values]:
             sys.exit(f"{function} replied {replied}, not {number} with the values {values}")
 
-    none, counts = [0, 0, 0], [4, 2, 0]
-    expect(SIZE, none, "check", *NULL, *NULL, *NULL)
-    expect(0, counts, "check", *PLAN, *NULL)
-    expect(ROOM, none, "write", *PLAN, *NULL, *NULL)
-    expect(0, counts, "write", *PLAN, *NULL, *FILE)
+    none, counts, listed = [0, 0, 0, 0, 0], [4, 2, 0, 0, 0], [4, 1, 0, 0, 0]
+    expect(SIZE, none, "check", *NULL, *NULL, *NULL, KIND)
+    expect(0, counts, "check", *PLAN, *NULL, KIND)
+    expect(ROOM, none, "write", *PLAN, *NULL, KIND, *NULL)
+    expect(0, counts, "write", *PLAN, *NULL, KIND, *FILE)
     expect(FRAME, none, "read", *NULL, *NULL, *NULL, *NULL)
     expect(ROOM, none, "read", *FILE, *NULL, *NULL, *NULL)
-    expect(0, counts, "read", *FILE, *PLAN, *NULL)
-    for kind, stand in STANDS.items():
-        expect(0, none, f"find_{kind}", *PLAN, *NULL, *stand)
-        expect(ROOM, none, f"list_{kind}", *PLAN, *NULL, SETTING, *stand, *NULL)
-        expect(0, [4, 1, 0], f"list_{kind}", *PLAN, *NULL, SETTING, *stand, *TABLE)
-        change = f"change_{kind}", *PLAN, *ONE_DOOR, SETTING, *stand, *NULL, DOOR, SHUT
+    expect(0, [4, 2, 0, TRIANGLES, 12], "read", *FILE, *PLAN, *NULL)
+    for form, stand in STANDS.items():
+        expect(0, none, f"find_{form}", *PLAN, *NULL, KIND, *stand)
+        expect(ROOM, none, f"list_{form}", *PLAN, *NULL, KIND, SETTING, *stand, *NULL)
+        expect(0, listed, f"list_{form}", *PLAN, *NULL, KIND, SETTING, *stand, *TABLE)
+        change = f"change_{form}", *PLAN, *ONE_DOOR, KIND, SETTING, *stand, *NULL, DOOR, SHUT
         expect(ROOM, none, *change, *NULL)
         expect(ROWS, none, *change, *TABLE)
-    morning = "list_stands", *PLAN, *NULL, SETTING
-    expect(SIZE, none, "list_stands", *NULL, *NULL, *NULL, SETTING, *NULL, *NULL, *NULL)
+    morning = "list_stands", *PLAN, *NULL, KIND, SETTING
+    expect(SIZE, none, "list_stands", *NULL, *NULL, *NULL, KIND, SETTING, *NULL, *NULL, *NULL)
     expect(0, none, *morning, *NULL, *NULL, *NULL)
     expect(ROOM, none, *morning, *MORNING, *NULL, *REPLIES)
     expect(ROOM, none, *morning, *MORNING, *TABLE, *NULL)
-    expect(0, [4, 1, 0], *morning, *MORNING, *TABLE, *REPLIES)
+    expect(0, listed, *morning, *MORNING, *TABLE, *REPLIES)
     expect(ROOM, none, "print", *NULL, *NULL)
-    expect(0, [len("refused 1 0\n"), 0, 0], "print", *NULL, *TEXT)
+    expect(0, [len("refused 1 0\n"), 0, 0, 0, 0], "print", *NULL, *TEXT)
 
 
 if __name__ == "__main__":

@@ -27,8 +27,8 @@ int main(void)
     const uint16_t *row = table;
     int stand;
 
-    manopluea_list_stands(corners, 2 * CORNERS, cells, 6 * CELLS, NULL, 0, 0, stands, 3 * STANDS, table,
-                          3 * CORNERS * STANDS, replies, 3 * STANDS, reply, MANOPLUEA_REPLY);
+    manopluea_list_stands(corners, 2 * CORNERS, cells, 6 * CELLS, NULL, 0, MANOPLUEA_TRIANGLES, 0, stands, 3 * STANDS,
+                          table, 3 * CORNERS * STANDS, replies, 3 * STANDS, reply, MANOPLUEA_REPLY);
     if (reply[0] != MANOPLUEA_DONE) {
         printf("refused %" PRIu64 " %" PRIu64 "\n", reply[0], reply[1]);
         return 1;

@@ -13,20 +13,29 @@
  *
  *   Stack. A call needs at most MANOPLUEA_STACK bytes. With less, the process may be ended by a signal at the guard
  *   page below its stack. Sight goes through no more than 2999 lines, one call within the other; on a floor as deep as
- *   that a listing was measured at 700 KiB, a morning's 32 stands at 700 too, a door change at 712 and printing, which
- *   takes the most, at 760. The other calls need 60 KiB. The number stated is rounded up from that, with a quarter of
- *   it to spare.
+ *   that a listing was measured at 1600 KiB and printing, which takes the most, at 1720, on x86-64; on AArch64 both took
+ *   less. The number stated is rounded up from that.
  *
  * There is nothing else to keep: no list, number or setting is wrong input, and every call returns. A call is
  * reentrant and keeps no state: several threads may make calls at once.
  *
- *   corners  two numbers a corner: x, y, in millimetres
- *   cells    six numbers a cell: three corner numbers, then three neighbours or MANOPLUEA_WALL
- *   doors    one number a door: a face, which is 3*cell + side
+ * A plan is three lists, and the kind that its cells are in:
  *
- * Reply. Five numbers: reply[0] number, reply[1] place, reply[2..4] up to three values; those that a call has no use
- * for are 0. On a refusal the three values are 0. Numbers beyond the five keep their values. Where reply_length is
- * below 5, the call does nothing at all: no lent memory is touched, the reply neither.
+ *   corners  two numbers a corner: x, y, in millimetres
+ *   cells    of kind MANOPLUEA_TRIANGLES, six numbers a cell: three corner numbers, then three neighbours;
+ *            of kind MANOPLUEA_POLYGONS, a count n from MANOPLUEA_LEAST_SIDES to MANOPLUEA_MOST_SIDES, then n corner
+ *            numbers, then n neighbours: 7 to 17 numbers a cell, and up to 17*3000 in the list
+ *   doors    one number a door: a face
+ *
+ * A cell's corners stand counter-clockwise; side s runs from its corner s to the next one, the last side to its corner
+ * 0. Neighbour s, a cell or MANOPLUEA_WALL, lies across side s. Faces are numbered in the order of the list, the sides
+ * of a cell one after another: in a list of triangles a face is 3*cell + side. Any number may be passed as the kind;
+ * one that is neither of the two is refused with 1. Check, finding, listing, a morning and the door change answer a
+ * plan of triangles alike in either kind.
+ *
+ * Reply. Seven numbers: reply[0] number, reply[1] place, reply[2..6] up to five values; those that a call has no use
+ * for are 0. On a refusal the five values are 0. Numbers beyond the seven keep their values. Where reply_length is
+ * below 7, the call does nothing at all: no lent memory is touched, the reply neither.
  *
  * The lowest number that applies is the reply. A refusal returns its number and place only, and every lent table, list
  * and file keeps its contents. On 0, numbers and bytes beyond those written keep their old values. Each call checks
@@ -34,7 +43,8 @@
  *
  * Each promise below is proved: crates/exports/specs/Reply.antt defines what a call leaves in the lent memory and in
  * the reply as a function of its input, and the call's contract says that it leaves exactly that. The stack is not
- * proved but measured: rust/tests/header.rs runs every function on the deepest floor with no more than is stated.
+ * proved but measured: rust/tests/header.rs runs every function on the deepest floors known, in either kind, and on a
+ * plan of the largest size with no more than is stated.
  */
 #ifndef MANOPLUEA_H
 #define MANOPLUEA_H
@@ -48,7 +58,7 @@ extern "C" {
 #endif
 
 /* Counts up where a function, a number or a promise of this header changes. */
-#define MANOPLUEA_VERSION 2
+#define MANOPLUEA_VERSION 3
 
 /* The limits of a plan. A coordinate lies between -MANOPLUEA_MOST_COORDINATE and MANOPLUEA_MOST_COORDINATE. */
 #define MANOPLUEA_LEAST_CORNERS 3
@@ -57,6 +67,14 @@ extern "C" {
 #define MANOPLUEA_MOST_CELLS 3000
 #define MANOPLUEA_MOST_DOORS 64
 #define MANOPLUEA_MOST_COORDINATE 536870912
+
+/* How many corners a cell of a list of kind MANOPLUEA_POLYGONS has, and so how many sides. */
+#define MANOPLUEA_LEAST_SIDES 3
+#define MANOPLUEA_MOST_SIDES 8
+
+/* The kinds that cells are in; in a plan file, the kinds of their record. */
+#define MANOPLUEA_TRIANGLES 2
+#define MANOPLUEA_POLYGONS 12
 
 /* The neighbour that means wall. */
 #define MANOPLUEA_WALL 65535
@@ -67,8 +85,8 @@ extern "C" {
 /* In a list of stands, what a stand that is a point has in place of a corner. */
 #define MANOPLUEA_POINT (-1.0)
 
-/* The bytes of the largest plan file. */
-#define MANOPLUEA_MOST_FILE 52530
+/* The bytes of the largest plan file: 2048 corners, 3000 cells of 8 corners, 64 doors. */
+#define MANOPLUEA_MOST_FILE 118530
 
 /* The bytes of the longest input of printing: a longer one is refused, in print. */
 #define MANOPLUEA_MOST_INPUT 65536
@@ -77,19 +95,22 @@ extern "C" {
 #define MANOPLUEA_TEXT 36928
 
 /* The numbers of a reply. */
-#define MANOPLUEA_REPLY 5
+#define MANOPLUEA_REPLY 7
 
 /* The bytes of stack that a call needs at most. */
-#define MANOPLUEA_STACK 1048576
+#define MANOPLUEA_STACK 2097152
 
 /* What reply[0] is, and where reply[1] is a place other than 0. A morning's single stands have these numbers too. */
 enum manopluea_number {
     MANOPLUEA_DONE = 0,
-    MANOPLUEA_FRAME = 1,     /* not the three records, or a body not a multiple of 8, 12, 2; lists not of 2, 6, 1;
-                                stands not of 3 */
+    MANOPLUEA_FRAME = 1,     /* not the three records; a kind that is neither of the two; corners not of 8 bytes each,
+                                or as a list not of 2 numbers, doors not of 2 bytes; cells not cut into whole ones: a
+                                leftover, a cell running past the end, a count of corners outside 3 to 8; stands not
+                                of 3 numbers */
     MANOPLUEA_SIZE = 2,      /* a count outside the limits; more than MANOPLUEA_MOST_STANDS stands */
     MANOPLUEA_CORNER = 3,    /* a coordinate outside the limits; place: the least such corner */
-    MANOPLUEA_CELL = 4,      /* a corner number that does not exist, or a side value that is not positive; least cell */
+    MANOPLUEA_CELL = 4,      /* a corner number that does not exist, two that are equal, or a corner other than a
+                                side's own two that is not strictly left of that side; least cell */
     MANOPLUEA_NEIGHBOUR = 5, /* neither wall, nor a cell with a side that answers; least face */
     MANOPLUEA_DOOR = 6,      /* its face does not exist or is wall, or an earlier door names the line; least door */
     MANOPLUEA_SETTING = 7,   /* a bit at or above the door count */
@@ -106,12 +127,13 @@ enum manopluea_number {
  * only. */
 void manopluea_check(const int32_t *corners, size_t corners_length,
                      const uint16_t *cells, size_t cells_length,
-                     const uint16_t *doors, size_t doors_length,
+                     const uint16_t *doors, size_t doors_length, uint16_t kind,
                      uint64_t *reply, size_t reply_length);
 
-/* The reader. Replies 0 to 6 and 11. On 0 the values are the counts of corners, cells and doors, and the three lists
- * hold the numbers of the file from their beginnings on: 2*corners, 6*cells and doors of them. Writing them again
- * gives the same bytes. */
+/* The reader. Replies 0 to 6 and 11. On 0 the values are the counts of corners, cells and doors, the kind that was
+ * read, MANOPLUEA_TRIANGLES or MANOPLUEA_POLYGONS, and how many numbers the list of cells has in that kind; and the
+ * three lists hold the numbers of the file from their beginnings on: 2*corners of them, as many as that, and doors.
+ * Writing them again in that kind gives the same bytes. */
 void manopluea_read(const uint8_t *file, size_t file_length,
                     int32_t *corners, size_t corners_length,
                     uint16_t *cells, size_t cells_length,
@@ -119,29 +141,29 @@ void manopluea_read(const uint8_t *file, size_t file_length,
                     uint64_t *reply, size_t reply_length);
 
 /* The writer. Replies 0 to 6 and 11. On 0 the values are the counts of corners, cells and doors, and the file holds
- * the one file of the three lists from its beginning on: 18 + 8*corners + 12*cells + 2*doors bytes. Reading it
- * returns those lists. */
+ * the one file of the three lists from its beginning on: 18 + 4*corners_length + 2*cells_length + 2*doors_length
+ * bytes. The kind is that of its second record. Reading it returns those lists and that kind. */
 void manopluea_write(const int32_t *corners, size_t corners_length,
                      const uint16_t *cells, size_t cells_length,
-                     const uint16_t *doors, size_t doors_length,
+                     const uint16_t *doors, size_t doors_length, uint16_t kind,
                      uint8_t *file, size_t file_length,
                      uint64_t *reply, size_t reply_length);
 
 /* Finding. Replies 0 to 6 and 8 to 10. On 0 the first value is the stand's cell: the least-numbered cell that holds
- * it strictly inside. Writes to the reply only.
+ * it strictly inside, which is strictly left of every side. Writes to the reply only.
  *
  * The stand is a point, or an offset from a corner, in millimetres. A number is accepted exactly when it is a whole
  * number of millimetres within the coordinate limits; minus zero reads as 0. For an offset the corner must exist, and
  * the sums must also lie within the limits. */
 void manopluea_find_point(const int32_t *corners, size_t corners_length,
                           const uint16_t *cells, size_t cells_length,
-                          const uint16_t *doors, size_t doors_length,
+                          const uint16_t *doors, size_t doors_length, uint16_t kind,
                           double x, double y,
                           uint64_t *reply, size_t reply_length);
 
 void manopluea_find_offset(const int32_t *corners, size_t corners_length,
                            const uint16_t *cells, size_t cells_length,
-                           const uint16_t *doors, size_t doors_length,
+                           const uint16_t *doors, size_t doors_length, uint16_t kind,
                            uint16_t corner, double dx, double dy,
                            uint64_t *reply, size_t reply_length);
 
@@ -153,14 +175,14 @@ void manopluea_find_offset(const int32_t *corners, size_t corners_length,
  * finding. */
 void manopluea_list_point(const int32_t *corners, size_t corners_length,
                           const uint16_t *cells, size_t cells_length,
-                          const uint16_t *doors, size_t doors_length,
+                          const uint16_t *doors, size_t doors_length, uint16_t kind,
                           uint64_t setting, double x, double y,
                           uint16_t *table, size_t table_length,
                           uint64_t *reply, size_t reply_length);
 
 void manopluea_list_offset(const int32_t *corners, size_t corners_length,
                            const uint16_t *cells, size_t cells_length,
-                           const uint16_t *doors, size_t doors_length,
+                           const uint16_t *doors, size_t doors_length, uint16_t kind,
                            uint64_t setting, uint16_t corner, double dx, double dy,
                            uint16_t *table, size_t table_length,
                            uint64_t *reply, size_t reply_length);
@@ -182,7 +204,7 @@ void manopluea_list_offset(const int32_t *corners, size_t corners_length,
  * numbers. */
 void manopluea_list_stands(const int32_t *corners, size_t corners_length,
                            const uint16_t *cells, size_t cells_length,
-                           const uint16_t *doors, size_t doors_length,
+                           const uint16_t *doors, size_t doors_length, uint16_t kind,
                            uint64_t setting,
                            const double *stands, size_t stands_length,
                            uint16_t *table, size_t table_length,
@@ -195,7 +217,7 @@ void manopluea_list_stands(const int32_t *corners, size_t corners_length,
  * The given list and the table do not overlap. */
 void manopluea_change_point(const int32_t *corners, size_t corners_length,
                             const uint16_t *cells, size_t cells_length,
-                            const uint16_t *doors, size_t doors_length,
+                            const uint16_t *doors, size_t doors_length, uint16_t kind,
                             uint64_t setting, double x, double y,
                             const uint16_t *given, size_t given_length,
                             size_t door, bool shut,
@@ -204,16 +226,16 @@ void manopluea_change_point(const int32_t *corners, size_t corners_length,
 
 void manopluea_change_offset(const int32_t *corners, size_t corners_length,
                              const uint16_t *cells, size_t cells_length,
-                             const uint16_t *doors, size_t doors_length,
+                             const uint16_t *doors, size_t doors_length, uint16_t kind,
                              uint64_t setting, uint16_t corner, double dx, double dy,
                              const uint16_t *given, size_t given_length,
                              size_t door, bool shut,
                              uint16_t *table, size_t table_length,
                              uint64_t *reply, size_t reply_length);
 
-/* What the printing program prints for an input: a query record (kind 4 or 5), then a plan. Replies 0 and 11. On 0
- * the first value is the number of bytes printed, which stand in the text from its beginning; a refused query or plan
- * is printed too, as `refused`, its number and place. */
+/* What the printing program prints for an input: a query record (kind 4 or 5), then a plan with cells of either kind.
+ * Replies 0 and 11. On 0 the first value is the number of bytes printed, which stand in the text from its beginning; a
+ * refused query or plan is printed too, as `refused`, its number and place. */
 void manopluea_print(const uint8_t *input, size_t input_length,
                      uint8_t *text, size_t text_length,
                      uint64_t *reply, size_t reply_length);

@@ -19,21 +19,18 @@ def small(n):
     return (n % 5 - 2, n // 5 % 5 - 2)
 
 
-def containment(cell, q):
-    a, b, c = cell
-    least = min(side(a, b, q), side(b, c, q), side(c, a, q))
-    return "inside" if least > 0 else "border" if least == 0 else "outside"
+def line(a, b, c):
+    value = side(a, b, c)
+    area = "right" if value > 0 else "wrong"
+    return f"{value} {area} {'inside' if value > 0 else 'border' if value == 0 else 'outside'}"
 
 
 def lines():
     for n in range(64):
-        value = side(far(n % 4), far(n // 4 % 4), far(n // 16))
-        yield f"{value} {'right' if value > 0 else 'wrong'}"
-    for n in range(256):
-        yield containment([far(n % 4), far(n // 4 % 4), far(n // 16 % 4)], far(n // 64))
+        yield line(far(n % 4), far(n // 4 % 4), far(n // 16))
     for n in range(25):
-        yield containment([small(0), small(4), small(20)], small(n))
-        yield containment([small(0), small(23), small(4)], small(n))
+        yield line(small(0), small(18), small(n))
+        yield line(small(18), small(0), small(n))
 
 
 if __name__ == "__main__":

@@ -2,7 +2,7 @@
  * kit's emulator.
  * It reads requests from standard input and writes what each call leaves to standard output, until the input ends.
  *
- * A request is seventeen numbers of eight bytes, call, setting, corner, x, y, door, shut and the lengths of reply,
+ * A request is eighteen numbers of eight bytes, call, kind, setting, corner, x, y, door, shut and the lengths of reply,
  * replies, stands, corners, cells, doors, given, table, file and text, then the contents of those ten lists, back to
  * back. The answer is the ten lists after the call. The file of PRINT is its input. */
 #include "../../include/manopluea.h"
@@ -78,7 +78,7 @@ void *memset(void *to, int byte, size_t length)
 static void serve_one(void)
 {
     struct {
-        uint64_t call, setting, corner;
+        uint64_t call, kind, setting, corner;
         double x, y;
         uint64_t door, shut, reply, replies, stands, corners, cells, doors, given, table, file, text;
     } asked;
@@ -95,38 +95,38 @@ static void serve_one(void)
     uint16_t *cells = (uint16_t *)(corners + n), *doors = cells + m, *given = doors + k, *table = given + g;
     uint8_t *file = (uint8_t *)(table + t), *text = file + f;
     size_t length = (size_t)(text + x - lists);
-    uint16_t corner = (uint16_t)asked.corner;
+    uint16_t kind = (uint16_t)asked.kind, corner = (uint16_t)asked.corner;
     receive(lists, length);
     switch (asked.call) {
     case CHECK:
-        manopluea_check(corners, n, cells, m, doors, k, reply, r);
+        manopluea_check(corners, n, cells, m, doors, k, kind, reply, r);
         break;
     case READ:
         manopluea_read(file, f, corners, n, cells, m, doors, k, reply, r);
         break;
     case WRITE:
-        manopluea_write(corners, n, cells, m, doors, k, file, f, reply, r);
+        manopluea_write(corners, n, cells, m, doors, k, kind, file, f, reply, r);
         break;
     case FIND_POINT:
-        manopluea_find_point(corners, n, cells, m, doors, k, asked.x, asked.y, reply, r);
+        manopluea_find_point(corners, n, cells, m, doors, k, kind, asked.x, asked.y, reply, r);
         break;
     case FIND_OFFSET:
-        manopluea_find_offset(corners, n, cells, m, doors, k, corner, asked.x, asked.y, reply, r);
+        manopluea_find_offset(corners, n, cells, m, doors, k, kind, corner, asked.x, asked.y, reply, r);
         break;
     case LIST_POINT:
-        manopluea_list_point(corners, n, cells, m, doors, k, asked.setting, asked.x, asked.y, table, t, reply, r);
+        manopluea_list_point(corners, n, cells, m, doors, k, kind, asked.setting, asked.x, asked.y, table, t, reply, r);
         break;
     case LIST_OFFSET:
-        manopluea_list_offset(corners, n, cells, m, doors, k, asked.setting, corner, asked.x, asked.y, table, t, reply, r);
+        manopluea_list_offset(corners, n, cells, m, doors, k, kind, asked.setting, corner, asked.x, asked.y, table, t, reply, r);
         break;
     case LIST_STANDS:
-        manopluea_list_stands(corners, n, cells, m, doors, k, asked.setting, stands, s, table, t, replies, o, reply, r);
+        manopluea_list_stands(corners, n, cells, m, doors, k, kind, asked.setting, stands, s, table, t, replies, o, reply, r);
         break;
     case CHANGE_POINT:
-        manopluea_change_point(corners, n, cells, m, doors, k, asked.setting, asked.x, asked.y, given, g, asked.door, asked.shut, table, t, reply, r);
+        manopluea_change_point(corners, n, cells, m, doors, k, kind, asked.setting, asked.x, asked.y, given, g, asked.door, asked.shut, table, t, reply, r);
         break;
     case CHANGE_OFFSET:
-        manopluea_change_offset(corners, n, cells, m, doors, k, asked.setting, corner, asked.x, asked.y, given, g, asked.door, asked.shut, table, t,
+        manopluea_change_offset(corners, n, cells, m, doors, k, kind, asked.setting, corner, asked.x, asked.y, given, g, asked.door, asked.shut, table, t,
                                 reply, r);
         break;
     case PRINT:

@@ -1,9 +1,9 @@
-//! Times of the public calls on four floors, and of a morning's stands on one of
-//! them: of the proved library, of the second program and of plain Rust, side by
-//! side.
+//! Times of the public calls on four floors, and on one of them of a morning's
+//! stands and of its triangles merged into larger cells: of the proved library,
+//! of the second program and of plain Rust, side by side.
 
 use crate::calls::{Calls, DoorChange, Lists, Plan, Stand};
-use crate::generate::{self, Dice, Mesh};
+use crate::generate::{self, Dice, Merged, Mesh};
 use crate::paper::{self, Paper, DOORS, MOST_STANDS};
 use crate::plain;
 use std::fmt::Write;
@@ -30,6 +30,8 @@ struct Floor {
     door: usize,
     /// The first of the stands tried, as many as a morning has.
     morning: Vec<Stand>,
+    /// The same floor and doors, with every triangle merged that could be.
+    merged: Plan,
 }
 
 /// A call made on a floor.
@@ -67,8 +69,8 @@ impl Times {
     }
 }
 
-/// Times the calls on each floor and a morning on the first, the cathedral, and
-/// reports medians.
+/// Times the calls on each floor, and on the first, the cathedral, a morning and
+/// the merged cells; reports medians.
 pub fn report(proved: &dyn Calls) -> String {
     let floors = floors();
     let calls = floors.iter().map(|floor| {
@@ -80,7 +82,7 @@ pub fn report(proved: &dyn Calls) -> String {
         describe(floor, &medians(programs).map(Times::new))
     });
     let text: String = calls.collect();
-    text + &report_morning(&floors[0], proved)
+    text + &report_morning(&floors[0], proved) + "\n" + &report_merged(&floors[0], proved)
 }
 
 fn report_morning(floor: &Floor, proved: &dyn Calls) -> String {
@@ -90,6 +92,15 @@ fn report_morning(floor: &Floor, proved: &dyn Calls) -> String {
         morning_on(floor, plain::list_stands, plain::list),
     ];
     describe_morning(floor, medians(programs))
+}
+
+fn report_merged(floor: &Floor, proved: &dyn Calls) -> String {
+    let programs = [
+        merged_of(floor, proved),
+        merged_of(floor, &Paper),
+        merged_on(floor, plain::check, plain::find, plain::list),
+    ];
+    describe_merged(floor, medians(programs))
 }
 
 /// Four floors, each from the stand that crosses most lines.
@@ -110,7 +121,8 @@ fn floors() -> Vec<Floor> {
 }
 
 fn floor(name: &'static str, mesh: &Mesh, dice: &mut Dice) -> Floor {
-    let plan = with_most_doors(mesh, dice);
+    let doors = most_doors(mesh, dice);
+    let plan = mesh.plan(&doors);
     let tried: Vec<_> = (0..STANDS_TRIED)
         .map(|_| {
             let [x, y] = generate::inside(mesh, dice);
@@ -136,14 +148,22 @@ fn floor(name: &'static str, mesh: &Mesh, dice: &mut Dice) -> Floor {
         crossings,
         door,
         morning,
+        // Dice of its own, so that the floors after it stay what they were.
+        merged: Merged::whole(mesh, &doors, &mut Dice::new(2)).plan(&doors),
     }
 }
 
-fn with_most_doors(mesh: &Mesh, dice: &mut Dice) -> Plan {
+fn most_doors(mesh: &Mesh, dice: &mut Dice) -> Vec<usize> {
     let mut lines = mesh.free_lines();
     dice.shuffle(&mut lines);
     lines.truncate(*DOORS.end());
-    mesh.plan(&lines)
+    lines
+}
+
+/// How many cells a plan has that passes the check.
+fn cells(plan: &Plan) -> u64 {
+    let [_, cells, ..] = paper::check(plan.lists()).values;
+    cells
 }
 
 /// The rows and crossings that the second program lists.
@@ -240,6 +260,41 @@ fn morning_on<'a, Listed>(
     ]
 }
 
+fn merged_of<'a>(floor: &'a Floor, calls: &'a dyn Calls) -> [Call<'a>; 6] {
+    merged_on(
+        floor,
+        |lists| calls.check(lists),
+        |lists, stand| calls.find(lists, stand),
+        |lists, setting, stand, table| calls.list(lists, setting, stand, table),
+    )
+}
+
+/// Check, find and list with the floor in triangles, and then in merged cells.
+fn merged_on<'a, Checked, Found, Listed>(
+    floor: &'a Floor,
+    check: impl Fn(Lists<'a>) -> Checked + Copy + 'a,
+    find: impl Fn(Lists<'a>, Stand) -> Found + Copy + 'a,
+    list: impl Fn(Lists<'a>, u64, Stand, &mut [u16]) -> Listed + Copy + 'a,
+) -> [Call<'a>; 6] {
+    let on = |plan: &'a Plan| -> [Call<'a>; 3] {
+        let (lists, stand) = (plan.lists(), floor.stand);
+        let mut table = table(plan);
+        [
+            Box::new(move || {
+                black_box(check(lists));
+            }),
+            Box::new(move || {
+                black_box(find(lists, stand));
+            }),
+            Box::new(move || {
+                black_box(list(lists, 0, stand, &mut table));
+            }),
+        ]
+    };
+    let [[a, b, c], [d, e, f]] = [on(&floor.plan), on(&floor.merged)];
+    [a, b, c, d, e, f]
+}
+
 fn numbers(stands: &[Stand]) -> Vec<f64> {
     stands.iter().flat_map(|stand| stand.numbers()).collect()
 }
@@ -308,12 +363,42 @@ fn describe_morning(floor: &Floor, times: [[f64; 2]; 3]) -> String {
     text + &line(&format!("{stands} / {listings}"), 2, against_each)
 }
 
+fn describe_merged(floor: &Floor, times: [[f64; 6]; 3]) -> String {
+    let (given, crossings) = listing(&floor.merged, 0, floor.stand);
+    let mut text = format!(
+        "{}, merged: {} cells of {} triangles; {} rows, {crossings} crossings, {:.2} of those \
+         through triangles\n{}",
+        floor.name,
+        cells(&floor.merged),
+        cells(&floor.plan),
+        given.len() / 3,
+        crossings as f64 / floor.crossings as f64,
+        columns(),
+    );
+    let [triangles, merged] = [0, 3].map(|first| {
+        let of_each = times.each_ref();
+        of_each.map(|of| [of[first], of[first + 1], of[first + 2]])
+    });
+    for (name, figure) in [
+        ("check", (|[check, _, _]| check) as fn([f64; 3]) -> f64),
+        ("find", |[_, find, _]| find),
+        ("list", |[_, _, list]| list),
+        ("expansion (list - find)", |[_, find, list]| list - find),
+    ] {
+        let (before, after) = (triangles.map(figure), merged.map(figure));
+        text += &line(name, 0, after);
+        let ratios = [0, 1, 2].map(|program| after[program] / before[program]);
+        text += &line("  merged / triangles", 2, ratios);
+    }
+    text
+}
+
 fn heading(floor: &Floor) -> String {
     format!(
         "{}: {} corners, {} cells, {} doors; {} rows, {} crossings\n{}",
         floor.name,
         floor.plan.corners.len() / 2,
-        floor.plan.cells.len() / 6,
+        cells(&floor.plan),
         floor.plan.doors.len(),
         floor.given.len() / 3,
         floor.crossings,
@@ -340,12 +425,13 @@ fn line(name: &str, places: usize, [proved, second, plain]: [f64; 3]) -> String 
 #[cfg(test)]
 mod tests {
     use super::*;
+    use crate::calls::Reply;
 
     #[test]
     fn the_floors_are_of_their_sizes() {
         let sizes: Vec<_> = floors()
             .iter()
-            .map(|floor| (floor.plan.corners.len() / 2, floor.plan.cells.len() / 6))
+            .map(|floor| (floor.plan.corners.len() / 2, cells(&floor.plan)))
             .collect();
         assert_eq!(
             sizes,
@@ -369,9 +455,42 @@ mod tests {
             assert_eq!(plain[..3 * counts.rows], floor.given, "{}", floor.name);
             let mut proved = table(&floor.plan);
             let reply = crate::proved::Proved.list(floor.plan.lists(), 0, floor.stand, &mut proved);
-            assert_eq!(reply.values, [counts.rows as u64, counts.crossings, 0]);
+            assert_eq!(reply, Reply::done([counts.rows as u64, counts.crossings]));
             assert_eq!(proved, plain, "{}", floor.name);
         }
+    }
+
+    /// The merged floor has fewer cells, and the same walls are seen within the
+    /// same limits, through fewer lines.
+    #[test]
+    fn the_merged_floor_lists_the_same_rows() {
+        let floor = &floors()[0];
+        let walls = |plan: &Plan| {
+            let checked = paper::Floor::check(plan.lists()).expect("it passes the check");
+            let (given, crossings) = listing(plan, 0, floor.stand);
+            let (rows, _) = given.as_chunks::<3>();
+            let seen = rows.iter();
+            let mut walls: Vec<_> = seen
+                .map(|&[face, right, left]| (checked.ends(face), right, left))
+                .collect();
+            walls.sort_unstable();
+            (walls, crossings)
+        };
+        let (triangles, merged) = (walls(&floor.plan), walls(&floor.merged));
+        assert_eq!(merged.0, triangles.0);
+        assert!(merged.1 < triangles.1);
+        assert!(cells(&floor.merged) < cells(&floor.plan) / 2);
+        let mut plain = table(&floor.merged);
+        let counts = plain::list(floor.merged.lists(), 0, floor.stand, &mut plain);
+        let counts = counts.expect("a floor can be listed");
+        let (given, crossings) = listing(&floor.merged, 0, floor.stand);
+        assert_eq!(plain[..3 * counts.rows], given);
+        assert_eq!(counts.crossings, crossings);
+        let mut proved = table(&floor.merged);
+        let lists = floor.merged.lists();
+        let reply = crate::proved::Proved.list(lists, 0, floor.stand, &mut proved);
+        assert_eq!(reply, Reply::done([counts.rows as u64, crossings]));
+        assert_eq!(proved, plain);
     }
 
     /// Each program lists the same rows for a morning, and every stand has some.
@@ -388,16 +507,13 @@ mod tests {
         let ask = |calls: &dyn Calls| {
             let (mut table, mut replies) = lent();
             let reply = calls.list_stands(lists, 0, &stands, &mut table, &mut replies);
-            (
-                reply.answer().expect("a floor can be listed"),
-                table,
-                replies,
-            )
+            (reply, table, replies)
         };
         let (mut table, mut replies) = lent();
         let counts = plain::list_stands(lists, 0, &stands, &mut table, &mut replies);
         let counts = counts.expect("a floor can be listed");
-        let plain = ([counts.rows as u64, counts.crossings, 0], table, replies);
+        let reply = Reply::done([counts.rows as u64, counts.crossings]);
+        let plain = (reply, table, replies);
         assert_eq!(ask(&Paper), plain);
         assert_eq!(ask(&crate::proved::Proved), plain);
         let (own, _) = plain.2.as_chunks();

@@ -4,23 +4,36 @@
 //! Every list, table and file is lent by the caller, so that a comparison sees
 //! each number an implementor wrote, and each number it should have left alone.
 
+/// The kind of a list of cells with three corners each, and of its record: six
+/// numbers a cell, three corners, then three neighbours.
+pub const TRIANGLES: u16 = 2;
+
+/// The kind of a list of cells with 3 to 8 corners each, and of its record: the
+/// count of a cell's corners, then its corners, then its neighbours.
+pub const POLYGONS: u16 = 12;
+
 /// A plan as its three lists of numbers, in the order and width of the file.
 #[derive(Clone, Copy, Debug)]
 pub struct Lists<'a> {
     /// Two numbers a corner: x, y.
     pub corners: &'a [i32],
-    /// Six numbers a cell: three corners, three neighbours.
+    /// The numbers of each cell, as the kind has them.
     pub cells: &'a [u16],
-    /// One number a door: a face.
+    /// One number a door: a face. Faces are numbered in the order of the cells,
+    /// the sides of a cell one after another.
     pub doors: &'a [u16],
+    /// What the cells are in: `TRIANGLES` or `POLYGONS`. Any other number is
+    /// refused.
+    pub kind: u16,
 }
 
 /// A plan that owns its lists.
-#[derive(Clone, Debug, Default, PartialEq, Eq)]
+#[derive(Clone, Debug, PartialEq, Eq)]
 pub struct Plan {
     pub corners: Vec<i32>,
     pub cells: Vec<u16>,
     pub doors: Vec<u16>,
+    pub kind: u16,
 }
 
 impl Plan {
@@ -29,6 +42,7 @@ impl Plan {
             corners: &self.corners,
             cells: &self.cells,
             doors: &self.doors,
+            kind: self.kind,
         }
     }
 }
@@ -67,17 +81,21 @@ pub struct DoorChange<'a> {
     pub shut: bool,
 }
 
-/// The reply to a call: its number, its place and up to three values.
+/// The reply to a call: its number, its place and up to five values.
 /// A refusal has the values 0.
 ///
-/// Values of reply 0: corners, cells, doors (check, read, write); the cell
-/// (find); rows, crossings (list, change); their sums (list_stands).
+/// Values of reply 0: corners, cells, doors (check, read, write), and then the
+/// kind that was read (read); the cell (find); rows, crossings (list, change);
+/// their sums (list_stands). Those that a call has no use for are 0.
 #[derive(Clone, Copy, Debug, PartialEq, Eq)]
 pub struct Reply {
     pub number: u32,
     pub place: u32,
-    pub values: [u64; 3],
+    pub values: Values,
 }
+
+/// The values of a reply.
+pub type Values = [u64; 5];
 
 /// A refusal, with its place where it has one.
 #[derive(Clone, Copy, Debug, PartialEq, Eq)]
@@ -114,7 +132,7 @@ impl Refusal {
             Refusal::Change => (12, 0),
             Refusal::Rows => (13, 0),
         };
-        // Limits keep every place below 9,000.
+        // Limits keep every place below 24,000.
         Reply::refused(number, place as u32)
     }
 
@@ -140,8 +158,10 @@ impl Refusal {
 }
 
 impl Reply {
-    /// Reply 0, with what is given back.
-    pub fn done(values: [u64; 3]) -> Reply {
+    /// Reply 0, with what is given back first; the values after it are 0.
+    pub fn done<const N: usize>(first: [u64; N]) -> Reply {
+        let mut values = [0; 5];
+        values[..N].copy_from_slice(&first);
         Reply {
             number: 0,
             place: 0,
@@ -154,7 +174,7 @@ impl Reply {
         Reply {
             number,
             place,
-            values: [0; 3],
+            values: [0; 5],
         }
     }
 
@@ -163,7 +183,7 @@ impl Reply {
     /// # Panics
     ///
     /// Where the number is beyond 13, which no call replies.
-    pub fn answer(self) -> Result<[u64; 3], Refusal> {
+    pub fn answer(self) -> Result<Values, Refusal> {
         if self.number == 0 {
             return Ok(self.values);
         }

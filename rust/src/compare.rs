@@ -7,7 +7,7 @@ mod trial;
 pub use shrink::smallest;
 pub use trial::{Asked, AskedOfBytes, Both, Outcome, Trial};
 
-use crate::calls::Calls;
+use crate::calls::{Calls, POLYGONS, TRIANGLES};
 use crate::generate::{self, Case};
 use std::fmt;
 use std::num::NonZero;
@@ -22,8 +22,8 @@ const PROGRAM_EVERY: u64 = 50;
 #[derive(Clone, Debug, Default, PartialEq, Eq)]
 pub struct Tally {
     pub cases: u64,
-    /// By call, then by reply number.
-    pub replies: [[u64; 14]; 8],
+    /// By the kind of the plan's cells, then by call, then by reply number.
+    pub replies: [[[u64; 14]; 8]; 3],
     /// Of a morning's first stand, of those between, and of its last: by their
     /// own reply's number.
     pub stands: [[u64; 14]; 3],
@@ -31,6 +31,8 @@ pub struct Tally {
     pub directions: u64,
     /// Door changes tried for demand 3.
     pub changes: u64,
+    /// Plans of triangles that were put in the other kind too.
+    pub either: u64,
     pub rows: u64,
     pub crossings: u64,
 }
@@ -52,14 +54,23 @@ const CALL_NAMES: [&str; 8] = [
     "check", "read", "write", "find", "list", "stands", "change", "print",
 ];
 
+/// The kinds that cells come in, in the order of the tally; lists and files of
+/// neither come last.
+const KIND_NAMES: [&str; 3] = ["kind 2", "kind 12", "neither"];
+
 /// The places of stands in a morning, in the order of the tally.
 const PLACE_NAMES: [&str; 3] = ["first", "between", "last"];
 
 impl Tally {
-    pub fn count(&mut self, call: Call, number: u32) {
+    pub fn count(&mut self, call: Call, kind: u16, number: u32) {
+        let kind = match kind {
+            TRIANGLES => 0,
+            POLYGONS => 1,
+            _ => 2,
+        };
         // A number the paper does not know is a mismatch, or both agree on
         // it; the tally has no place for it.
-        if let Some(count) = self.replies[call as usize].get_mut(number as usize) {
+        if let Some(count) = self.replies[kind][call as usize].get_mut(number as usize) {
             *count += 1;
         }
     }
@@ -80,12 +91,15 @@ impl Tally {
 
     /// Both tallies as one.
     fn with(mut self, other: &Tally) -> Tally {
-        let sums = self.replies.iter_mut().chain(&mut self.stands).flatten();
-        let counts = other.replies.iter().chain(&other.stands).flatten();
+        let of_calls = self.replies.iter_mut().flatten();
+        let sums = of_calls.chain(&mut self.stands).flatten();
+        let of_calls = other.replies.iter().flatten();
+        let counts = of_calls.chain(&other.stands).flatten();
         sums.zip(counts).for_each(|(sum, count)| *sum += count);
         self.cases += other.cases;
         self.directions += other.directions;
         self.changes += other.changes;
+        self.either += other.either;
         self.rows += other.rows;
         self.crossings += other.crossings;
         self
@@ -93,23 +107,30 @@ impl Tally {
 
     /// How often a reply number came up in any call.
     pub fn of_number(&self, number: usize) -> u64 {
-        self.replies.iter().map(|replies| replies[number]).sum()
+        let of_calls = self.replies.iter().flatten();
+        of_calls.map(|replies| replies[number]).sum()
     }
 }
 
 impl fmt::Display for Tally {
     fn fmt(&self, f: &mut fmt::Formatter<'_>) -> fmt::Result {
-        write!(f, "{:>6}", "reply")?;
-        CALL_NAMES
-            .iter()
-            .try_for_each(|name| write!(f, "{name:>9}"))?;
-        writeln!(f, "{:>9}", "all")?;
-        for number in 0..14 {
-            write!(f, "{number:>6}")?;
-            for replies in &self.replies {
-                write!(f, "{:>9}", replies[number])?;
+        for (name, of_calls) in KIND_NAMES.iter().zip(&self.replies) {
+            write!(f, "{name:>7}")?;
+            CALL_NAMES
+                .iter()
+                .try_for_each(|name| write!(f, "{name:>9}"))?;
+            writeln!(f, "{:>9}", "all")?;
+            for number in 0..14 {
+                let replies = of_calls.map(|replies| replies[number]);
+                let all: u64 = replies.iter().sum();
+                if all > 0 {
+                    write!(f, "{number:>7}")?;
+                    replies
+                        .iter()
+                        .try_for_each(|count| write!(f, "{count:>9}"))?;
+                    writeln!(f, "{all:>9}")?;
+                }
             }
-            writeln!(f, "{:>9}", self.of_number(number))?;
         }
         for (name, replies) in PLACE_NAMES.iter().zip(&self.stands) {
             let numbers = replies.iter().enumerate();
@@ -122,7 +143,8 @@ impl fmt::Display for Tally {
         writeln!(f, "cases {}", self.cases)?;
         writeln!(f, "rows {} crossings {}", self.rows, self.crossings)?;
         writeln!(f, "demand 2: {} directions", self.directions)?;
-        writeln!(f, "demand 3: {} door changes", self.changes)
+        writeln!(f, "demand 3: {} door changes", self.changes)?;
+        writeln!(f, "in either kind: {} plans of triangles", self.either)
     }
 }
 
@@ -242,6 +264,10 @@ fn trials(case: Case) -> Vec<Trial> {
             table: case.table,
         },
         Asked::RoundTrip,
+        Asked::EitherKind {
+            shut: case.shut,
+            given: case.given,
+        },
         Asked::Demand2 {
             directions: case.directions,
         },

@@ -1,6 +1,6 @@
-//! The twelve measured examples of document 01.
+//! The twelve measured examples of document 01, and plan Q in larger cells.
 
-use crate::calls::{Calls, Plan, Stand};
+use crate::calls::{Calls, Plan, Stand, POLYGONS, TRIANGLES};
 use crate::paper::{Row, WALL};
 
 /// What an example replies: its rows and crossings, or a refusal's number.
@@ -41,6 +41,17 @@ pub fn plan_q() -> Plan {
         corners: vec![0, 0, 10, 0, 10, 10, 0, 10],
         cells: vec![0, 1, 2, WALL, WALL, 1, 0, 2, 3, 0, WALL, WALL],
         doors: vec![2],
+        kind: TRIANGLES,
+    }
+}
+
+/// Plan Q as one cell of four corners, without its door.
+pub fn plan_q_as_one_cell() -> Plan {
+    Plan {
+        cells: vec![4, 0, 1, 2, 3, WALL, WALL, WALL, WALL],
+        doors: vec![],
+        kind: POLYGONS,
+        ..plan_q()
     }
 }
 

@@ -3,13 +3,17 @@
 
 mod damage;
 mod dice;
+mod extremes;
 mod floors;
+mod merge;
 mod mesh;
 mod morning;
 mod stands;
 
 pub use dice::Dice;
+pub use extremes::{fullest, longest_fans};
 pub use floors::{cathedral, corridor, deepest, fence, largest};
+pub use merge::{in_other_kind, Merged};
 pub use mesh::{Mesh, Spot};
 pub use stands::inside;
 
@@ -125,7 +129,7 @@ pub fn case(seed: u64, number: u64) -> Case {
         stand = stands::mapped(stand, &map);
         morning::map(&mut stands, &map);
     }
-    let mut plan = mesh.plan(&doors(&mesh, dice));
+    let mut plan = plan(&mesh, dice);
     let directions = directions(&mesh, stand, dice);
     if dice.percent(20) {
         damage::damage_plan(&mut plan, dice);
@@ -153,7 +157,8 @@ pub fn case(seed: u64, number: u64) -> Case {
     }
 }
 
-fn floor(dice: &mut Dice) -> Mesh {
+/// A random floor, now and then of the largest size.
+pub fn floor(dice: &mut Dice) -> Mesh {
     if dice.below(LARGEST_EVERY) == 0 {
         let pillars = dice.pick(&[0, 60, 900]);
         return floors::largest(pillars, dice);
@@ -164,6 +169,18 @@ fn floor(dice: &mut Dice) -> Mesh {
         floors::fill_up(&mut mesh, corners, !corners || dice.percent(30));
     }
     mesh
+}
+
+/// The floor's plan with doors: as triangles in either kind, or with some of
+/// them merged.
+fn plan(mesh: &Mesh, dice: &mut Dice) -> Plan {
+    let doors = doors(mesh, dice);
+    let triangles = || mesh.plan(&doors);
+    match dice.below(10) {
+        0..=3 => triangles(),
+        4 => in_other_kind(&triangles()).expect("triangles come in either kind"),
+        _ => Merged::random(mesh, &doors, dice).plan(&doors),
+    }
 }
 
 /// Doors on free lines, each named from either face.
@@ -312,7 +329,8 @@ fn direction(mesh: &Mesh, q: Spot, dice: &mut Dice) -> Direction {
 #[cfg(test)]
 mod tests {
     use super::*;
-    use crate::paper::{Floor, CELLS, COORDINATES, CORNERS};
+    use crate::calls::{POLYGONS, TRIANGLES};
+    use crate::paper::{cut_cells, Floor, CELLS, COORDINATES, CORNERS};
 
     fn meshes(count: u64) -> impl Iterator<Item = (Mesh, Dice)> {
         (0..count).map(|number| {
@@ -324,14 +342,70 @@ mod tests {
     #[test]
     fn undamaged_plans_pass_the_check() {
         for (number, (mut mesh, mut dice)) in meshes(3_000).enumerate() {
-            let doors = doors(&mesh, &mut dice);
             if number % 2 == 0 {
                 let map = floors::slant(mesh.reach(), &mut dice);
                 mesh.map_corners(&map);
             }
-            let checked = Floor::check(mesh.plan(&doors).lists());
-            assert!(checked.is_ok(), "floor {number}: {:?}", checked.err());
+            for _ in 0..3 {
+                let checked = Floor::check(plan(&mesh, &mut dice).lists());
+                assert!(checked.is_ok(), "floor {number}: {:?}", checked.err());
+            }
         }
+    }
+
+    #[test]
+    fn cells_of_every_size_come_up_and_doors_between_them() {
+        let mut sizes = [0; 9];
+        let mut doors = [[0; 9]; 9];
+        for (mesh, mut dice) in meshes(3_000) {
+            let plan = plan(&mesh, &mut dice);
+            let floor = Floor::check(plan.lists()).expect("it passes the check");
+            let size = |cell| floor.faces(cell).len();
+            (0..floor.cell_count()).for_each(|cell| sizes[size(cell)] += 1);
+            for door in 0..floor.doors().len() {
+                let [a, b] = floor
+                    .door_faces(door)
+                    .map(|face| size(floor.cell_with(face)));
+                doors[a.min(b)][a.max(b)] += 1;
+            }
+        }
+        assert!(sizes[3..].iter().all(|&count| count > 100), "{sizes:?}");
+        for (least, doors) in doors.iter().enumerate().skip(3) {
+            let some = doors[least..].iter().all(|&count| count > 0);
+            assert!(
+                some,
+                "between {least} corners and as many or more: {doors:?}"
+            );
+        }
+    }
+
+    /// Kinds, counts of corners and cuts that are refused.
+    #[test]
+    fn lists_of_every_kind_come_up() {
+        let (mut triangles, mut polygons, mut either, mut neither) = (0, 0, 0, [0; 5]);
+        let (mut counts, mut cut) = ([0; 5], 0);
+        for number in 0..8_000 {
+            let Plan { cells, kind, .. } = case(8, number).scene.plan;
+            let (whole, rest) = cut_cells(kind, &cells);
+            triangles += usize::from(kind == TRIANGLES);
+            polygons += usize::from(kind == POLYGONS);
+            let all_triangles = whole.iter().all(|cell| cell.corners.len() == 3);
+            either += usize::from(kind == POLYGONS && rest.is_empty() && all_triangles);
+            for (at, wrong) in [0, 1, 3, 13, u16::MAX].iter().enumerate() {
+                neither[at] += usize::from(kind == *wrong);
+            }
+            if kind == POLYGONS {
+                for (at, wrong) in [0, 2, 9, 1, u16::MAX].iter().enumerate() {
+                    counts[at] += usize::from(rest.first() == Some(wrong));
+                }
+                let count = rest.first().copied().unwrap_or(0);
+                cut += usize::from((3..=8).contains(&count));
+            }
+        }
+        assert!(triangles > 1_000 && polygons > 1_000 && either > 500);
+        assert!(neither.iter().all(|&count| count > 0), "{neither:?}");
+        assert!(counts.iter().all(|&count| count > 0), "{counts:?}");
+        assert!(cut > 20, "{cut}");
     }
 
     #[test]

@@ -1,7 +1,7 @@
 //! The proved library for a Rust program: slices in, an enum out.
 //!
-//! `include/manopluea.h` has the promise of each call. A refusal leaves every
-//! lent list, table and file as it was.
+//! `include/manopluea.h` has the promise of each call. The lists say which kind
+//! their cells are in. A refusal leaves every lent list, table and file as it was.
 
 use crate::calls::{Calls, DoorChange, Lists, Refusal, Reply, Stand};
 use crate::proved::Proved;
@@ -14,6 +14,15 @@ pub struct Counts {
     pub doors: usize,
 }
 
+/// What was read: how many of each, the kind that the cells are in,
+/// `TRIANGLES` or `POLYGONS`, and how many numbers their list has.
+#[derive(Clone, Copy, Debug, PartialEq, Eq)]
+pub struct Read {
+    pub counts: Counts,
+    pub kind: u16,
+    pub numbers: usize,
+}
+
 /// How many rows stand in the table, and how many free lines were crossed.
 #[derive(Clone, Copy, Debug, PartialEq, Eq)]
 pub struct Listed {
@@ -22,7 +31,7 @@ pub struct Listed {
 }
 
 fn counts(reply: Reply) -> Result<Counts, Refusal> {
-    let [corners, cells, doors] = reply.answer()?.map(|count| count as usize);
+    let [corners, cells, doors, ..] = reply.answer()?.map(|count| count as usize);
     Ok(Counts {
         corners,
         cells,
@@ -31,7 +40,7 @@ fn counts(reply: Reply) -> Result<Counts, Refusal> {
 }
 
 fn listed(reply: Reply) -> Result<Listed, Refusal> {
-    let [rows, crossings, _] = reply.answer()?;
+    let [rows, crossings, ..] = reply.answer()?;
     Ok(Listed {
         rows: rows as usize,
         crossings,
@@ -49,11 +58,17 @@ pub fn read(
     corners: &mut [i32],
     cells: &mut [u16],
     doors: &mut [u16],
-) -> Result<Counts, Refusal> {
-    counts(Proved.read(file, corners, cells, doors))
+) -> Result<Read, Refusal> {
+    let reply = Proved.read(file, corners, cells, doors);
+    let [.., kind, numbers] = reply.answer()?;
+    Ok(Read {
+        counts: counts(reply)?,
+        kind: kind as u16,
+        numbers: numbers as usize,
+    })
 }
 
-/// The writer: the one file of three lists.
+/// The writer: the one file of three lists, in the kind that they are in.
 pub fn write(lists: Lists<'_>, file: &mut [u8]) -> Result<Counts, Refusal> {
     counts(Proved.write(lists, file))
 }
@@ -101,7 +116,7 @@ pub fn stand_listed([number, rows, crossings]: [u64; 3]) -> Result<Listed, Refus
     listed(Reply {
         number: u32::try_from(number).unwrap_or(u32::MAX),
         place: 0,
-        values: [rows, crossings, 0],
+        values: [rows, crossings, 0, 0, 0],
     })
 }
 
@@ -117,7 +132,8 @@ pub fn change(
 #[cfg(test)]
 mod tests {
     use super::*;
-    use crate::examples::{self, plan_q, Expected};
+    use crate::calls::{POLYGONS, TRIANGLES};
+    use crate::examples::{self, plan_q, plan_q_as_one_cell, Expected};
 
     #[test]
     fn the_twelve_examples_are_listed_or_refused() {
@@ -147,13 +163,59 @@ mod tests {
         let mut file = [0; 76];
         assert_eq!(write(plan.lists(), &mut file), Ok(all));
         let (mut corners, mut cells, mut doors) = ([0; 8], [0; 12], [0; 1]);
-        assert_eq!(read(&file, &mut corners, &mut cells, &mut doors), Ok(all));
+        let read_back = Read {
+            counts: all,
+            kind: TRIANGLES,
+            numbers: 12,
+        };
+        let answer = read(&file, &mut corners, &mut cells, &mut doors);
+        assert_eq!(answer, Ok(read_back));
         assert_eq!(
             (&corners[..], &cells[..], &doors[..]),
             (&plan.corners[..], &plan.cells[..], &plan.doors[..])
         );
         let short = &mut file[..75];
         assert_eq!(write(plan.lists(), short), Err(Refusal::Room));
+    }
+
+    /// One cell of four corners: written, read back, and listed without a
+    /// crossing.
+    #[test]
+    fn a_plan_of_larger_cells_is_written_read_and_listed() {
+        let plan = plan_q_as_one_cell();
+        let counts = Counts {
+            corners: 4,
+            cells: 1,
+            doors: 0,
+        };
+        let mut file = [0; 68];
+        assert_eq!(write(plan.lists(), &mut file), Ok(counts));
+        let (mut corners, mut cells) = ([0; 8], [0; 9]);
+        let kind = POLYGONS;
+        let answer = read(&file, &mut corners, &mut cells, &mut []);
+        let numbers = 9;
+        assert_eq!(
+            answer,
+            Ok(Read {
+                counts,
+                kind,
+                numbers
+            })
+        );
+        assert_eq!(cells[..], plan.cells[..]);
+        let mut table = [7; 12];
+        let seen = Listed {
+            rows: 4,
+            crossings: 0,
+        };
+        let answer = list(plan.lists(), 0, Stand::Point(6.0, 3.0), &mut table);
+        assert_eq!(answer, Ok(seen));
+        assert_eq!(table, [0, 0, 1, 1, 1, 2, 2, 2, 3, 3, 3, 0]);
+        let unknown = Lists {
+            kind: 3,
+            ..plan.lists()
+        };
+        assert_eq!(check(unknown), Err(Refusal::Frame));
     }
 
     #[test]

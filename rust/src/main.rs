@@ -71,8 +71,8 @@ fn compare_with_itself(seed: u64, count: u64) -> Result<(), String> {
     Ok(())
 }
 
-/// Puts every function of the proved library to the deepest floor, on a stack
-/// of so many bytes.
+/// Puts every function of the proved library to the deepest floors and the fullest
+/// plan, on a stack of so many bytes.
 fn ask_on_stack(bytes: &str) -> Result<(), String> {
     stack::ask_every_function(bytes.parse().map_err(|_| USAGE)?)
 }

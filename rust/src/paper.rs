@@ -1,9 +1,10 @@
 //! Document 01 and what document 02 adds, implemented from the paper alone.
 //!
 //! The structure is chosen to differ from a pair of functions that call each
-//! other: the check turns the lists into a table of opposite faces, the
-//! expansion keeps an explicit stack of lines still to be followed, and side
-//! values are 128 bits wide.
+//! other: the lists become cells with corners and neighbours of their own, which
+//! the check turns into a table of opposite faces; the expansion keeps an
+//! explicit stack of lines still to be followed, and gives each other side of a
+//! cell its part of the whole cone; side values are 128 bits wide.
 
 mod file;
 mod morning;
@@ -13,14 +14,14 @@ mod runs;
 mod sight;
 mod stand;
 
-pub use file::{decode, encode};
+pub use file::{decode, encode, take_record};
 pub use morning::{stand_of, MOST_STANDS};
-pub use plan::{Floor, Point, CELLS, COORDINATES, CORNERS, DOORS, WALL};
+pub use plan::{cut_cells, Cell, Floor, Point, CELLS, COORDINATES, CORNERS, DOORS, SIDES, WALL};
 pub use printing::{print, query, MOST_INPUT};
 pub use runs::change_by_runs;
 pub use sight::{Direction, Listing, Row, View, Walk};
 
-use crate::calls::{Calls, DoorChange, Lists, Refusal, Reply, Stand};
+use crate::calls::{Calls, DoorChange, Lists, Refusal, Reply, Stand, Values};
 use morning::Morning;
 
 /// The paper program as an implementor of the public calls.
@@ -74,7 +75,7 @@ impl Calls for Paper {
 }
 
 pub fn check(lists: Lists<'_>) -> Reply {
-    reply(Floor::check(lists).map(|_| counts(lists)))
+    reply(Floor::check(lists).map(|floor| counts(&floor)))
 }
 
 pub fn read(file: &[u8], corners: &mut [i32], cells: &mut [u16], doors: &mut [u16]) -> Reply {
@@ -108,9 +109,6 @@ pub fn change(lists: Lists<'_>, asked: DoorChange<'_>, table: &mut [u16]) -> Rep
     reply(change_checked(lists, asked, table))
 }
 
-/// What is given back on 0: up to three values.
-pub(crate) type Values = [u64; 3];
-
 fn read_checked(
     file: &[u8],
     corners: &mut [i32],
@@ -119,7 +117,7 @@ fn read_checked(
 ) -> Result<Values, Refusal> {
     let plan = decode(file)?;
     let lists = plan.lists();
-    Floor::check(lists)?;
+    let floor = Floor::check(lists)?;
     if corners.len() < lists.corners.len()
         || cells.len() < lists.cells.len()
         || doors.len() < lists.doors.len()
@@ -129,24 +127,31 @@ fn read_checked(
     corners[..lists.corners.len()].copy_from_slice(lists.corners);
     cells[..lists.cells.len()].copy_from_slice(lists.cells);
     doors[..lists.doors.len()].copy_from_slice(lists.doors);
-    Ok(counts(lists))
+    let [corners, cells, doors, ..] = counts(&floor);
+    Ok([
+        corners,
+        cells,
+        doors,
+        plan.kind.into(),
+        lists.cells.len() as u64,
+    ])
 }
 
 fn write_checked(lists: Lists<'_>, file: &mut [u8]) -> Result<Values, Refusal> {
-    Floor::check(lists)?;
+    let floor = Floor::check(lists)?;
     let encoded = encode(lists);
     if file.len() < encoded.len() {
         return Err(Refusal::Room);
     }
     file[..encoded.len()].copy_from_slice(&encoded);
-    Ok(counts(lists))
+    Ok(counts(&floor))
 }
 
 fn find_checked(lists: Lists<'_>, stand: Stand) -> Result<Values, Refusal> {
     let floor = Floor::check(lists)?;
     let q = stand::millimetres(&floor, stand)?;
     let cell = stand::cell_of(&floor, q)?;
-    Ok([cell as u64, 0, 0])
+    Ok([cell as u64, 0, 0, 0, 0])
 }
 
 fn list_checked(
@@ -199,7 +204,7 @@ fn room_for_rows(floor: &Floor, table: &[u16]) -> Result<(), Refusal> {
 fn hand_back(listing: &Listing, table: &mut [u16]) -> Values {
     let numbers = listing.rows.as_flattened();
     table[..numbers.len()].copy_from_slice(numbers);
-    [listing.rows.len() as u64, listing.crossings, 0]
+    [listing.rows.len() as u64, listing.crossings, 0, 0, 0]
 }
 
 /// Gives back the sums.
@@ -208,15 +213,16 @@ fn hand_back_morning(morning: &Morning, table: &mut [u16], replies: &mut [u64]) 
     table[..3 * rows.len()].copy_from_slice(rows.as_flattened());
     replies[..3 * own.len()].copy_from_slice(own.as_flattened());
     let crossings = own.iter().map(|[_, _, crossings]| crossings).sum();
-    [rows.len() as u64, crossings, 0]
+    [rows.len() as u64, crossings, 0, 0, 0]
 }
 
-fn counts(lists: Lists<'_>) -> Values {
-    [
-        (lists.corners.len() / 2) as u64,
-        (lists.cells.len() / 6) as u64,
-        lists.doors.len() as u64,
-    ]
+fn counts(floor: &Floor) -> Values {
+    let [corners, cells, doors] = [
+        floor.corners().len(),
+        floor.cell_count(),
+        floor.doors().len(),
+    ];
+    [corners as u64, cells as u64, doors as u64, 0, 0]
 }
 
 pub(crate) fn reply(result: Result<Values, Refusal>) -> Reply {

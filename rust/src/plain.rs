@@ -3,16 +3,36 @@
 //! proof in mind: 64 bits wide, and a pair of functions that call each other.
 //! What they cost is what the benchmarks hold the proved library to.
 
-use crate::calls::{DoorChange, Lists, Refusal, Stand};
-use crate::paper::{stand_of, CELLS, COORDINATES, CORNERS, DOORS, MOST_STANDS, WALL};
+use crate::calls::{DoorChange, Lists, Refusal, Stand, POLYGONS, TRIANGLES};
+use crate::paper::{stand_of, CELLS, COORDINATES, CORNERS, DOORS, MOST_STANDS, SIDES, WALL};
+use std::ops::Range;
 
-/// A plan that passed the check.
+/// Lists that are cut into corners, cells and doors.
+struct Cut<'a> {
+    corners: &'a [[i32; 2]],
+    cells: Cells<'a>,
+    cell_count: usize,
+    face_count: usize,
+    doors: &'a [u16],
+}
+
+/// A list of cells of either kind.
 #[derive(Clone, Copy)]
+enum Cells<'a> {
+    Triangles(&'a [[u16; 6]]),
+    Polygons(&'a [u16]),
+}
+
+/// A plan that passed the check, with the tables that are drawn for it.
 pub struct Plan<'a> {
     corners: &'a [[i32; 2]],
-    /// Three corners, three neighbours.
-    cells: &'a [[u16; 6]],
     doors: &'a [u16],
+    /// Of each face, the corner at which it starts and its neighbour.
+    faces: Vec<[u16; 2]>,
+    /// The first face of each cell, then the count of faces.
+    firsts: Vec<u16>,
+    /// Of each face, the face on its other side, or wall.
+    backs: Vec<u16>,
 }
 
 /// Row count and crossings.
@@ -32,15 +52,10 @@ fn side_value(a: Point, b: Point, c: Point) -> i64 {
     (b[0] - a[0]) * (c[1] - a[1]) - (b[1] - a[1]) * (c[0] - a[0])
 }
 
-fn next(side: usize) -> usize {
-    (side + 1) % 3
-}
-
 pub fn check(lists: Lists<'_>) -> Result<Plan<'_>, Refusal> {
-    let plan = Plan::cut(lists)?;
-    plan.check_counts()?;
-    plan.check_numbers()?;
-    Ok(plan)
+    let cut = Cut::new(lists)?;
+    cut.check_counts()?;
+    cut.draw().checked()
 }
 
 fn is_outside(corner: [i32; 2]) -> bool {
@@ -73,15 +88,15 @@ pub fn list_stands(
     replies: &mut [u64],
 ) -> Result<Counts, Refusal> {
     let (stands, part_of_stand) = stands.as_chunks();
-    let plan = Plan::cut(lists)?;
+    let cut = Cut::new(lists)?;
     if !part_of_stand.is_empty() {
         return Err(Refusal::Frame);
     }
-    plan.check_counts()?;
+    cut.check_counts()?;
     if stands.len() > MOST_STANDS {
         return Err(Refusal::Size);
     }
-    plan.check_numbers()?;
+    let plan = cut.draw().checked()?;
     plan.check_setting(setting)?;
     if table.len() < 3 * plan.corners.len() * stands.len() || replies.len() < 3 * stands.len() {
         return Err(Refusal::Room);
@@ -125,26 +140,38 @@ pub fn change(
     Ok(plan.list_from(&lines, q, cell, table))
 }
 
-impl<'a> Plan<'a> {
-    /// The lists cut into corners, cells and doors.
-    fn cut(lists: Lists<'a>) -> Result<Plan<'a>, Refusal> {
+impl<'a> Cut<'a> {
+    fn new(lists: Lists<'a>) -> Result<Cut<'a>, Refusal> {
         let (corners, half_corner) = lists.corners.as_chunks();
-        let (cells, part_of_cell) = lists.cells.as_chunks();
-        if !half_corner.is_empty() || !part_of_cell.is_empty() {
+        let (cells, cell_count, face_count) = match lists.kind {
+            TRIANGLES => {
+                let (cells, part_of_cell) = lists.cells.as_chunks();
+                if !part_of_cell.is_empty() {
+                    return Err(Refusal::Frame);
+                }
+                (Cells::Triangles(cells), cells.len(), 3 * cells.len())
+            }
+            POLYGONS => {
+                let (cells, faces) = count_polygons(lists.cells)?;
+                (Cells::Polygons(lists.cells), cells, faces)
+            }
+            _ => return Err(Refusal::Frame),
+        };
+        if !half_corner.is_empty() {
             return Err(Refusal::Frame);
         }
-        Ok(Plan {
+        Ok(Cut {
             corners,
             cells,
+            cell_count,
+            face_count,
             doors: lists.doors,
         })
     }
-}
 
-impl Plan<'_> {
     fn check_counts(&self) -> Result<(), Refusal> {
         if !CORNERS.contains(&self.corners.len())
-            || !CELLS.contains(&self.cells.len())
+            || !CELLS.contains(&self.cell_count)
             || !DOORS.contains(&self.doors.len())
         {
             return Err(Refusal::Size);
@@ -152,20 +179,71 @@ impl Plan<'_> {
         Ok(())
     }
 
-    fn check_numbers(&self) -> Result<(), Refusal> {
+    /// The plan with its tables of faces and first faces.
+    fn draw(&self) -> Plan<'a> {
+        let mut faces = Vec::with_capacity(self.face_count);
+        let mut firsts = Vec::with_capacity(self.cell_count + 1);
+        match self.cells {
+            Cells::Triangles(cells) => {
+                for &[a, b, c, first, second, third] in cells {
+                    firsts.push(faces.len() as u16);
+                    faces.extend([[a, first], [b, second], [c, third]]);
+                }
+            }
+            Cells::Polygons(mut list) => {
+                while let Some((&count, numbers)) = list.split_first() {
+                    let (corners, rest) = numbers.split_at(count.into());
+                    let (neighbours, rest) = rest.split_at(count.into());
+                    firsts.push(faces.len() as u16);
+                    faces.extend(corners.iter().zip(neighbours).map(|(&a, &b)| [a, b]));
+                    list = rest;
+                }
+            }
+        }
+        firsts.push(faces.len() as u16);
+        Plan {
+            corners: self.corners,
+            doors: self.doors,
+            faces,
+            firsts,
+            backs: Vec::new(),
+        }
+    }
+}
+
+/// How many cells and faces a list has that is cut into whole cells.
+fn count_polygons(mut list: &[u16]) -> Result<(usize, usize), Refusal> {
+    let (mut cells, mut faces) = (0, 0);
+    while let Some((&count, numbers)) = list.split_first() {
+        let count = usize::from(count);
+        if !SIDES.contains(&count) {
+            return Err(Refusal::Frame);
+        }
+        list = numbers.get(2 * count..).ok_or(Refusal::Frame)?;
+        cells += 1;
+        faces += count;
+    }
+    Ok((cells, faces))
+}
+
+impl Plan<'_> {
+    /// The plan, once its numbers are checked.
+    fn checked(mut self) -> Result<Self, Refusal> {
         if let Some(corner) = self.corners.iter().position(|&corner| is_outside(corner)) {
             return Err(Refusal::Corner(corner));
         }
-        if let Some(cell) = self.cells.iter().position(|cell| !self.is_right(cell)) {
+        if let Some(cell) = (0..self.cell_count()).find(|&cell| !self.is_right(cell)) {
             return Err(Refusal::Cell(cell));
         }
-        if let Some(face) = (0..3 * self.cells.len()).find(|&face| !self.neighbour_is_right(face)) {
-            return Err(Refusal::Neighbour(face));
-        }
+        self.backs = self.find_backs()?;
         if let Some(door) = (0..self.doors.len()).find(|&door| !self.door_is_right(door)) {
             return Err(Refusal::Door(door));
         }
-        Ok(())
+        Ok(self)
+    }
+
+    pub fn counts(&self) -> [usize; 3] {
+        [self.corners.len(), self.cell_count(), self.doors.len()]
     }
 
     fn check_setting(&self, setting: u64) -> Result<(), Refusal> {
@@ -179,43 +257,68 @@ impl Plan<'_> {
         point(self.corners[usize::from(number)])
     }
 
-    fn is_right(&self, &[a, b, c, ..]: &[u16; 6]) -> bool {
-        let exists = |number| usize::from(number) < self.corners.len();
-        exists(a)
-            && exists(b)
-            && exists(c)
-            && side_value(self.corner(a), self.corner(b), self.corner(c)) > 0
+    fn cell_count(&self) -> usize {
+        self.firsts.len() - 1
     }
 
-    fn neighbour_is_right(&self, face: usize) -> bool {
-        self.cells[face / 3][3 + face % 3] == WALL || self.across(face).is_some()
+    fn faces_of(&self, cell: usize) -> Range<usize> {
+        self.firsts[cell].into()..self.firsts[cell + 1].into()
     }
 
-    /// The face on the other side of a line: the first of the neighbour's
-    /// sides that has the same corners reversed and names this cell.
-    fn across(&self, face: usize) -> Option<usize> {
-        let (cell, side) = (face / 3, face % 3);
-        let here = &self.cells[cell];
-        let neighbour = usize::from(here[3 + side]);
-        let there = self.cells.get(neighbour)?;
-        (0..3)
-            .find(|&other| {
-                there[other] == here[next(side)]
-                    && there[next(other)] == here[side]
-                    && usize::from(there[3 + other]) == cell
-            })
-            .map(|other| 3 * neighbour + other)
+    fn is_right(&self, cell: usize) -> bool {
+        let faces = &self.faces[self.faces_of(cell)];
+        if faces
+            .iter()
+            .any(|&[start, _]| usize::from(start) >= self.corners.len())
+        {
+            return false;
+        }
+        // One side value tells of all three sides of a triangle.
+        if let &[[a, _], [b, _], [c, _]] = faces {
+            return side_value(self.corner(a), self.corner(b), self.corner(c)) > 0;
+        }
+        let mut points = [[0; 2]; *SIDES.end()];
+        for (point, &[start, _]) in points.iter_mut().zip(faces) {
+            *point = self.corner(start);
+        }
+        let points = &points[..faces.len()];
+        points.iter().enumerate().all(|(side, &a)| {
+            let after = next(side, points.len());
+            let b = points[after];
+            let mut corners = points.iter().enumerate();
+            corners.all(|(at, &c)| at == side || at == after || side_value(a, b, c) > 0)
+        })
+    }
+
+    /// The face on the other side of each line: the one of the neighbour's sides
+    /// that has the same corners reversed and names this cell.
+    fn find_backs(&self) -> Result<Vec<u16>, Refusal> {
+        let (faces, firsts) = (&self.faces[..], &self.firsts[..]);
+        let mut backs = vec![WALL; faces.len()];
+        for (cell, ends) in (0u16..).zip(firsts.windows(2)) {
+            let first = usize::from(ends[0]);
+            let here = &faces[first..ends[1].into()];
+            for (side, &[start, neighbour]) in here.iter().enumerate() {
+                if neighbour == WALL {
+                    continue;
+                }
+                let [end, _] = here[next(side, here.len())];
+                let back = answering(faces, firsts, neighbour.into(), [end, start], cell);
+                backs[first + side] = back.ok_or(Refusal::Neighbour(first + side))?;
+            }
+        }
+        Ok(backs)
     }
 
     fn door_is_right(&self, door: usize) -> bool {
         let face = self.doors[door];
-        if usize::from(face) >= 3 * self.cells.len() {
-            return false;
+        match self.backs.get(usize::from(face)) {
+            None | Some(&WALL) => false,
+            Some(back) => {
+                let earlier = &self.doors[..door];
+                !earlier.contains(&face) && !earlier.contains(back)
+            }
         }
-        self.across(face.into()).is_some_and(|other| {
-            let earlier = &self.doors[..door];
-            !earlier.contains(&face) && !earlier.contains(&(other as u16))
-        })
     }
 
     fn millimetres(&self, stand: Stand) -> Result<Point, Refusal> {
@@ -235,19 +338,27 @@ impl Plan<'_> {
     }
 
     fn cell_of(&self, q: Point) -> Result<usize, Refusal> {
-        let least = |cell: &[u16; 6]| {
-            let [a, b, c] = [cell[0], cell[1], cell[2]].map(|number| self.corner(number));
-            side_value(a, b, q)
-                .min(side_value(b, c, q))
-                .min(side_value(c, a, q))
-        };
-        if let Some(cell) = self.cells.iter().position(|cell| least(cell) > 0) {
+        let mut cells = 0..self.cell_count();
+        if let Some(cell) = cells.find(|&cell| self.least_side_value(cell, q) > 0) {
             return Ok(cell);
         }
-        if self.cells.iter().any(|cell| least(cell) == 0) {
+        if (0..self.cell_count()).any(|cell| self.least_side_value(cell, q) == 0) {
             return Err(Refusal::Line);
         }
         Err(Refusal::Outside)
+    }
+
+    /// The least of the side values of a cell's sides with the stand.
+    fn least_side_value(&self, cell: usize, q: Point) -> i64 {
+        let faces = &self.faces[self.faces_of(cell)];
+        let mut from = self.corner(faces[faces.len() - 1][0]);
+        let mut least = i64::MAX;
+        for &[start, _] in faces {
+            let to = self.corner(start);
+            least = least.min(side_value(from, to, q));
+            from = to;
+        }
+        least
     }
 
     /// The stand and its cell.
@@ -267,54 +378,85 @@ impl Plan<'_> {
         Ok((q, cell))
     }
 
-    /// Follows the three sides of the stand's cell.
-    fn list_from(&self, lines: &[[u16; 2]], q: Point, cell: usize, table: &mut [u16]) -> Counts {
+    /// Follows the sides of the stand's cell.
+    fn list_from(&self, lines: &[Line], q: Point, cell: usize, table: &mut [u16]) -> Counts {
+        // A difference of two coordinates fits 32 bits.
+        let from_stand = |&[x, y]: &[i32; 2]| [x - q[0] as i32, y - q[1] as i32];
+        let corners: Vec<[i32; 2]> = self.corners.iter().map(from_stand).collect();
         let mut sight = Sight {
-            corners: self.corners,
+            corners: &corners,
             lines,
-            q,
             table,
             counts: Counts::default(),
         };
-        let [a, b, c, ..] = self.cells[cell];
-        sight.cross(3 * cell, a, b);
-        sight.cross(3 * cell + 1, b, c);
-        sight.cross(3 * cell + 2, c, a);
+        for face in self.faces_of(cell) {
+            let [start, _] = self.faces[face];
+            sight.cross(face as u16, start, lines[face].left_end);
+        }
         sight.counts
     }
 
-    /// Of each face, the corner at which it starts and the face on its other
-    /// side, or wall where sight ends.
-    fn lines(&self, setting: u64) -> Vec<[u16; 2]> {
-        let mut lines = Vec::with_capacity(3 * self.cells.len());
-        for &[a, b, c, first, second, third] in self.cells {
-            lines.push([a, self.facing(first, b)]);
-            lines.push([b, self.facing(second, c)]);
-            lines.push([c, self.facing(third, a)]);
+    /// The line of each face, under a setting.
+    fn lines(&self, setting: u64) -> Vec<Line> {
+        let mut lines = Vec::with_capacity(self.faces.len());
+        for cell in 0..self.cell_count() {
+            let all = self.faces_of(cell);
+            let (faces, backs) = (&self.faces[all.clone()], &self.backs[all.clone()]);
+            for (side, (&[_, neighbour], &back)) in faces.iter().zip(backs).enumerate() {
+                let following = next(side, faces.len());
+                let (beyond, more) = self.beyond(neighbour, back);
+                lines.push(Line {
+                    left_end: faces[following][0],
+                    beyond,
+                    more,
+                    next: (all.start + following) as u16,
+                });
+            }
         }
         for (door, &face) in self.doors.iter().enumerate() {
             if setting >> door & 1 == 1 {
-                let [_, other] = lines[usize::from(face)];
-                lines[usize::from(face)][1] = WALL;
-                lines[usize::from(other)][1] = WALL;
+                let back = self.backs[usize::from(face)];
+                lines[usize::from(face)].beyond = WALL;
+                lines[usize::from(back)].beyond = WALL;
             }
         }
         lines
     }
 
-    /// The face of a cell that starts at a corner, or wall. A cell's corners
-    /// differ, so there is one.
-    fn facing(&self, cell: u16, corner: u16) -> u16 {
-        if cell == WALL {
-            return WALL;
+    /// The first side that is handed on where a cell is entered through a face,
+    /// and how many follow it; wall where that is wall.
+    fn beyond(&self, cell: u16, entered: u16) -> (u16, u16) {
+        if entered == WALL {
+            return (WALL, 0);
         }
-        let [_, second, third, ..] = self.cells[usize::from(cell)];
-        let side = match corner {
-            _ if corner == second => 1,
-            _ if corner == third => 2,
-            _ => 0,
-        };
-        3 * cell + side
+        let all = self.faces_of(cell.into());
+        let first = next(usize::from(entered) - all.start, all.len());
+        ((all.start + first) as u16, (all.len() - 2) as u16)
+    }
+}
+
+/// The face of a cell with these ends whose neighbour is another cell.
+fn answering(
+    faces: &[[u16; 2]],
+    firsts: &[u16],
+    cell: usize,
+    [a, b]: [u16; 2],
+    other: u16,
+) -> Option<u16> {
+    let (&first, &end) = (firsts.get(cell)?, firsts.get(cell + 1)?);
+    let there = &faces[first.into()..end.into()];
+    // Its corners differ: no more than one side starts there.
+    let side = there.iter().position(|&face| face == [a, other])?;
+    let [end, _] = there[next(side, there.len())];
+    (end == b).then_some(first + side as u16)
+}
+
+/// The side after a side, in a cell of so many.
+fn next(side: usize, count: usize) -> usize {
+    if side + 1 == count {
+        0
+    } else {
+        side + 1
     }
 }
 
@@ -328,44 +470,62 @@ fn whole(number: f64) -> Result<i64, Refusal> {
     }
 }
 
+/// What following the line of a face needs to know.
+struct Line {
+    left_end: u16,
+    /// The first side handed on beyond it, or wall where sight ends.
+    beyond: u16,
+    /// How many sides follow that one.
+    more: u16,
+    /// The next side of its own cell.
+    next: u16,
+}
+
 struct Sight<'a> {
+    /// From the stand.
     corners: &'a [[i32; 2]],
-    lines: &'a [[u16; 2]],
-    q: Point,
+    lines: &'a [Line],
     table: &'a mut [u16],
     counts: Counts,
 }
 
 impl Sight<'_> {
     /// Follows the line of a face with limits r and l to its rows.
-    fn cross(&mut self, face: usize, r: u16, l: u16) {
-        let [_, across] = self.lines[face];
-        if across == WALL {
+    fn cross(&mut self, face: u16, r: u16, l: u16) {
+        let Line { beyond, more, .. } = self.lines[usize::from(face)];
+        if beyond == WALL {
             let at = 3 * self.counts.rows;
-            self.table[at..at + 3].copy_from_slice(&[face as u16, r, l]);
+            self.table[at..at + 3].copy_from_slice(&[face, r, l]);
             self.counts.rows += 1;
         } else {
             self.counts.crossings += 1;
-            self.hand_on(across.into(), r, l);
+            self.hand_on(beyond, more, r, l);
         }
     }
 
-    /// Hands on the lines of the cell that is entered through a face.
-    fn hand_on(&mut self, entered: usize, r: u16, l: u16) {
-        let first = entered / 3 * 3;
-        let right = first + next(entered - first);
-        let far = first + next(right - first);
-        let [v, _] = self.lines[far];
-        let [apex, right_limit, left_limit] =
-            [v, r, l].map(|number| point(self.corners[usize::from(number)]));
-        if side_value(self.q, right_limit, apex) <= 0 {
-            self.cross(far, r, l);
-        } else if side_value(self.q, apex, left_limit) <= 0 {
-            self.cross(right, r, l);
-        } else {
-            self.cross(right, r, v);
-            self.cross(far, v, l);
+    /// Hands on a side of the cell that is entered, and the sides after it, so
+    /// many of them.
+    fn hand_on(&mut self, side: u16, more: u16, r: u16, l: u16) {
+        if more == 0 {
+            return self.cross(side, r, l);
         }
+        let Line {
+            left_end: v, next, ..
+        } = self.lines[usize::from(side)];
+        if !self.is_left(r, v) {
+            self.hand_on(next, more - 1, r, l);
+        } else if !self.is_left(v, l) {
+            self.cross(side, r, l);
+        } else {
+            self.cross(side, r, v);
+            self.hand_on(next, more - 1, v, l);
+        }
+    }
+
+    /// Whether corner b is strictly left of the ray to corner a.
+    fn is_left(&self, a: u16, b: u16) -> bool {
+        let [a, b] = [a, b].map(|corner| point(self.corners[usize::from(corner)]));
+        a[0] * b[1] - a[1] * b[0] > 0
     }
 }
 
@@ -377,7 +537,7 @@ mod tests {
     use crate::paper::{self, reply};
 
     fn counts(result: Result<Counts, Refusal>) -> Reply {
-        reply(result.map(|counts| [counts.rows as u64, counts.crossings, 0]))
+        reply(result.map(|counts| [counts.rows as u64, counts.crossings, 0, 0, 0]))
     }
 
     /// The true list of a case, or none where the paper program refuses it.
@@ -418,10 +578,11 @@ mod tests {
             let case = generate::case(17, number);
             let (scene, lists) = (&case.scene, case.scene.plan.lists());
             let checked = check(lists).map(|plan| {
-                [plan.corners.len(), plan.cells.len(), plan.doors.len()].map(|count| count as u64)
+                let [corners, cells, doors] = plan.counts().map(|count| count as u64);
+                [corners, cells, doors, 0, 0]
             });
             assert_eq!(reply(checked), paper::check(lists), "{number}");
-            let found = find(lists, scene.stand).map(|cell| [cell as u64, 0, 0]);
+            let found = find(lists, scene.stand).map(|cell| [cell as u64, 0, 0, 0, 0]);
             assert_eq!(reply(found), paper::find(lists, scene.stand), "{number}");
             let (setting, stand) = (scene.setting, scene.stand);
             assert_eq!(

@@ -24,11 +24,14 @@ pub const MOST_TEXT: usize = 36_928;
 /// What a text holds before a call: no byte that is ever printed.
 const UNPRINTED: u8 = 0xa5;
 
-/// The five numbers before a call: every one of them has to be written.
-const UNWRITTEN: [u64; 5] = [u64::MAX; 5];
+/// How many numbers a reply has: the header's MANOPLUEA_REPLY.
+pub const REPLY: usize = 7;
+
+/// The seven numbers before a call: every one of them has to be written.
+const UNWRITTEN: [u64; REPLY] = [u64::MAX; REPLY];
 
 /// What a function put there, as a reply.
-fn reply([number, place, values @ ..]: [u64; 5]) -> Reply {
+fn reply([number, place, values @ ..]: [u64; REPLY]) -> Reply {
     let narrow = |number| u32::try_from(number).unwrap_or(u32::MAX);
     Reply {
         number: narrow(number),
@@ -39,14 +42,14 @@ fn reply([number, place, values @ ..]: [u64; 5]) -> Reply {
 
 /// The reply that a function leaves.
 fn replied(ask: impl FnOnce(&mut [u64])) -> Reply {
-    let mut five = UNWRITTEN;
-    ask(&mut five);
-    reply(five)
+    let mut seven = UNWRITTEN;
+    ask(&mut seven);
+    reply(seven)
 }
 
 impl Calls for Proved {
     fn check(&self, lists: Lists<'_>) -> Reply {
-        replied(|five| c::check(lists, five))
+        replied(|seven| c::check(lists, seven))
     }
 
     fn read(
@@ -56,19 +59,19 @@ impl Calls for Proved {
         cells: &mut [u16],
         doors: &mut [u16],
     ) -> Reply {
-        replied(|five| c::read(file, corners, cells, doors, five))
+        replied(|seven| c::read(file, corners, cells, doors, seven))
     }
 
     fn write(&self, lists: Lists<'_>, file: &mut [u8]) -> Reply {
-        replied(|five| c::write(lists, file, five))
+        replied(|seven| c::write(lists, file, seven))
     }
 
     fn find(&self, lists: Lists<'_>, stand: Stand) -> Reply {
-        replied(|five| c::find(lists, stand, five))
+        replied(|seven| c::find(lists, stand, seven))
     }
 
     fn list(&self, lists: Lists<'_>, setting: u64, stand: Stand, table: &mut [u16]) -> Reply {
-        replied(|five| c::list(lists, setting, stand, table, five))
+        replied(|seven| c::list(lists, setting, stand, table, seven))
     }
 
     fn list_stands(
@@ -79,18 +82,18 @@ impl Calls for Proved {
         table: &mut [u16],
         replies: &mut [u64],
     ) -> Reply {
-        replied(|five| c::list_stands(lists, setting, stands, table, replies, five))
+        replied(|seven| c::list_stands(lists, setting, stands, table, replies, seven))
     }
 
     fn change(&self, lists: Lists<'_>, asked: DoorChange<'_>, table: &mut [u16]) -> Reply {
-        replied(|five| c::change(lists, asked, table, five))
+        replied(|seven| c::change(lists, asked, table, seven))
     }
 
     fn print(&self, input: &[u8]) -> Vec<u8> {
         let mut text = vec![UNPRINTED; MOST_TEXT];
-        let reply = replied(|five| c::print(input, &mut text, five));
+        let reply = replied(|seven| c::print(input, &mut text, seven));
         let [length, rest @ ..] = reply.values;
-        assert_eq!((reply.number, reply.place, rest), (0, 0, [0, 0]));
+        assert_eq!((reply.number, reply.place, rest), (0, 0, [0; 4]));
         let unwritten = text.split_off(length as usize);
         assert!(
             unwritten.iter().all(|&byte| byte == UNPRINTED),
@@ -106,13 +109,13 @@ mod tests {
     use crate::examples::plan_q;
     use crate::paper;
 
-    /// A reply with no room for five numbers: nothing at all is done.
+    /// A reply with no room for seven numbers: nothing at all is done.
     #[test]
     fn a_short_reply_leaves_everything_alone() {
         let plan = plan_q();
         let lists = plan.lists();
         let file = paper::encode(lists);
-        for length in 0..5 {
+        for length in 0..REPLY {
             let mut short = vec![7; length];
             let mut bytes = vec![9; file.len()];
             let (mut corners, mut cells, mut doors) = ([9; 8], [9; 12], [9; 1]);
@@ -149,21 +152,21 @@ mod tests {
     /// is; one byte more is enough.
     #[test]
     fn a_text_has_room_for_every_answer_or_is_left_alone() {
-        let (mut text, mut reply) = (vec![9; MOST_TEXT], [7; 5]);
+        let (mut text, mut reply) = (vec![9; MOST_TEXT], [7; REPLY]);
         c::print(&[], &mut text[1..], &mut reply);
-        assert_eq!(reply, [11, 0, 0, 0, 0]);
+        assert_eq!(reply, [11, 0, 0, 0, 0, 0, 0]);
         assert_eq!(text, vec![9; MOST_TEXT]);
         c::print(&[], &mut text, &mut reply);
-        assert_eq!(reply, [0, 0, 12, 0, 0]);
+        assert_eq!(reply, [0, 0, 12, 0, 0, 0, 0]);
         assert_eq!(text[..12], *b"refused 1 0\n");
         assert_eq!(text[12..], vec![9; MOST_TEXT - 12]);
     }
 
-    /// What lies beyond the five numbers of a longer reply is left alone.
+    /// What lies beyond the seven numbers of a longer reply is left alone.
     #[test]
     fn a_longer_reply_keeps_the_rest() {
-        let mut long = [7; 8];
+        let mut long = [9; 9];
         c::check(plan_q().lists(), &mut long);
-        assert_eq!(long, [0, 0, 4, 2, 1, 7, 7, 7]);
+        assert_eq!(long, [0, 0, 4, 2, 1, 0, 0, 9, 9]);
     }
 }

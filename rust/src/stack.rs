@@ -1,20 +1,33 @@
-//! Every function of `include/manopluea.h` on the deepest floor, with a stack
-//! of so many bytes. A stack that is too small ends the process.
+//! Every function of `include/manopluea.h` on the deepest floor known, in either
+//! kind, on the one with the longest fans and on the fullest plan, with a stack of
+//! so many bytes. A stack that is too small ends the process.
 
-use crate::calls::{Calls, DoorChange, Stand};
-use crate::generate::{self, query_record};
+use crate::calls::{Calls, DoorChange, Plan, Stand, POINT};
+use crate::generate::{self, in_other_kind, query_record, Spot};
 use crate::paper::{self, Paper, DOORS, MOST_STANDS};
 use crate::proved::{on_stack, Proved};
 
 /// Asks each function, and compares with the paper program.
 pub fn ask_every_function(bytes: usize) -> Result<(), String> {
-    let (mesh, [x, y]) = generate::deepest();
+    let (mesh, spot) = generate::deepest();
     // The last lines that the ray crosses are doors, the very last one too.
     let lines = mesh.free_lines();
-    let plan = mesh.plan(&lines[lines.len() - DOORS.end()..]);
+    let deepest = mesh.plan(&lines[lines.len() - DOORS.end()..]);
+    ask_on("the deepest floor", &deepest, spot, bytes)?;
+    let other = in_other_kind(&deepest).expect("it is of triangles");
+    ask_on("the same in the other kind", &other, spot, bytes)?;
+    let (fans, spot) = generate::longest_fans();
+    ask_on("the longest fans", &fans, spot, bytes)?;
+    let (fullest, spot) = generate::fullest();
+    ask_on("the fullest plan", &fullest, spot, bytes)
+}
+
+/// Asks each function about a plan with as many doors as there may be.
+fn ask_on(name: &str, plan: &Plan, [x, y]: Spot, bytes: usize) -> Result<(), String> {
+    println!("on {name}:");
     let (lists, last) = (plan.lists(), DOORS.end() - 1);
     let file = paper::encode(lists);
-    let table = || vec![0; 3 * mesh.corners.len()];
+    let table = || vec![0; 3 * (plan.corners.len() / 2)];
     let rows = |setting, stand| {
         let mut table = table();
         let reply = paper::list(lists, setting, stand, &mut table);
@@ -31,9 +44,12 @@ pub fn ask_every_function(bytes: usize) -> Result<(), String> {
         let mut written = vec![0; file.len()];
         (calls.write(lists, &mut written), written)
     })?;
-    // Corner 0 is at zero: its offset and the point are the same numbers.
-    let (x, y) = (x as f64, y as f64);
-    for stand in [Stand::Point(x, y), Stand::Offset(0, x, y)] {
+    let offset = [
+        x - i64::from(plan.corners[0]),
+        y - i64::from(plan.corners[1]),
+    ];
+    let [[x, y], [dx, dy]] = [[x, y], offset].map(|at| at.map(|number| number as f64));
+    for stand in [Stand::Point(x, y), Stand::Offset(0, dx, dy)] {
         same("find", bytes, |calls| calls.find(lists, stand))?;
         same("list", bytes, |calls| {
             let mut table = table();
@@ -53,7 +69,9 @@ pub fn ask_every_function(bytes: usize) -> Result<(), String> {
                 (calls.change(lists, asked, &mut table), table)
             })?;
         }
-        let stands = stand.numbers().repeat(MOST_STANDS);
+        // As many as there may be; one listing is as deep as many.
+        let mut stands = [POINT, f64::NAN, f64::NAN].repeat(MOST_STANDS - 1);
+        stands.extend(stand.numbers());
         same("list_stands", bytes, |calls| {
             let mut table = table().repeat(MOST_STANDS);
             let mut replies = vec![0; stands.len()];

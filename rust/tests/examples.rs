@@ -1,7 +1,7 @@
 //! What document 01 gives as measured, printed and to be run.
 
 use manopluea_compare::calls::{Plan, Stand};
-use manopluea_compare::examples::{all, plan_q};
+use manopluea_compare::examples::{all, plan_q, plan_q_as_one_cell};
 use manopluea_compare::generate::query_record;
 use manopluea_compare::paper::{self, Direction, Floor, Paper, View};
 
@@ -32,6 +32,15 @@ fn plan_q_as_printed() {
         printed(Stand::Offset(2, -4.0, -7.0), 0, &plan_q()),
         expected
     );
+}
+
+#[test]
+fn plan_q_as_one_cell_printed() {
+    let expected = "rows 4 crossings 0\n0 0 1\n1 1 2\n2 2 3\n3 3 0\n";
+    let plan = plan_q_as_one_cell();
+    assert_eq!(printed(Stand::Point(6.0, 3.0), 0, &plan), expected);
+    // On what was the line between its triangles.
+    assert_eq!(printed(Stand::Point(5.0, 5.0), 0, &plan), expected);
 }
 
 #[test]

@@ -2,9 +2,14 @@
 //! be shut out that the documents name, and some more. The comparison has to
 //! find every one of them.
 
-use manopluea_compare::calls::{Calls, DoorChange, Lists, Reply, Stand, POINT};
+use manopluea_compare::calls::{
+    Calls, DoorChange, Lists, Plan, Reply, Stand, POINT, POLYGONS, TRIANGLES,
+};
 use manopluea_compare::compare::{compare, compare_program, Asked, Mismatch, Trial};
-use manopluea_compare::paper::{self, Floor, Paper, Row, View, MOST_STANDS, WALL};
+use manopluea_compare::generate::in_other_kind;
+use manopluea_compare::paper::{
+    self, cut_cells, Cell, Floor, Paper, Row, View, CELLS, CORNERS, DOORS, MOST_STANDS, WALL,
+};
 
 /// The enum of the faults, the list of all of them, and those in the expansion.
 macro_rules! faults {
@@ -29,8 +34,21 @@ faults! {
         DoubleSideValues,
         NarrowSideValues,
         DoorIsWallFromOneFace,
+        FanGoesOnAfterTheLeftLimit,
+        SidesFromTheLeftEnd,
     }
     elsewhere {
+        // In larger cells.
+        StraightCornerIsAccepted,
+        PentagramIsAccepted,
+        FacesAreThreeACell,
+        WriterWritesTheOldKind,
+        ReaderSaysTheOldKind,
+        AnyKindIsTheOldOne,
+        CountOfNineIsACell,
+        LeftoverIsLeftOut,
+        FrameOfCellsComesAfterSize,
+        CellIsItsFirstThreeCorners,
         // In what is handed back.
         AdjacentRowsAreJoined,
         NothingIsWritten,
@@ -89,7 +107,24 @@ impl Calls for Faulty {
     fn check(&self, lists: Lists<'_>) -> Reply {
         let mut reply = Paper.check(lists);
         match self.0 {
-            PlaceOfNeighbourIsItsCell if reply.number == 5 => reply.place /= 3,
+            PlaceOfNeighbourIsItsCell if reply.number == 5 => {
+                reply.place = cell_with(lists, reply.place);
+            }
+            StraightCornerIsAccepted if reply.number == 4 => {
+                return check_cells_by(lists, |turn, _, count| turn > 0 || turn == 0 && count > 3);
+            }
+            PentagramIsAccepted if reply.number == 4 => {
+                return check_cells_by(lists, |turn, on, _| turn > 0 || on > 2);
+            }
+            AnyKindIsTheOldOne if ![TRIANGLES, POLYGONS].contains(&lists.kind) => {
+                let kind = TRIANGLES;
+                return Paper.check(Lists { kind, ..lists });
+            }
+            CountOfNineIsACell | LeftoverIsLeftOut | FrameOfCellsComesAfterSize
+                if reply.number == 1 =>
+            {
+                return self.check_unframed(lists);
+            }
             RefusalCarriesValues if reply.number != 0 => reply.values[0] = 1,
             LineIsItsCorners if reply.number == 0 => return doors_by_corners(lists, reply),
             _ => {}
@@ -108,14 +143,21 @@ impl Calls for Faulty {
         if self.0 == LengthHasASign && negative {
             return refused(2);
         }
-        let reply = Paper.read(file, corners, cells, doors);
-        if self.0 == ReaderWritesBeforeRoom && reply.number == 11 {
-            corners.fill(0);
+        let mut reply = Paper.read(file, corners, cells, doors);
+        match self.0 {
+            ReaderWritesBeforeRoom if reply.number == 11 => corners.fill(0),
+            ReaderSaysTheOldKind if reply.number == 0 => reply.values[3] = TRIANGLES.into(),
+            _ => {}
         }
         reply
     }
 
     fn write(&self, lists: Lists<'_>, file: &mut [u8]) -> Reply {
+        if self.0 == WriterWritesTheOldKind && lists.kind == POLYGONS {
+            if let Some(triangles) = in_other_kind(&owned(lists)) {
+                return Paper.write(triangles.lists(), file);
+            }
+        }
         let reply = Paper.write(lists, file);
         if self.0 == WriterClearsTheRest && reply.number == 0 {
             if let Some(last) = file.last_mut() {
@@ -130,6 +172,7 @@ impl Calls for Faulty {
         match self.0 {
             LineIsOutside if reply.number == 9 => refused(10),
             HighestCellIsFound if reply.number == 0 => highest_cell(lists, stand),
+            CellIsItsFirstThreeCorners if reply.number == 0 => first_triangle(lists, stand),
             _ => reply,
         }
     }
@@ -158,6 +201,10 @@ impl Calls for Faulty {
             _ if reply.number != 0 => {}
             NothingIsWritten => table.copy_from_slice(&before),
             CrossingsAreInvented => reply.values[1] += 1,
+            FacesAreThreeACell => {
+                let (rows, _) = table[..3 * reply.values[0] as usize].as_chunks_mut::<3>();
+                three_a_cell(lists, rows);
+            }
             RestOfTableIsCleared => table[3 * reply.values[0] as usize..].fill(0),
             AdjacentRowsAreJoined => {
                 let rows = joined(table, reply.values[0] as usize);
@@ -294,7 +341,7 @@ struct Morning {
 impl Morning {
     fn lent(table: &[u16], replies: &[u64]) -> Morning {
         Morning {
-            reply: Reply::done([0; 3]),
+            reply: Reply::done([]),
             table: table.to_vec(),
             replies: replies.to_vec(),
         }
@@ -359,6 +406,32 @@ impl Morning {
 }
 
 impl Faulty {
+    /// Judges lists that are not cut into whole corners and cells.
+    fn check_unframed(&self, lists: Lists<'_>) -> Reply {
+        let (cells, rest) = cut_cells(lists.kind, lists.cells);
+        let whole = &lists.cells[..lists.cells.len() - rest.len()];
+        let sizes = [
+            (CORNERS, lists.corners.len() / 2),
+            (CELLS, cells.len()),
+            (DOORS, lists.doors.len()),
+        ];
+        match self.0 {
+            CountOfNineIsACell if lists.kind == POLYGONS && rest.first() == Some(&9) => {
+                Reply::refused(4, cells.len() as u32)
+            }
+            LeftoverIsLeftOut => Paper.check(Lists {
+                cells: whole,
+                ..lists
+            }),
+            FrameOfCellsComesAfterSize
+                if sizes.iter().any(|(counts, count)| !counts.contains(count)) =>
+            {
+                refused(2)
+            }
+            _ => refused(1),
+        }
+    }
+
     /// A list of stands, each first number as it is read with the fault.
     fn stands(&self, stands: &[f64]) -> Vec<f64> {
         let read = |first: f64| match self.0 {
@@ -392,30 +465,103 @@ impl Faulty {
 }
 
 fn refused(number: u32) -> Reply {
-    Reply {
-        number,
-        place: 0,
-        values: [0; 3],
-    }
+    Reply::refused(number, 0)
 }
 
 fn hand_back(rows: &[Row], crossings: u64, before: &[u16], table: &mut [u16]) -> Reply {
     table.copy_from_slice(before);
     let written = (3 * rows.len()).min(table.len());
     table[..written].copy_from_slice(&rows.as_flattened()[..written]);
-    Reply {
-        number: 0,
-        place: 0,
-        values: [rows.len() as u64, crossings, 0],
+    Reply::done([rows.len() as u64, crossings])
+}
+
+fn owned(lists: Lists<'_>) -> Plan {
+    Plan {
+        corners: lists.corners.to_vec(),
+        cells: lists.cells.to_vec(),
+        doors: lists.doors.to_vec(),
+        kind: lists.kind,
     }
+}
+
+/// The cell that a face of whole cells belongs to.
+fn cell_with(lists: Lists<'_>, face: u32) -> u32 {
+    let (cells, _) = cut_cells(lists.kind, lists.cells);
+    let mut faces = 0;
+    let ends = cells.iter().map(|cell| {
+        faces += cell.corners.len() as u32;
+        faces
+    });
+    ends.take_while(|&end| end <= face).count() as u32
+}
+
+/// Judges cells by a rule of its own: by the side value of each side and each
+/// corner, so many places on from where the side begins, of so many. Corner
+/// numbers that do not exist or do not differ are wrong; nothing else is checked.
+fn check_cells_by(lists: Lists<'_>, is_right: impl Fn(i128, usize, usize) -> bool) -> Reply {
+    let (cells, _) = cut_cells(lists.kind, lists.cells);
+    let (spots, _) = lists.corners.as_chunks::<2>();
+    let spot = |corner: u16| spots.get(usize::from(corner)).map(|at| at.map(i128::from));
+    let is_wrong = |cell: &Cell<'_>| {
+        let corners: Option<Vec<[i128; 2]>> = cell.corners.iter().map(|&n| spot(n)).collect();
+        let Some(corners) = corners else {
+            return true;
+        };
+        let count = corners.len();
+        if (1..count).any(|at| cell.corners[..at].contains(&cell.corners[at])) {
+            return true;
+        }
+        let turn = |a: [i128; 2], b: [i128; 2], c: [i128; 2]| {
+            (b[0] - a[0]) * (c[1] - a[1]) - (b[1] - a[1]) * (c[0] - a[0])
+        };
+        !(0..count).all(|side| {
+            (2..count).all(|on| {
+                let [a, b, c] = [0, 1, on].map(|on| corners[(side + on) % count]);
+                is_right(turn(a, b, c), on, count)
+            })
+        })
+    };
+    match cells.iter().position(is_wrong) {
+        Some(cell) => Reply::refused(4, cell as u32),
+        None => Reply::done([spots.len(), cells.len(), lists.doors.len()].map(|n| n as u64)),
+    }
+}
+
+/// Faces numbered as if every cell had three.
+fn three_a_cell(lists: Lists<'_>, rows: &mut [Row]) {
+    let floor = Floor::check(lists).expect("it was listed");
+    for [face, ..] in rows {
+        let cell = floor.cell_with(*face);
+        *face = 3 * cell as u16 + *face - floor.faces(cell).start;
+    }
+}
+
+/// The cell that is found where each is taken for its first three corners.
+fn first_triangle(lists: Lists<'_>, stand: Stand) -> Reply {
+    let (cells, _) = cut_cells(lists.kind, lists.cells);
+    let first = cells
+        .iter()
+        .flat_map(|cell| [&cell.corners[..3], &[WALL; 3]].concat());
+    find_walled(lists, &first.collect::<Vec<u16>>(), TRIANGLES, stand)
+}
+
+/// Finds a stand among other cells with the same corners, and no doors.
+fn find_walled(lists: Lists<'_>, cells: &[u16], kind: u16, stand: Stand) -> Reply {
+    let walled = Lists {
+        cells,
+        doors: &[],
+        kind,
+        ..lists
+    };
+    Paper.find(walled, stand)
 }
 
 /// Refuses a door that has the same two corners as an earlier one, as two
 /// different lines of a ramp can have.
 fn doors_by_corners(lists: Lists<'_>, reply: Reply) -> Reply {
+    let floor = Floor::check(lists).expect("it passed the check");
     let ends = |face: u16| {
-        let corner = |face: u16| lists.cells[usize::from(face / 3 * 6 + face % 3)];
-        let (a, b) = (corner(face), corner(next(face)));
+        let [a, b] = floor.ends(face);
         (a.min(b), a.max(b))
     };
     let taken = |door: usize| {
@@ -425,10 +571,7 @@ fn doors_by_corners(lists: Lists<'_>, reply: Reply) -> Reply {
             .any(|&face| ends(face) == ends(lists.doors[door]))
     };
     match (0..lists.doors.len()).find(|&door| taken(door)) {
-        Some(door) => Reply {
-            place: door as u32,
-            ..refused(6)
-        },
+        Some(door) => Reply::refused(6, door as u32),
         None => reply,
     }
 }
@@ -436,19 +579,14 @@ fn doors_by_corners(lists: Lists<'_>, reply: Reply) -> Reply {
 fn highest_cell(lists: Lists<'_>, stand: Stand) -> Reply {
     // With the cells in reverse order and walls everywhere, the least cell is
     // the highest.
-    let cells: Vec<u16> = lists
-        .cells
-        .chunks(6)
-        .rev()
-        .flat_map(|cell| [cell[0], cell[1], cell[2], WALL, WALL, WALL])
-        .collect();
-    let reversed = Lists {
-        corners: lists.corners,
-        cells: &cells,
-        doors: &[],
-    };
-    let mut reply = Paper.find(reversed, stand);
-    reply.values[0] = (lists.cells.len() / 6) as u64 - 1 - reply.values[0];
+    let (mut cells, _) = cut_cells(lists.kind, lists.cells);
+    cells.reverse();
+    cells
+        .iter_mut()
+        .for_each(|cell| cell.neighbours.to_mut().fill(WALL));
+    let numbers = cells.iter().flat_map(|cell| cell.numbers(lists.kind));
+    let mut reply = find_walled(lists, &numbers.collect::<Vec<u16>>(), lists.kind, stand);
+    reply.values[0] = cells.len() as u64 - 1 - reply.values[0];
     reply
 }
 
@@ -491,13 +629,14 @@ fn expand(lists: Lists<'_>, setting: u64, stand: Stand, slip: Fault) -> Option<(
         rows: Vec::new(),
         crossings: 0,
     };
-    let first = 3 * Paper.find(lists, stand).values[0] as u16;
-    for face in first..first + 3 {
-        let row = [face, floor.start(face), floor.start(next(face))];
-        if slip == OtherSidesAreWalls && face != first {
+    let faces = floor.faces(view.cell());
+    for face in faces.clone() {
+        let [right, left] = floor.ends(face);
+        let row = [face, right, left];
+        if slip == OtherSidesAreWalls && face != faces.start {
             sight.rows.push(row);
         } else {
-            sight.follow(row);
+            sight.follow(row, 0);
         }
     }
     Some((sight.rows, sight.crossings))
@@ -516,10 +655,6 @@ fn across(floor: &Floor, lists: Lists<'_>, setting: u64, slip: Fault) -> Option<
     Some(across)
 }
 
-fn next(face: u16) -> u16 {
-    face / 3 * 3 + (face + 1) % 3
-}
-
 struct Sight<'a> {
     floor: &'a Floor,
     q: [i64; 2],
@@ -530,41 +665,61 @@ struct Sight<'a> {
 }
 
 impl Sight<'_> {
-    fn follow(&mut self, row: Row) {
+    /// Follows a line that so many others were crossed for.
+    fn follow(&mut self, row: Row, depth: usize) {
         let entered = self.across[usize::from(row[0])];
-        // A slip can lead to endless rows; no listing has so many.
-        if entered == WALL || self.rows.len() > 4_096 {
+        // A slip can lead to endless rows or lines; no listing has so many.
+        if entered == WALL || self.rows.len() > 4_096 || depth > *CELLS.end() {
             self.rows.push(row);
             return;
         }
         self.crossings += 1;
-        let (right_side, left_side) = (next(entered), next(next(entered)));
-        let apex = self.floor.start(left_side);
-        let (right, left) = match self.slip {
-            LineEndsBecomeLimits => (self.floor.start(right_side), self.floor.start(entered)),
-            _ => (row[1], row[2]),
+        let limits = match self.slip {
+            LineEndsBecomeLimits => {
+                let [left, right] = self.floor.ends(entered);
+                [right, left]
+            }
+            _ => [row[1], row[2]],
         };
-        let (from_right, from_left) = (self.turn(right, apex), self.turn(apex, left));
+        let mut lines = self.fan(entered, limits);
+        if self.slip == SidesFromTheLeftEnd {
+            lines.reverse();
+        }
+        for line in lines {
+            self.follow(line, depth + 1);
+        }
+    }
+
+    /// The lines that are handed on, as a fan: its right limit moves on from
+    /// side to side, and it ends at the left one.
+    fn fan(&self, entered: u16, [mut right, left]: [u16; 2]) -> Vec<Row> {
         let ties_between = self.slip == CornerOnLimitIsBetween;
         let farther = self.slip == FartherCornerBecomesLimit;
-        if from_right < 0 || (from_right == 0 && !ties_between) {
-            let limit = if farther && from_right == 0 {
-                apex
+        let goes_on = self.slip == FanGoesOnAfterTheLeftLimit;
+        let mut lines = Vec::new();
+        let sides: Vec<u16> = self.floor.others(entered).collect();
+        for (at, &side) in sides.iter().enumerate() {
+            let [_, v] = self.floor.ends(side);
+            let (from_right, from_left) = (self.turn(right, v), self.turn(v, left));
+            if at + 1 == sides.len() {
+                lines.push([side, right, left]);
+            } else if from_right < 0 || (from_right == 0 && !ties_between) {
+                if farther && from_right == 0 {
+                    right = v;
+                }
+            } else if from_left < 0 || (from_left == 0 && !ties_between) {
+                let limit = if farther && from_left == 0 { v } else { left };
+                lines.push([side, right, limit]);
+                if !goes_on {
+                    break;
+                }
+                right = v;
             } else {
-                right
-            };
-            self.follow([left_side, limit, left]);
-        } else if from_left < 0 || (from_left == 0 && !ties_between) {
-            let limit = if farther && from_left == 0 {
-                apex
-            } else {
-                left
-            };
-            self.follow([right_side, right, limit]);
-        } else {
-            self.follow([right_side, right, apex]);
-            self.follow([left_side, apex, left]);
+                lines.push([side, right, v]);
+                right = v;
+            }
         }
+        lines
     }
 
     /// The sign of the side value of the stand and two corners.
@@ -648,7 +803,7 @@ fn a_morning_is_made_small() {
         (MorningIsOneShorter, MOST_STANDS),
     ] {
         match mismatch(fault).trial {
-            Trial::Lists(scene, Asked::ListStands { .. }) => {
+            Trial::Lists(scene, Asked::ListStands { .. } | Asked::EitherKind { .. }) => {
                 assert_eq!(scene.stands.len(), 3 * stands, "{fault:?}: {scene:?}");
                 assert!(scene.plan.cells.len() <= 6 * 2, "{fault:?}: {scene:?}");
             }

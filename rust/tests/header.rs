@@ -1,13 +1,13 @@
 //! The numbers of `include/manopluea.h` are those of the documents, and its stack
 //! is enough for every function.
 
-use manopluea_compare::calls::{Plan, Refusal, Stand, POINT};
-use manopluea_compare::generate;
+use manopluea_compare::calls::{Refusal, Stand, POINT, POLYGONS, TRIANGLES};
+use manopluea_compare::generate::{self, in_other_kind};
 use manopluea_compare::paper::{
-    encode, Direction, Floor, View, CELLS, COORDINATES, CORNERS, DOORS, MOST_INPUT, MOST_STANDS,
-    WALL,
+    self, encode, Direction, Floor, View, CELLS, COORDINATES, CORNERS, DOORS, MOST_INPUT,
+    MOST_STANDS, SIDES, WALL,
 };
-use manopluea_compare::proved::MOST_TEXT;
+use manopluea_compare::proved::{MOST_TEXT, REPLY};
 use std::process::{Command, Output};
 
 const HEADER: &str = include_str!("../../include/manopluea.h");
@@ -41,12 +41,23 @@ fn the_limits() {
     assert_eq!(defined("MOST_STANDS"), MOST_STANDS as i64);
     assert_eq!(defined_text("POINT"), format!("({POINT:?})"));
     assert_eq!(defined("MOST_INPUT"), MOST_INPUT as i64);
-    let largest = Plan {
-        corners: vec![0; 2 * CORNERS.end()],
-        cells: vec![0; 6 * CELLS.end()],
-        doors: vec![0; *DOORS.end()],
-    };
-    assert_eq!(defined("MOST_FILE"), encode(largest.lists()).len() as i64);
+    assert_eq!(defined("LEAST_SIDES"), *SIDES.start() as i64);
+    assert_eq!(defined("MOST_SIDES"), *SIDES.end() as i64);
+    assert_eq!(defined("TRIANGLES"), i64::from(TRIANGLES));
+    assert_eq!(defined("POLYGONS"), i64::from(POLYGONS));
+    assert_eq!(defined("REPLY"), REPLY as i64);
+}
+
+/// The fullest plan is accepted, and no list of it could be longer.
+#[test]
+fn the_largest_file() {
+    let (fullest, _) = generate::fullest();
+    let [corners, cells, doors] = [CORNERS, CELLS, DOORS].map(|counts| *counts.end() as u64);
+    let counts = paper::check(fullest.lists());
+    assert_eq!(counts.values, [corners, cells, doors, 0, 0]);
+    assert_eq!(fullest.cells.len(), (1 + 2 * SIDES.end()) * CELLS.end());
+    let most = encode(fullest.lists()).len() as i64;
+    assert_eq!(defined("MOST_FILE"), most);
 }
 
 /// As many rows as there are corners, each number as long as it can be.
@@ -54,7 +65,7 @@ fn the_limits() {
 fn the_text_has_room_for_the_longest_answer() {
     assert_eq!(defined("TEXT"), MOST_TEXT as i64);
     let rows = *CORNERS.end();
-    let (face, corner) = (3 * CELLS.end() - 1, rows - 1);
+    let (face, corner) = (SIDES.end() * CELLS.end() - 1, rows - 1);
     let row = format!("{face} {corner} {corner}\n");
     let crossings = rows * (CELLS.end() - 1);
     let first = format!("rows {rows} crossings {crossings}\n");
@@ -97,16 +108,20 @@ fn no_floor_is_deeper_than_the_deepest() {
     let (mesh, [x, y]) = generate::deepest();
     assert_eq!(mesh.cells.len(), *CELLS.end());
     let plan = mesh.plan(&[]);
-    let floor = Floor::check(plan.lists()).expect("the paper program accepts it");
-    let view = View::new(&floor, 0, Stand::Point(x as f64, y as f64)).expect("the stand is inside");
-    let west = Direction { x: -1, y: 0 };
-    assert!(!view.meets_corner(west));
-    let walk = view.walk(west).expect("it ends at a wall");
-    assert_eq!(walk.route.len(), CELLS.end() - 1);
+    let other = in_other_kind(&plan).expect("it is of triangles");
+    for plan in [plan, other] {
+        let floor = Floor::check(plan.lists()).expect("the paper program accepts it");
+        let stand = Stand::Point(x as f64, y as f64);
+        let view = View::new(&floor, 0, stand).expect("the stand is inside");
+        let west = Direction { x: -1, y: 0 };
+        assert!(!view.meets_corner(west));
+        let walk = view.walk(west).expect("it ends at a wall");
+        assert_eq!(walk.route.len(), CELLS.end() - 1);
+    }
 }
 
-/// Every function on the deepest floor, in a process of its own: a stack that
-/// ends there ends that process, not the tests.
+/// Every function on the deepest floors known and on the fullest plan, in a process
+/// of its own: a stack that ends there ends that process, not the tests.
 fn on_stack(bytes: i64) -> Output {
     Command::new(env!("CARGO_BIN_EXE_manopluea-compare"))
         .args(["stack", &bytes.to_string()])
@@ -127,7 +142,8 @@ fn the_stack_is_enough_for_every_function() {
     );
 }
 
+/// A listing's own tables alone are larger than a sixteenth of what is stated.
 #[test]
 fn a_stack_that_is_too_small_is_noticed() {
-    assert!(!on_stack(defined("STACK") / 2).status.success());
+    assert!(!on_stack(defined("STACK") / 16).status.success());
 }

@@ -1,10 +1,12 @@
 //! The named cases: each reply is the one the documents give, of the paper
 //! program and of the proved library, and both leave the same lent memory.
 
-use manopluea_compare::calls::{Calls, DoorChange, Plan, Reply, Stand, POINT};
-use manopluea_compare::examples::{all, plan_q};
-use manopluea_compare::generate::query_record;
-use manopluea_compare::paper::{encode, Paper, WALL};
+use manopluea_compare::calls::{
+    Calls, DoorChange, Lists, Plan, Reply, Stand, POINT, POLYGONS, TRIANGLES,
+};
+use manopluea_compare::examples::{all, plan_q, plan_q_as_one_cell, Example};
+use manopluea_compare::generate::{fullest, in_other_kind, longest_fans, query_record};
+use manopluea_compare::paper::{cut_cells, encode, Paper, WALL};
 use manopluea_compare::proved::Proved;
 
 /// The end of the coordinate range.
@@ -31,21 +33,20 @@ fn list(plan: &Plan, setting: u64, stand: Stand, room: usize) -> (Reply, Vec<u16
     })
 }
 
-/// Reads into lists of these lengths; a refusal leaves them as they were.
+/// Reads into lists of these lengths, whose kind becomes the one that is read; a
+/// refusal leaves them as they were.
 fn read(file: &[u8], [n, m, k]: [usize; 3]) -> (Reply, Plan) {
     let before = Plan {
         corners: vec![i32::from(FILL); n],
         cells: vec![u16::from(FILL); m],
         doors: vec![u16::from(FILL); k],
+        kind: 0,
     };
     let (reply, lists) = both(|calls| {
         let mut lists = before.clone();
-        let Plan {
-            corners,
-            cells,
-            doors,
-        } = &mut lists;
-        (calls.read(file, corners, cells, doors), lists)
+        let reply = calls.read(file, &mut lists.corners, &mut lists.cells, &mut lists.doors);
+        lists.kind = reply.values[3] as u16;
+        (reply, lists)
     });
     if reply.number != 0 {
         assert_eq!(lists, before, "a refusal wrote");
@@ -65,6 +66,13 @@ fn write(plan: &Plan, room: usize) -> (Reply, Vec<u8>) {
     (reply, file)
 }
 
+/// The reader's reply for a plan that passes the check with this one.
+fn read_reply(checked: Reply, plan: &Plan) -> Reply {
+    let [corners, cells, doors, ..] = checked.values;
+    let numbers = plan.cells.len() as u64;
+    Reply::done([corners, cells, doors, plan.kind.into(), numbers])
+}
+
 /// The check's reply, which finding, the writer and the reader share where it
 /// is a refusal of the plan.
 fn check(plan: &Plan) -> Reply {
@@ -76,11 +84,13 @@ fn check(plan: &Plan) -> Reply {
     } else {
         assert_eq!(find(plan, Stand::Point(f64::NAN, 0.0)), reply, "finding");
     }
-    if plan.corners.len().is_multiple_of(2) && plan.cells.len().is_multiple_of(6) {
-        let lengths = [plan.corners.len(), plan.cells.len(), plan.doors.len()];
-        let (read, lists) = read(&file, lengths);
+    let lengths = [plan.corners.len(), plan.cells.len(), plan.doors.len()];
+    let (read, lists) = read(&file, lengths);
+    if reply.number == 0 {
+        assert_eq!(read, read_reply(reply, plan), "reader");
+        assert_eq!(lists, *plan);
+    } else {
         assert_eq!(read, reply, "reader");
-        assert!(read.number != 0 || lists == *plan);
     }
     reply
 }
@@ -89,10 +99,11 @@ fn check(plan: &Plan) -> Reply {
 fn stack(corners: usize, cells: usize) -> Plan {
     let mut plan = Plan {
         corners: vec![0, 0, 9, 0, 0, 9],
-        ..Plan::default()
+        cells: [0, 1, 2, WALL, WALL, WALL].repeat(cells),
+        doors: vec![],
+        kind: TRIANGLES,
     };
     plan.corners.resize(2 * corners, 0);
-    plan.cells = [0, 1, 2, WALL, WALL, WALL].repeat(cells);
     plan
 }
 
@@ -113,7 +124,13 @@ fn strip(cells: u16, doors: u16) -> Plan {
         corners: corners.collect(),
         cells: (0..cells).flat_map(cell).collect(),
         doors: (0..doors).map(|i| 3 * i + 1).collect(),
+        kind: TRIANGLES,
     }
+}
+
+/// A plan of triangles in the other kind.
+fn other_kind(plan: &Plan) -> Plan {
+    in_other_kind(plan).expect("it is of triangles")
 }
 
 #[test]
@@ -237,7 +254,15 @@ fn lists_that_are_no_multiples() {
     let mut plan = plan_q();
     plan.corners.pop();
     assert_eq!(check(&plan), Reply::refused(1, 0));
-    assert_eq!(check(&Plan::default()), Reply::refused(2, 0));
+    for kind in [TRIANGLES, POLYGONS] {
+        let empty = Plan {
+            corners: vec![],
+            cells: vec![],
+            doors: vec![],
+            kind,
+        };
+        assert_eq!(check(&empty), Reply::refused(2, 0));
+    }
 }
 
 #[test]
@@ -248,7 +273,8 @@ fn plan_q_cut_at_every_length() {
         let (reply, _) = read(&file[..end], [8, 12, 1]);
         assert_eq!(reply, Reply::refused(1, 0), "cut at {end}");
     }
-    assert_eq!(read(&file, [8, 12, 1]), (Reply::done([4, 2, 1]), plan_q()));
+    let done = Reply::done([4, 2, 1, TRIANGLES.into(), 12]);
+    assert_eq!(read(&file, [8, 12, 1]), (done, plan_q()));
 }
 
 #[test]
@@ -268,6 +294,7 @@ fn plan_q_with_every_byte_changed() {
                         corners: lists.corners[..8].to_vec(),
                         cells: lists.cells[..12].to_vec(),
                         doors: lists.doors[..1].to_vec(),
+                        kind: lists.kind,
                     };
                     assert_eq!(write(&plan, other.len()).1, other, "byte {at} is {byte}");
                     taken += 1;
@@ -328,7 +355,8 @@ fn files_with_wrong_frames() {
     }
     // Bodies of no bytes: no doors are right, no corners are too few.
     let no_doors = [records[0], records[1], &[0, 0, 0, 0, 3, 0]].concat();
-    assert_eq!(read(&no_doors, room).0, Reply::done([4, 2, 0]));
+    let done = Reply::done([4, 2, 0, TRIANGLES.into(), 12]);
+    assert_eq!(read(&no_doors, room).0, done);
     let no_corners = [&[0, 0, 0, 0, 1, 0], records[1], records[2]].concat();
     assert_eq!(read(&no_corners, room).0, Reply::refused(2, 0));
 }
@@ -339,7 +367,8 @@ fn room_for_the_reader_the_writer_and_the_listing() {
     for room in [[7, 12, 1], [8, 11, 1], [8, 12, 0], [0, 0, 0]] {
         assert_eq!(read(&file, room).0, Reply::refused(11, 0), "{room:?}");
     }
-    assert_eq!(read(&file, [9, 14, 3]).0, Reply::done([4, 2, 1]));
+    let done = Reply::done([4, 2, 1, TRIANGLES.into(), 12]);
+    assert_eq!(read(&file, [9, 14, 3]).0, done);
     for room in [0, 1, 75] {
         assert_eq!(write(&plan_q(), room).0, Reply::refused(11, 0), "{room}");
     }
@@ -566,6 +595,7 @@ fn the_least_of_cells_on_top_of_each_other() {
             .flat_map(|&[a, b, c]| [a, b, c, WALL, WALL, WALL])
             .collect(),
         doors: vec![],
+        kind: TRIANGLES,
     };
     assert_eq!(find(&plan, Stand::Point(2.0, 2.0)), Reply::done([2, 0, 0]));
     assert_eq!(find(&plan, Stand::Point(0.0, 0.0)), Reply::refused(9, 0));
@@ -575,8 +605,14 @@ fn the_least_of_cells_on_top_of_each_other() {
 #[test]
 fn the_twelve_examples() {
     for example in all() {
-        let listed = both(|calls| example.ask(calls));
-        assert_eq!(listed, example.expected, "example {}", example.letter);
+        let in_other_kind = Example {
+            plan: other_kind(&example.plan),
+            ..example.clone()
+        };
+        for example in [example, in_other_kind] {
+            let listed = both(|calls| example.ask(calls));
+            assert_eq!(listed, example.expected, "example {}", example.letter);
+        }
     }
 }
 
@@ -989,6 +1025,7 @@ fn hall() -> Plan {
         ]
         .concat(),
         doors: vec![10, 1, 2],
+        kind: TRIANGLES,
     }
 }
 
@@ -1078,4 +1115,606 @@ fn changes_that_are_refused() {
         ..shutting
     };
     assert_eq!(change(&plan, no_such_bit).0, Reply::refused(7, 0));
+}
+
+/// A plan of cells of 3 to 8 corners, with no doors.
+fn polygons(corners: &[[i32; 2]], cells: &[(&[u16], &[u16])]) -> Plan {
+    let numbers = |&(corners, neighbours): &(&[u16], &[u16])| {
+        [&[corners.len() as u16], corners, neighbours].concat()
+    };
+    Plan {
+        corners: corners.as_flattened().to_vec(),
+        cells: cells.iter().flat_map(numbers).collect(),
+        doors: vec![],
+        kind: POLYGONS,
+    }
+}
+
+/// One cell between walls with its corners at these spots, in this order.
+fn one_cell(spots: &[[i32; 2]]) -> Plan {
+    let numbers: Vec<u16> = (0..spots.len() as u16).collect();
+    polygons(spots, &[(&numbers, &vec![WALL; spots.len()])])
+}
+
+/// A triangle, a cell of four corners, one of eight and one of five, from west to
+/// east, with a door between each and the next. Their faces begin at 0, 3, 7 and
+/// 15; the lines between them are faces 1 and 6, 4 and 14, 10 and 19.
+fn row_of_cells() -> Plan {
+    let corners = [
+        [0, 0],
+        [10, -10],
+        [10, 10],
+        [20, -10],
+        [20, 10],
+        [30, -20],
+        [40, -20],
+        [50, -10],
+        [50, 10],
+        [40, 20],
+        [30, 20],
+        [60, -10],
+        [70, 0],
+        [60, 10],
+    ];
+    let mut plan = polygons(
+        &corners,
+        &[
+            (&[0, 1, 2], &[WALL, 1, WALL]),
+            (&[1, 3, 4, 2], &[WALL, 2, WALL, 0]),
+            (
+                &[3, 5, 6, 7, 8, 9, 10, 4],
+                &[WALL, WALL, WALL, 3, WALL, WALL, WALL, 1],
+            ),
+            (&[7, 11, 12, 13, 8], &[WALL, WALL, WALL, WALL, 2]),
+        ],
+    );
+    plan.doors = vec![1, 4, 19];
+    plan
+}
+
+#[test]
+fn cells_of_several_sizes() {
+    let plan = row_of_cells();
+    assert_eq!(check(&plan), Reply::done([14, 4, 3]));
+    assert_eq!(plan.cells.len(), 7 + 9 + 17 + 11);
+    // Strictly inside each, on each line, and on a wall.
+    let at = |x: i32, y: i32| find(&plan, Stand::Point(x.into(), y.into()));
+    for (cell, x) in [(0, 5), (1, 15), (2, 35), (3, 55)] {
+        assert_eq!(at(x, 0), Reply::done([cell]), "{x}");
+    }
+    for [x, y] in [[10, 0], [20, 0], [50, 0], [35, 20], [25, 15], [65, 5]] {
+        assert_eq!(at(x, y), Reply::refused(9, 0), "({x}, {y})");
+    }
+    for [x, y] in [[-1, 0], [35, 21], [25, 16], [15, 11], [71, 0]] {
+        assert_eq!(at(x, y), Reply::refused(10, 0), "({x}, {y})");
+    }
+    // Through all of them: corners 5 and 10 are outside the cone that comes
+    // through the second line, and take no part.
+    let (reply, table) = list(&plan, 0, Stand::Point(5.0, 0.0), 42);
+    assert_eq!(reply, Reply::done([12, 3]));
+    let expected = [
+        [0, 0, 1],
+        [3, 1, 3],
+        [8, 3, 6],
+        [9, 6, 7],
+        [15, 7, 11],
+        [16, 11, 12],
+        [17, 12, 13],
+        [18, 13, 8],
+        [11, 8, 9],
+        [12, 9, 4],
+        [5, 4, 2],
+        [2, 2, 0],
+    ];
+    assert_eq!(table[..36], *expected.as_flattened());
+}
+
+/// Faces are numbered in the order of the list, so the places behind a larger
+/// cell are moved by its sides.
+#[test]
+fn places_in_larger_cells() {
+    let plan = row_of_cells();
+    let refused = |change: &dyn Fn(&mut Plan), number, place| {
+        let mut wrong = plan.clone();
+        change(&mut wrong);
+        assert_eq!(check(&wrong), Reply::refused(number, place));
+    };
+    // The neighbours of the last cell begin at place 39 of the list, its faces
+    // at 15; those of the octagon at 25 and 7.
+    refused(&|plan| plan.cells[43] = WALL, 5, 10);
+    refused(&|plan| plan.cells[43] = 3, 5, 10);
+    refused(&|plan| plan.cells[39] = 2, 5, 15);
+    refused(&|plan| plan.cells[40] = 4, 5, 16);
+    refused(&|plan| plan.cells[42] = WALL - 1, 5, 18);
+    refused(&|plan| plan.cells[32] = WALL, 5, 4);
+    refused(&|plan| plan.cells[28] = WALL, 5, 19);
+    refused(&|plan| plan.cells[35] = 14, 4, 3);
+    refused(&|plan| plan.cells[35] = WALL, 4, 3);
+    refused(&|plan| plan.cells.swap(17, 18), 4, 2);
+    // Doors: the same line from both faces, walls, and beyond the last face.
+    refused(&|plan| plan.doors = vec![4, 1, 14], 6, 2);
+    refused(&|plan| plan.doors = vec![10, 19], 6, 1);
+    refused(&|plan| plan.doors = vec![19, 10], 6, 1);
+    refused(&|plan| plan.doors = vec![1, 18], 6, 1);
+    refused(&|plan| plan.doors = vec![20], 6, 0);
+    refused(&|plan| plan.doors = vec![1, 4, 10, WALL], 6, 3);
+}
+
+#[test]
+fn doors_between_cells_of_different_size() {
+    let plan = row_of_cells();
+    for x in [5, 15, 35, 55] {
+        for y in [-4, 0, 3] {
+            let stand = Stand::Point(x.into(), y.into());
+            for setting in 0..8 {
+                for door in 0..3 {
+                    toggle(&plan, setting, stand, door);
+                }
+            }
+        }
+    }
+    // The door is seen from the octagon's face 10, and from the other's 19.
+    let shut = |x| rows(&plan, 0b100, Stand::Point(x, 0.0));
+    assert!(shut(35.0).chunks(3).any(|row| row == [10, 7, 8]));
+    assert!(shut(55.0).chunks(3).any(|row| row == [19, 8, 7]));
+}
+
+#[test]
+fn plan_q_as_one_cell_of_four_corners() {
+    let plan = plan_q_as_one_cell();
+    assert_eq!(check(&plan), Reply::done([4, 1, 0]));
+    let seen = [0, 0, 1, 1, 1, 2, 2, 2, 3, 3, 3, 0];
+    // The second stand is on what was the line between two triangles.
+    for stand in [
+        Stand::Point(6.0, 3.0),
+        Stand::Point(5.0, 5.0),
+        Stand::Offset(2, -4.0, -7.0),
+    ] {
+        let (reply, table) = list(&plan, 0, stand, 12);
+        assert_eq!((reply, &table[..]), (Reply::done([4, 0]), &seen[..]));
+    }
+    let morning = list_stands(&plan, 0, &[BESIDE, [POINT, 5.0, 5.0]].concat(), [24, 6]);
+    let expected = Morning::new(
+        Reply::done([8, 0]),
+        [24, 6],
+        &seen.repeat(2),
+        &[[0, 4, 0]; 2],
+    );
+    assert_eq!(morning, expected);
+    let at = |x, y| find(&plan, Stand::Point(x, y)).number;
+    assert_eq!([at(0.0, 0.0), at(6.0, 0.0), at(10.0, 9.0)], [9; 3]);
+    assert_eq!([at(11.0, 5.0), at(5.0, -1.0), at(-1.0, 11.0)], [10; 3]);
+    assert_eq!(list(&plan, 1, Stand::Point(6.0, 3.0), 12).0.number, 7);
+}
+
+#[test]
+fn counts_of_corners_that_no_cell_has() {
+    let plan = row_of_cells();
+    let (cells, _) = cut_cells(plan.kind, &plan.cells);
+    let mut at = 0;
+    for cell in cells {
+        for count in [0, 1, 2, 9, 10, 255, 256, 259, u16::MAX] {
+            let mut wrong = plan.clone();
+            wrong.cells[at] = count;
+            assert_eq!(check(&wrong), Reply::refused(1, 0), "{count} at {at}");
+            // The frame comes before the size.
+            wrong.doors = vec![2; 65];
+            assert_eq!(check(&wrong), Reply::refused(1, 0), "{count} at {at}");
+        }
+        at += 1 + 2 * cell.corners.len();
+    }
+    // As many numbers as such a cell would have.
+    for count in [0, 1, 2, 9] {
+        let spots: Vec<[i32; 2]> = (0..count).map(|i| [i, i * i]).collect();
+        let mut wrong = one_cell(&spots);
+        wrong.corners.extend([90, 0, 90, 90, 0, 90]);
+        assert_eq!(check(&wrong), Reply::refused(1, 0), "{count} corners");
+    }
+    for count in 3..=8 {
+        let spots: Vec<[i32; 2]> = (0..count).map(|i| [i, i * i]).collect();
+        let done = Reply::done([count as u64, 1, 0]);
+        assert_eq!(check(&one_cell(&spots)), done, "{count} corners");
+    }
+}
+
+#[test]
+fn lists_of_larger_cells_cut_anywhere() {
+    let plan = row_of_cells();
+    let ends = [0, 7, 16, 33, 44];
+    for end in 0..plan.cells.len() {
+        let mut cut = plan.clone();
+        cut.cells.truncate(end);
+        let number = match end {
+            0 => 2,
+            _ if ends.contains(&end) => 5,
+            _ => 1,
+        };
+        assert_eq!(check(&cut).number, number, "cut at {end}");
+        cut.doors = vec![2; 65];
+        let number = if ends.contains(&end) { 2 } else { 1 };
+        assert_eq!(check(&cut).number, number, "cut at {end}");
+    }
+    // What is left over, however much it is, and a count alone.
+    for rest in [
+        &[0][..],
+        &[3],
+        &[8],
+        &[3, 0, 1, 2, WALL, WALL],
+        &[WALL; 6],
+        &[2, 0, 1, WALL, WALL],
+    ] {
+        let mut longer = plan.clone();
+        longer.cells.extend(rest);
+        assert_eq!(check(&longer), Reply::refused(1, 0), "{rest:?}");
+    }
+    let mut uneven = plan;
+    uneven.corners.pop();
+    assert_eq!(check(&uneven), Reply::refused(1, 0));
+}
+
+#[test]
+fn kinds_that_there_are_not() {
+    let triangles = plan_q();
+    let larger = row_of_cells();
+    let refused = Reply::refused(1, 0);
+    for kind in (0..=u16::MAX).filter(|kind| ![TRIANGLES, POLYGONS].contains(kind)) {
+        // The list that would pass if the high byte were left out.
+        let plan = match kind % 256 {
+            POLYGONS => &larger,
+            _ => &triangles,
+        };
+        let lists = Lists {
+            kind,
+            ..plan.lists()
+        };
+        assert_eq!(both(|calls| calls.check(lists)), refused, "kind {kind}");
+    }
+    for kind in [0, 1, 3, 11, 13, 258, 268, 514, 3_074, 32_770, u16::MAX] {
+        for plan in [&triangles, &larger] {
+            let wrong = Plan {
+                kind,
+                ..plan.clone()
+            };
+            assert_eq!(check(&wrong), refused, "kind {kind}");
+            let empty = Plan {
+                cells: vec![],
+                ..wrong.clone()
+            };
+            assert_eq!(check(&empty), refused, "kind {kind}");
+            let stand = Stand::Point(6.0, 3.0);
+            let (reply, table) = list(&wrong, 1 << 63, stand, 0);
+            assert_eq!((reply, table), (refused, vec![]), "kind {kind}");
+            let room = [42, 3];
+            let morning = list_stands(&wrong, 1 << 63, &BESIDE, room);
+            assert_eq!(morning, Morning::refused(1, 0, room), "kind {kind}");
+            let asked = DoorChange {
+                setting: 0,
+                stand,
+                given: &[],
+                door: 99,
+                shut: true,
+            };
+            assert_eq!(change(&wrong, asked).0, refused, "kind {kind}");
+        }
+    }
+}
+
+/// A list is cut as the kind says, whatever it was made for.
+#[test]
+fn lists_in_the_kind_of_the_other() {
+    let swapped = |plan: Plan, kind| check(&Plan { kind, ..plan });
+    // Plan Q as larger cells would begin with a count of 0.
+    assert_eq!(swapped(plan_q(), POLYGONS), Reply::refused(1, 0));
+    assert_eq!(swapped(row_of_cells(), TRIANGLES), Reply::refused(1, 0));
+    assert_eq!(
+        swapped(plan_q_as_one_cell(), TRIANGLES),
+        Reply::refused(1, 0)
+    );
+    // Six cells of three corners are seven of six numbers, all of them wrong.
+    let six = other_kind(&stack(3, 6));
+    assert_eq!(six.cells.len(), 42);
+    assert_eq!(swapped(six, TRIANGLES), Reply::refused(4, 0));
+}
+
+#[test]
+fn cells_that_are_not_strictly_convex() {
+    let square = [[0, 0], [10, 0], [10, 10], [0, 10]];
+    let refused = |spots: &[[i32; 2]]| {
+        for turn in 0..spots.len() {
+            let mut spots = spots.to_vec();
+            spots.rotate_left(turn);
+            assert_eq!(check(&one_cell(&spots)), Reply::refused(4, 0), "{spots:?}");
+        }
+    };
+    assert_eq!(check(&one_cell(&square)), Reply::done([4, 1, 0]));
+    // A straight corner, in each side.
+    for (side, between) in [[5, 0], [10, 5], [5, 10], [0, 5]].iter().enumerate() {
+        let mut spots = square.to_vec();
+        spots.insert(side + 1, *between);
+        refused(&spots);
+    }
+    // Just beside it on the inside, and on the outside.
+    refused(&[[0, 0], [5, 1], [10, 0], [10, 10], [0, 10]]);
+    let outside = one_cell(&[[0, 0], [5, -1], [10, 0], [10, 10], [0, 10]]);
+    assert_eq!(check(&outside), Reply::done([5, 1, 0]));
+    // Two corners in one place, neighbours and others.
+    refused(&[[0, 0], [10, 0], [10, 0], [10, 10], [0, 10]]);
+    refused(&[[0, 0], [10, 0], [10, 10], [0, 0], [0, 10]]);
+    // On its back, crossed, and with a corner turned in.
+    refused(&[[0, 10], [10, 10], [10, 0], [0, 0]]);
+    refused(&[[0, 0], [10, 10], [10, 0], [0, 10]]);
+    refused(&[[0, 0], [10, 0], [2, 2], [0, 10]]);
+    // Every corner on one line, and the ends of the coordinates.
+    refused(&[[0, 0], [1, 1], [2, 2], [3, 3]]);
+    let [low, high] = [-LIMIT, LIMIT];
+    let widest = [[low, low], [high, low], [high, high], [low, high]];
+    assert_eq!(check(&one_cell(&widest)), Reply::done([4, 1, 0]));
+    refused(&[[low, low], [0, low], [high, low], [high, high]]);
+    refused(&[[low, low], [high, low], [high, high], [0, 0]]);
+    let wide = [[low, low], [high, low], [high, high], [-1, 0]];
+    assert_eq!(check(&one_cell(&wide)), Reply::done([4, 1, 0]));
+}
+
+/// Each corner turns left, and yet some are not left of every side.
+#[test]
+fn stars_are_refused() {
+    let corners = [
+        [40, 10],
+        [20, 40],
+        [-20, 40],
+        [-40, 10],
+        [-40, -20],
+        [-20, -40],
+        [20, -40],
+        [40, -20],
+    ];
+    for (count, step) in [(5, 2), (7, 2), (7, 3), (8, 3)] {
+        let spots: Vec<[i32; 2]> = (0..count).map(|i| corners[i]).collect();
+        let done = Reply::done([count as u64, 1, 0]);
+        assert_eq!(check(&one_cell(&spots)), done);
+        let star: Vec<[i32; 2]> = (0..count).map(|i| spots[i * step % count]).collect();
+        let turns = (0..count).all(|i| {
+            let [a, b, c] = [0, 1, 2].map(|on| star[(i + on) % count]);
+            (b[0] - a[0]) * (c[1] - a[1]) - (b[1] - a[1]) * (c[0] - a[0]) > 0
+        });
+        assert!(turns, "{star:?}");
+        assert_eq!(check(&one_cell(&star)), Reply::refused(4, 0));
+    }
+}
+
+#[test]
+fn equal_and_missing_corner_numbers() {
+    let plan = plan_q_as_one_cell();
+    for at in 1..5 {
+        for number in [4, 5, WALL - 1, WALL] {
+            let mut wrong = plan.clone();
+            wrong.cells[at] = number;
+            assert_eq!(check(&wrong), Reply::refused(4, 0), "{number} at {at}");
+        }
+        for other in (1..5).filter(|&other| other != at) {
+            let mut wrong = plan.clone();
+            wrong.cells[at] = wrong.cells[other];
+            assert_eq!(check(&wrong), Reply::refused(4, 0), "{other} at {at}");
+        }
+    }
+    // The least wrong cell is the place.
+    let mut wrong = row_of_cells();
+    wrong.cells[34] = wrong.cells[35];
+    assert_eq!(check(&wrong), Reply::refused(4, 3));
+    wrong.cells[8] = 14;
+    assert_eq!(check(&wrong), Reply::refused(4, 1));
+}
+
+/// Corners of the larger cell lie on both limits and do not replace them, also
+/// where both ends of one side do.
+#[test]
+fn corners_of_larger_cells_on_limits() {
+    let corners = [
+        [0, -20],
+        [10, 0],
+        [-10, 0],
+        [20, 10],
+        [10, 18],
+        [-10, 18],
+        [-20, 10],
+    ];
+    let near: (&[u16], &[u16]) = (&[0, 1, 2], &[WALL, 1, WALL]);
+    let seen = |far: &[u16]| {
+        let mut neighbours = vec![WALL; far.len()];
+        neighbours[0] = 0;
+        let plan = polygons(&corners, &[near, (far, &neighbours)]);
+        let (reply, table) = list(&plan, 0, Stand::Point(0.0, -10.0), 21);
+        assert_eq!((reply.number, reply.values[1]), (0, 1), "{far:?}");
+        let (rows, _) = table.as_chunks::<3>();
+        let rows = rows[..reply.values[0] as usize].to_vec();
+        assert_eq!((rows[0], rows[rows.len() - 1]), ([0, 0, 1], [2, 2, 0]));
+        rows[1..rows.len() - 1].to_vec()
+    };
+    // Two corners on the limits, and two between them.
+    let hexagon = seen(&[2, 1, 3, 4, 5, 6]);
+    assert_eq!(hexagon, [[5, 1, 4], [6, 4, 5], [7, 5, 2]]);
+    // Both ends of one side on the limits.
+    assert_eq!(seen(&[2, 1, 3, 6]), [[5, 1, 2]]);
+    // One on a limit.
+    assert_eq!(seen(&[2, 1, 3, 5]), [[5, 1, 5], [6, 5, 2]]);
+    assert_eq!(seen(&[2, 1, 4, 6]), [[4, 1, 4], [5, 4, 2]]);
+    assert_eq!(seen(&[2, 1, 3]), [[5, 1, 2]]);
+    assert_eq!(seen(&[2, 1, 6]), [[4, 1, 2]]);
+    assert_eq!(seen(&[2, 1, 4, 5]), [[4, 1, 4], [5, 4, 5], [6, 5, 2]]);
+}
+
+/// The record of the cells cut at every byte, its length with it.
+#[test]
+fn a_record_of_larger_cells_cut_at_every_byte() {
+    let plan = row_of_cells();
+    let file = encode(plan.lists());
+    let (first, length) = (6 + 8 * 14, 2 * plan.cells.len());
+    let body = first + 6;
+    let (head, rest) = (&file[..first], &file[body + length..]);
+    let room = [28, 44, 3];
+    for end in 0..length {
+        let record = [&(end as u32).to_le_bytes(), &file[first + 4..body + end]].concat();
+        let (reply, _) = read(&[head, &record, rest].concat(), room);
+        let expected = match end {
+            0 => Reply::refused(2, 0),
+            14 => Reply::refused(5, 1),
+            32 => Reply::refused(5, 4),
+            66 => Reply::refused(5, 10),
+            _ => Reply::refused(1, 0),
+        };
+        assert_eq!(reply, expected, "cut at {end}");
+    }
+    for end in 0..file.len() {
+        assert_eq!(read(&file[..end], room).0, Reply::refused(1, 0), "{end}");
+    }
+    let done = Reply::done([14, 4, 3, POLYGONS.into(), 44]);
+    assert_eq!(read(&file, room), (done, plan.clone()));
+    // Any other kind of the record, and the old one.
+    for kind in [0, 1, 2, 3, 4, 11, 13, 524, u16::MAX] {
+        let mut other = file.clone();
+        other[first + 4..body].copy_from_slice(&u16::to_le_bytes(kind));
+        assert_eq!(read(&other, room).0, Reply::refused(1, 0), "kind {kind}");
+    }
+}
+
+#[test]
+fn larger_cells_with_every_byte_changed() {
+    let plan = plan_q_as_one_cell();
+    let file = encode(plan.lists());
+    let mut taken = 0;
+    for at in 0..file.len() {
+        let flips = (0..8).map(|bit| file[at] ^ 1 << bit);
+        for byte in flips.chain([0, 255]) {
+            let mut other = file.clone();
+            other[at] = byte;
+            for room in [[20, 40, 9], [8, 9, 0], [7, 9, 0], [8, 8, 0]] {
+                let (reply, mut lists) = read(&other, room);
+                if reply.number == 0 {
+                    lists.corners.truncate(8);
+                    lists.cells.truncate(9);
+                    lists.doors.clear();
+                    assert_eq!(write(&lists, other.len()).1, other, "byte {at} is {byte}");
+                    taken += 1;
+                }
+            }
+        }
+    }
+    assert!(taken > 100, "{taken}");
+}
+
+#[test]
+fn the_fullest_plan() {
+    let (plan, [x, y]) = fullest();
+    assert_eq!(check(&plan), Reply::done([2_048, 3_000, 64]));
+    assert_eq!(plan.cells.len(), 17 * 3_000);
+    let stand = Stand::Point(x as f64, y as f64);
+    assert_eq!(find(&plan, stand), Reply::done([0]));
+    let open = rows(&plan, 0, stand);
+    assert_eq!(toggle(&plan, 0, stand, 0).len(), 3 * 8);
+    assert_eq!(toggle(&plan, 0, stand, 63), open);
+    let file = encode(plan.lists());
+    assert_eq!(write(&plan, file.len() - 1).0, Reply::refused(11, 0));
+    assert_eq!(
+        read(&file, [4_096, 17 * 3_000 - 1, 64]).0,
+        Reply::refused(11, 0)
+    );
+    // It is too long for the printing program.
+    let input = [query_record(0, stand), file].concat();
+    assert_eq!(both(|calls| calls.print(&input)), b"refused 2 0\n");
+    // One cell more.
+    let mut longer = plan;
+    longer.cells.extend_from_within(..17);
+    assert_eq!(check(&longer), Reply::refused(2, 0));
+    longer.cells.push(3);
+    assert_eq!(check(&longer), Reply::refused(1, 0));
+}
+
+/// Every cell is entered down one ray, and in every second one the ray leaves by
+/// the last side of the fan.
+#[test]
+fn the_longest_fans() {
+    let (plan, [x, y]) = longest_fans();
+    assert_eq!(check(&plan), Reply::done([2_047, 2_040, 64]));
+    let stand = Stand::Point(x as f64, y as f64);
+    let (reply, _) = list(&plan, 0, stand, 3 * 2_047);
+    assert_eq!((reply.number, reply.values[1]), (0, 2_039));
+    for door in [0, 1, 62, 63] {
+        toggle(&plan, 0, stand, door);
+    }
+}
+
+#[test]
+fn counts_at_each_limit_in_larger_cells() {
+    let reply = |corners, cells| check(&other_kind(&stack(corners, cells)));
+    assert_eq!(reply(3, 1), Reply::done([3, 1, 0]));
+    assert_eq!(reply(2_048, 3_000), Reply::done([2_048, 3_000, 0]));
+    for (corners, cells) in [(2, 1), (2_049, 1), (3, 0), (3, 3_001), (20_000, 9_000)] {
+        let reply = reply(corners, cells);
+        assert_eq!(reply, Reply::refused(2, 0), "{corners}, {cells}");
+    }
+    let doors = |count| check(&other_kind(&strip(100, count)));
+    assert_eq!(doors(64), Reply::done([102, 100, 64]));
+    assert_eq!(doors(65), Reply::refused(2, 0));
+}
+
+/// A plan of triangles in either kind: check, finding, listing, morning and door
+/// change leave the same.
+#[test]
+fn triangles_in_either_kind() {
+    let strip = (strip(100, 64), [[10, 1], [500, 50], [5, 3], [0, 0]]);
+    let hall = (hall(), [[0, 5], [-9, 10], [0, 10], [40, 0]]);
+    let q = (plan_q(), [[6, 3], [3, 6], [5, 5], [11, 5]]);
+    for (plan, spots) in [strip, hall, q] {
+        let other = other_kind(&plan);
+        assert_eq!(check(&plan), check(&other));
+        let room = 3 * plan.corners.len() / 2;
+        let mut stands = Vec::new();
+        for [x, y] in spots {
+            let stand = Stand::Point(x.into(), y.into());
+            stands.extend(stand.numbers());
+            assert_eq!(find(&plan, stand), find(&other, stand));
+            for setting in [0, 1, 2, 1 << 63] {
+                let listed = list(&plan, setting, stand, room);
+                assert_eq!(listed, list(&other, setting, stand, room));
+                let asked = |given| DoorChange {
+                    setting,
+                    stand,
+                    given,
+                    door: 0,
+                    shut: setting & 1 == 0,
+                };
+                let given = &listed.1[..3 * listed.0.values[0] as usize];
+                for given in [given, &[]] {
+                    let changed = change(&plan, asked(given));
+                    assert_eq!(changed, change(&other, asked(given)));
+                }
+            }
+        }
+        let room = enough(&plan, &stands);
+        let morning = list_stands(&plan, 1, &stands, room);
+        assert_eq!(morning, list_stands(&other, 1, &stands, room));
+        // The file says which kind it is in.
+        assert_ne!(encode(plan.lists()), encode(other.lists()));
+    }
+}
+
+#[test]
+fn the_printing_program_takes_either_kind() {
+    let printed = |plan: &Plan, stand| {
+        let input = [query_record(0, stand), encode(plan.lists())].concat();
+        String::from_utf8(both(|calls| calls.print(&input))).expect("it prints letters and digits")
+    };
+    let beside = Stand::Point(6.0, 3.0);
+    let as_printed = "rows 4 crossings 1\n0 0 1\n1 1 2\n4 2 3\n5 3 0\n";
+    assert_eq!(printed(&plan_q(), beside), as_printed);
+    assert_eq!(printed(&other_kind(&plan_q()), beside), as_printed);
+    let in_one_cell = "rows 4 crossings 0\n0 0 1\n1 1 2\n2 2 3\n3 3 0\n";
+    assert_eq!(printed(&plan_q_as_one_cell(), beside), in_one_cell);
+    let mut wrong = row_of_cells();
+    wrong.cells[43] = WALL;
+    assert_eq!(printed(&wrong, beside), "refused 5 10\n");
+    wrong.cells[0] = 2;
+    assert_eq!(printed(&wrong, beside), "refused 1 0\n");
+    wrong.kind = 6;
+    assert_eq!(printed(&wrong, beside), "refused 1 0\n");
 }

@@ -1,9 +1,9 @@
 //! Seeded runs of the paper program against itself and the demands.
 
-use manopluea_compare::calls::Stand;
+use manopluea_compare::calls::{Stand, TRIANGLES};
 use manopluea_compare::compare::{compare, Tally};
-use manopluea_compare::generate;
-use manopluea_compare::paper::{change_by_runs, Floor, Paper, View};
+use manopluea_compare::generate::{self, Dice, Merged};
+use manopluea_compare::paper::{change_by_runs, Floor, Paper, View, WALL};
 
 fn run(seed: u64, count: u64) -> Tally {
     compare(&Paper, &Paper, seed, count).unwrap_or_else(|mismatch| panic!("{mismatch}"))
@@ -11,22 +11,28 @@ fn run(seed: u64, count: u64) -> Tally {
 
 #[test]
 fn every_reply_number_comes_up_in_every_call_that_has_it() {
-    let tally = run(1, 4_000);
-    let numbers = |call: usize| -> Vec<usize> {
-        (0..14)
-            .filter(|&number| tally.replies[call][number] > 0)
-            .collect()
-    };
-    assert_eq!(numbers(0), [0, 1, 2, 3, 4, 5, 6], "check");
-    assert_eq!(numbers(1), [0, 1, 2, 3, 4, 5, 6, 11], "read");
-    assert_eq!(numbers(2), [0, 1, 2, 3, 4, 5, 6, 11], "write");
-    assert_eq!(numbers(3), [0, 1, 2, 3, 4, 5, 6, 8, 9, 10], "find");
-    assert_eq!(numbers(4), (0..=11).collect::<Vec<_>>(), "list");
-    assert_eq!(numbers(5), [0, 1, 2, 3, 4, 5, 6, 7, 11], "stands");
-    assert_eq!(numbers(6), (0..=13).collect::<Vec<_>>(), "change");
-    assert_eq!(numbers(7), (0..=10).collect::<Vec<_>>(), "print");
-    assert!((0..14).all(|number| tally.of_number(number) > 0));
-    assert!(tally.directions > 5_000 && tally.changes > 500);
+    let tally = run(1, 6_000);
+    for kind in [0, 1] {
+        let numbers = |call: usize| -> Vec<usize> {
+            let replies = tally.replies[kind][call];
+            (0..14).filter(|&number| replies[number] > 0).collect()
+        };
+        assert_eq!(numbers(0), [0, 1, 2, 3, 4, 5, 6], "check");
+        assert_eq!(numbers(1), [0, 1, 2, 3, 4, 5, 6, 11], "read");
+        assert_eq!(numbers(2), [0, 1, 2, 3, 4, 5, 6, 11], "write");
+        assert_eq!(numbers(3), [0, 1, 2, 3, 4, 5, 6, 8, 9, 10], "find");
+        assert_eq!(numbers(4), (0..=11).collect::<Vec<_>>(), "list");
+        assert_eq!(numbers(5), [0, 1, 2, 3, 4, 5, 6, 7, 11], "stands");
+        assert_eq!(numbers(6), (0..=13).collect::<Vec<_>>(), "change");
+        assert_eq!(numbers(7), (0..=10).collect::<Vec<_>>(), "print");
+    }
+    // Any other kind is a fault of the frame, in every call that takes lists.
+    for (call, replies) in tally.replies[2].iter().enumerate() {
+        let numbers: Vec<usize> = (0..14).filter(|&number| replies[number] > 0).collect();
+        let expected: &[usize] = if call == 7 { &[1, 2] } else { &[1] };
+        assert_eq!(numbers, expected, "call {call}");
+    }
+    assert!(tally.directions > 8_000 && tally.changes > 1_000 && tally.either > 2_000);
 }
 
 /// At the first place of a morning, at those between, and at the last.
@@ -116,6 +122,7 @@ fn two_routes_to_one_door_stay_two_rows() {
         ]
         .concat(),
         doors: vec![2],
+        kind: TRIANGLES,
     };
     let floor = Floor::check(plan.lists()).unwrap();
     let view = |setting| View::new(&floor, setting, Stand::Point(3.0, 1.0)).unwrap();
@@ -123,4 +130,116 @@ fn two_routes_to_one_door_stay_two_rows() {
     assert_eq!(shut.rows.iter().filter(|row| row[0] == 2).count(), 2);
     let by_runs = change_by_runs(&view(0), &view(1), &view(0).list().rows, [2, 8], true);
     assert_eq!(by_runs, shut);
+}
+
+/// Larger cells list the walls of their triangles, within the same limits and in
+/// the same order round the stand, through no more lines.
+#[test]
+fn merged_cells_list_the_walls_of_their_triangles() {
+    let (mut compared, mut fewer) = (0, 0);
+    for number in 0..4_000 {
+        let dice = &mut Dice::for_case(14, number);
+        let mesh = generate::floor(dice);
+        let doors = generate::doors(&mesh, dice);
+        let merged = Merged::random(&mesh, &doors, dice);
+        let [small, large] = [mesh.plan(&doors), merged.plan(&doors)]
+            .map(|plan| Floor::check(plan.lists()).expect("it passes the check"));
+        let faces = merged.faces();
+        let known = u64::MAX
+            .checked_shl(doors.len() as u32)
+            .map_or(!0, |bits| !bits);
+        for _ in 0..3 {
+            let setting = dice.word() & dice.word() & known;
+            let [x, y] = generate::inside(&mesh, dice).map(|number| number as f64);
+            let view = |floor| View::new(floor, setting, Stand::Point(x, y));
+            let (Ok(through_small), Ok(through_large)) = (view(&small), view(&large)) else {
+                continue;
+            };
+            // Of cells on top of each other another one can be the least.
+            if merged.cell_with(through_small.cell()) != through_large.cell() {
+                continue;
+            }
+            let (of_small, of_large) = (through_small.list(), through_large.list());
+            let row = |[face, right, left]: [u16; 3]| (faces[usize::from(face)], right, left);
+            let rows: Vec<_> = of_large.rows.into_iter().map(row).collect();
+            let row = |[face, right, left]: [u16; 3]| (usize::from(face), right, left);
+            let mut expected: Vec<_> = of_small.rows.into_iter().map(row).collect();
+            let first = expected.iter().position(|row| *row == rows[0]);
+            expected.rotate_left(first.expect("the first wall is among them"));
+            assert_eq!(rows, expected, "floor {number}");
+            assert!(of_large.crossings <= of_small.crossings, "floor {number}");
+            compared += 1;
+            fewer += usize::from(of_large.crossings < of_small.crossings);
+        }
+    }
+    assert!(compared > 9_000 && fewer > 5_000, "{compared}, {fewer}");
+}
+
+/// Ties met on entering cells of more than three corners: corners on the right
+/// limit, on the left one, and sides with an end on each.
+#[derive(Default)]
+struct Ties {
+    right: usize,
+    left: usize,
+    both: usize,
+}
+
+impl Ties {
+    /// Follows each line from the stand, as a fan whose right limit moves on.
+    fn count(&mut self, floor: &Floor, across: &[u16], view: &View<'_>) {
+        let q = view.stand();
+        let turn = |a: u16, b: u16| {
+            let [a, b] = [a, b].map(|corner| {
+                let at = floor.corner(corner);
+                [at.x - q.x, at.y - q.y].map(i128::from)
+            });
+            (a[0] * b[1] - a[1] * b[0]).signum()
+        };
+        let row = |face| {
+            let [right, left] = floor.ends(face);
+            [face, right, left]
+        };
+        let mut waiting: Vec<[u16; 3]> = floor.faces(view.cell()).map(row).collect();
+        while let Some([face, mut right, left]) = waiting.pop() {
+            let entered = across[usize::from(face)];
+            if entered == WALL {
+                continue;
+            }
+            let others: Vec<u16> = floor.others(entered).collect();
+            let last = others[others.len() - 1];
+            for &side in &others {
+                let [a, v] = floor.ends(side);
+                if others.len() > 2 && side != last {
+                    let on_right = |corner| corner != right && turn(right, corner) == 0;
+                    let on_left = |corner| corner != left && turn(corner, left) == 0;
+                    self.right += usize::from(on_right(v));
+                    self.left += usize::from(on_left(v));
+                    self.both += usize::from(on_right(a) && on_left(v));
+                }
+                let ends = side == last || turn(v, left) <= 0;
+                if ends {
+                    waiting.push([side, right, left]);
+                    break;
+                }
+                if turn(right, v) > 0 {
+                    waiting.push([side, right, v]);
+                    right = v;
+                }
+            }
+        }
+    }
+}
+
+#[test]
+fn every_tie_comes_up_in_larger_cells() {
+    let mut ties = Ties::default();
+    each_view(4, 6_000, |scene, floor, view| {
+        let across = floor.across_under(scene.setting).unwrap();
+        ties.count(floor, &across, view);
+    });
+    let Ties { right, left, both } = ties;
+    assert!(
+        right > 100 && left > 100 && both > 10,
+        "{right} {left} {both}"
+    );
 }

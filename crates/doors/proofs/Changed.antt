@@ -8,7 +8,8 @@ use lib.ListN.{length}
 use lib.IntN.{ℤ}
 use Rattle.plane.specs.Side.{Point}
 use Rattle.setting.specs.Setting.{wrong-setting}
-use Rattle.plan.specs.Check.{checked}
+use Rattle.cells.specs.Cut.{cells-of}
+use Rattle.cells.specs.Check.{checked}
 use Rattle.limits.specs.declared.Refusal.the-variants as R
 use Rattle.limits.specs.declared.Checked.{Checked}
 use Rattle.limits.specs.declared.Checked.the-variants as C
@@ -36,48 +37,48 @@ the-wished-setting-is-not-wrong w i k b exists e = ap not (lt-ltb _ _ (by-state 
     by-state true = shutting-keeps-within w i k exists within
     by-state false = opening-keeps-within w i k within
 
-module _ (cs : List ℤ) (ts ds : List ℕ) (w : ℕ) (s : Stand) (given : List ℕ) (i : ℕ) (b : Bool) (table : List ℕ) {x y : ℤ} {c : ℕ} (view : viewed cs ts ds w s (length table) ≡ O.From x y c) where
+module _ (k : ℕ) (cs : List ℤ) (ts ds : List ℕ) (w : ℕ) (s : Stand) (given : List ℕ) (i : ℕ) (b : Bool) (table : List ℕ) {x y : ℤ} {c : ℕ} (view : viewed k cs ts ds w s (length table) ≡ O.From x y c) where
   abbrev q : Point
   q = record { x = x; y = y }
 
-  of-view : changed-from cs ts ds w given i b table (O.From x y c) ≡ changed cs ts ds w s given i b table
+  of-view : changed-from cs (cells-of k ts) ds w given i b table (O.From x y c) ≡ changed k cs ts ds w s given i b table
   unfolding changed
-  of-view = ap (changed-from cs ts ds w given i b table) (sym view)
+  of-view = ap (changed-from cs (cells-of k ts) ds w given i b table) (sym view)
 
   -- no such door
-  pub a-door-that-is-not-there-is-refused : length ds ≤ i → changed cs ts ds w s given i b table ≡ (L.Refused R.Change, table)
-  a-door-that-is-not-there-is-refused h = sym (no-such-door cs ts ds w given i b table q c h ∙ of-view)
+  pub a-door-that-is-not-there-is-refused : length ds ≤ i → changed k cs ts ds w s given i b table ≡ (L.Refused R.Change, table)
+  a-door-that-is-not-there-is-refused h = sym (no-such-door cs (cells-of k ts) ds w given i b table q c h ∙ of-view)
 
   module _ (exists : i < length ds) where
     -- already in that state
-    pub a-door-already-so-is-refused : in-state b w i ≡ true → changed cs ts ds w s given i b table ≡ (L.Refused R.Change, table)
-    a-door-already-so-is-refused e = sym (already-so cs ts ds w given i b table q c exists (sym e) ∙ of-view)
+    pub a-door-already-so-is-refused : in-state b w i ≡ true → changed k cs ts ds w s given i b table ≡ (L.Refused R.Change, table)
+    a-door-already-so-is-refused e = sym (already-so cs (cells-of k ts) ds w given i b table q c exists (sym e) ∙ of-view)
 
     module _ (otherwise : in-state b w i ≡ false) where
       -- a list that is not true is refused
-      pub a-list-that-is-not-true-is-refused : (given ≡ listing-numbers cs ts ds w q c → ⊥) → changed cs ts ds w s given i b table ≡ (L.Refused R.Rows, table)
-      a-list-that-is-not-true-is-refused apart = sym (not-true cs ts ds w given i b table q c exists (sym otherwise) (is-another apart) refl ∙ of-view)
+      pub a-list-that-is-not-true-is-refused : (given ≡ listing-numbers cs (cells-of k ts) ds w q c → ⊥) → changed k cs ts ds w s given i b table ≡ (L.Refused R.Rows, table)
+      a-list-that-is-not-true-is-refused apart = sym (not-true cs (cells-of k ts) ds w given i b table q c exists (sym otherwise) (is-another apart) refl ∙ of-view)
 
       -- the view is the same under the new setting
-      pub same-view : viewed cs ts ds (wished b w i) s (length table) ≡ O.From x y c
+      pub same-view : viewed k cs ts ds (wished b w i) s (length table) ≡ O.From x y c
       unfolding viewed
-      same-view = by-plan (checked cs ts ds) view
+      same-view = by-plan (checked k cs ts ds) view
         where
           by-setting : (v : View) (t : Bool) → wrong-setting w (length ds) ≡ t → unless t R.Setting v ≡ O.From x y c → unless (wrong-setting (wished b w i) (length ds)) R.Setting v ≡ O.From x y c
           by-setting v true h p = absurd (a-refusal-is-no-view p)
           by-setting v false h p = ap (λ (t : Bool). unless t R.Setting v) (the-wished-setting-is-not-wrong w i (length ds) b exists h) ∙ p
 
-          by-plan : (k : Checked) → view-of-plan cs ts ds w s (length table) k ≡ O.From x y c → view-of-plan cs ts ds (wished b w i) s (length table) k ≡ O.From x y c
-          by-plan (C.Accepted p) e = by-setting (view-of-spot cs ts (length table) (stood cs s)) (wrong-setting w (length ds)) refl e
+          by-plan : (v : Checked) → view-of-plan cs (cells-of k ts) ds w s (length table) v ≡ O.From x y c → view-of-plan cs (cells-of k ts) ds (wished b w i) s (length table) v ≡ O.From x y c
+          by-plan (C.Accepted p) e = by-setting (view-of-spot cs (cells-of k ts) (length table) (stood cs s)) (wrong-setting w (length ds)) refl e
           by-plan (C.Refused r) e = absurd (a-refusal-is-no-view e)
 
       -- from a true list the change gives what a fresh listing gives: rows, order, crossings and the table
-      pub the-change-is-a-fresh-listing : given ≡ listing-numbers cs ts ds w q c → changed cs ts ds w s given i b table ≡ listed cs ts ds (wished b w i) s table
+      pub the-change-is-a-fresh-listing : given ≡ listing-numbers cs (cells-of k ts) ds w q c → changed k cs ts ds w s given i b table ≡ listed k cs ts ds (wished b w i) s table
       unfolding listed
       the-change-is-a-fresh-listing same =
-          sym (change-made cs ts ds w given i b table q c exists (sym otherwise) (is-the-same same) refl refl (refl, (refl, refl)) ∙ of-view)
-          ∙ ap (listed-from cs ts ds (wished b w i) table) (sym same-view)
+          sym (change-made cs (cells-of k ts) ds w given i b table q c exists (sym otherwise) (is-the-same same) refl refl (refl, (refl, refl)) ∙ of-view)
+          ∙ ap (listed-from cs (cells-of k ts) ds (wished b w i) table) (sym same-view)
 
 -- the promise of the door change leaves one reply and one table
-pub change-has-one-reply : (cs : List ℤ) (ts ds : List ℕ) (w : ℕ) (stand : Stand) (given : List ℕ) (i : ℕ) (b : Bool) (table : List ℕ) {r s : Listed × List ℕ} → r ≡ changed cs ts ds w stand given i b table → s ≡ changed cs ts ds w stand given i b table → r ≡ s
-change-has-one-reply cs ts ds w stand given i b table h k = h ∙ sym k
+pub change-has-one-reply : (k : ℕ) (cs : List ℤ) (ts ds : List ℕ) (w : ℕ) (stand : Stand) (given : List ℕ) (i : ℕ) (b : Bool) (table : List ℕ) {r s : Listed × List ℕ} → r ≡ changed k cs ts ds w stand given i b table → s ≡ changed k cs ts ds w stand given i b table → r ≡ s
+change-has-one-reply k cs ts ds w stand given i b table h j = h ∙ sym j

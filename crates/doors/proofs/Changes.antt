@@ -14,14 +14,19 @@ use mir.Val.{toZ, ofZ}
 use Rattle.exact.proofs.Lent.{first-is-new}
 use Rattle.exact.proofs.Truth.{both-true}
 use Rattle.plane.specs.Side.{Point}
-use Rattle.plan.specs.Lists.{corner-count}
-use Rattle.plan.specs.Sound.{Sound}
+use Rattle.cells.specs.Lists.{Cells, corner-count}
+use Rattle.cells.specs.Cut.{cells-of}
+use Rattle.cells.specs.Sound.{Sound}
 use Rattle.limits.specs.declared.Refusal.{Refusal}
 use Rattle.limits.specs.declared.Refusal.the-variants as R
-use Rattle.plan.proofs.Plans.{counts}
+use Rattle.cells.proofs.Plans.{counts}
+use Rattle.checking.specs.Sizes.{sizes-of}
+use Rattle.checking.specs.declared.Sizes.{Sizes}
+use Rattle.checking.specs.declared.Sizes.the-variants.{Refused as Sizes·Refused}
+use Rattle.checking.proofs.Measures.{refused-likewise}
 use Rattle.stand.specs.Find.{located}
 use Rattle.stand.specs.declared.spot.Stand.{Stand}
-use Rattle.stand.specs.declared.find.Found.the-variants as F
+use Rattle.stand.specs.declared.locate.Found.the-variants as F
 use Rattle.stand.proofs.Finds.{as-read}
 use Rattle.stand.proofs.Located.{found-cell-holds-the-stand}
 use Rattle.sight.specs.Listing.{viewed, listing-numbers, listing-row-count, listing-crossings, listed-from}
@@ -29,7 +34,7 @@ use Rattle.sight.specs.declared.view.View.the-variants as O
 use Rattle.sight.specs.declared.list.Listed.{Listed}
 use Rattle.sight.specs.declared.list.Listed.the-variants as L
 use Rattle.sight.proofs.Sightings.{rows-never-outnumber-corners}
-use Rattle.sight.proofs.Views.{view-says}
+use Rattle.sight.proofs.Views.{plan-refused, view-says}
 use Rattle.sight.proofs.Written.{the-numbers-are-three-a-row}
 use Rattle.doors.specs.Change.{same-list, in-state, wished, no-change, refuse, changed-from, changed}
 
@@ -55,65 +60,75 @@ is-another {a} {b} apart = by-test (same-list a b) refl
     by-test true h = absurd (apart (true-is-same a b h))
     by-test false h = sym h
 
-module _ {cs : List ℤ} {ts ds : List ℕ} (sound : Sound cs ts ds) (w : ℕ) (q : Point) (c : ℕ) (stands : located cs ts q ≡ F.Cell c) where
-  pub numbers-fit : {n : ℕ} → n ≡ listing-row-count cs ts ds w q c → 3 * n ≤ 3 * corner-count cs
-  numbers-fit e =
-      let most = rows-never-outnumber-corners sound w q c (found-cell-holds-the-stand cs ts q stands) in
-      omega arith
-
+module _ {cs : List ℤ} {T : Cells} {ds : List ℕ} (sound : Sound cs T ds) where
+  -- a table for the most corners holds every list
   pub few-numbers : 3 * corner-count cs ≤ 6144
   few-numbers =
       let most = counts _ _ _ (sound .in-size) .corners-at-most in
       omega arith
 
-  pub listed-anew : {n : ℕ} (table : List ℕ) {new : List ℕ} → n ≡ listing-row-count cs ts ds w q c → 3 * corner-count cs ≤ length table → new ≡ sets table 0 (listing-numbers cs ts ds w q c) → take (3 * n) new ≡ listing-numbers cs ts ds w q c
-  listed-anew {n} table {new} e room is =
-      let fit = numbers-fit e in
-      ap (take (3 * n)) is ∙ first-is-new table (listing-numbers cs ts ds w q c) (3 * n) (the-numbers-are-three-a-row cs ts ds w q c ∙ ap (λ (k : ℕ). 3 * k) (sym e)) (omega arith)
+  module _ (w : ℕ) (q : Point) (c : ℕ) (stands : located cs T q ≡ F.Cell c) where
+    pub numbers-fit : {n : ℕ} → n ≡ listing-row-count cs T ds w q c → 3 * n ≤ 3 * corner-count cs
+    numbers-fit e =
+        let most = rows-never-outnumber-corners sound w q c (found-cell-holds-the-stand cs (sound .numbered) q stands) in
+        omega arith
+
+    pub listed-anew : {n : ℕ} (table : List ℕ) {new : List ℕ} → n ≡ listing-row-count cs T ds w q c → 3 * corner-count cs ≤ length table
+        → new ≡ sets table 0 (listing-numbers cs T ds w q c) → take (3 * n) new ≡ listing-numbers cs T ds w q c
+    listed-anew {n} table {new} e room is =
+        let fit = numbers-fit e in
+        ap (take (3 * n)) is
+        ∙ first-is-new table (listing-numbers cs T ds w q c) (3 * n) (the-numbers-are-three-a-row cs T ds w q c ∙ ap (λ (k : ℕ). 3 * k) (sym e)) (omega arith)
 
 -- ---- replies 12 and 13, or the list under the new setting
 
-module _ (cs : List ℤ) (ts ds : List ℕ) (w : ℕ) (given : List ℕ) (i : ℕ) (b : Bool) (table : List ℕ) (q : Point) (c : ℕ) where
+module _ (cs : List ℤ) (T : Cells) (ds : List ℕ) (w : ℕ) (given : List ℕ) (i : ℕ) (b : Bool) (table : List ℕ) (q : Point) (c : ℕ) where
   abbrev after : Bool → Listed × List ℕ
-  after t = refuse t R.Rows table (listed-from cs ts ds (wished b w i) table (O.From (q .x) (q .y) c))
+  after t = refuse t R.Rows table (listed-from cs T ds (wished b w i) table (O.From (q .x) (q .y) c))
 
-  pub no-such-door : length ds ≤ i → (L.Refused R.Change, table) ≡ changed-from cs ts ds w given i b table (O.From (q .x) (q .y) c)
+  pub no-such-door : length ds ≤ i → (L.Refused R.Change, table) ≡ changed-from cs T ds w given i b table (O.From (q .x) (q .y) c)
   unfolding no-change
   no-such-door h =
-      ap (λ (t : Bool). refuse (not t || in-state b w i) R.Change table (after (not (same-list given (listing-numbers cs ts ds w q c))))) (sym (le-ltb _ _ h))
+      ap (λ (t : Bool). refuse (not t || in-state b w i) R.Change table (after (not (same-list given (listing-numbers cs T ds w q c))))) (sym (le-ltb _ _ h))
 
   module _ (exists : i < length ds) where
-    by-state : {t : Bool} → t ≡ in-state b w i → refuse t R.Change table (after (not (same-list given (listing-numbers cs ts ds w q c)))) ≡ changed-from cs ts ds w given i b table (O.From (q .x) (q .y) c)
+    by-state : {t : Bool} → t ≡ in-state b w i → refuse t R.Change table (after (not (same-list given (listing-numbers cs T ds w q c)))) ≡ changed-from cs T ds w given i b table (O.From (q .x) (q .y) c)
     unfolding no-change
     by-state {t} e =
-        ap (λ (t : Bool). refuse t R.Change table (after (not (same-list given (listing-numbers cs ts ds w q c))))) e
-        ∙ ap (λ (t : Bool). refuse (not t || in-state b w i) R.Change table (after (not (same-list given (listing-numbers cs ts ds w q c))))) (sym (lt-ltb _ _ exists))
+        ap (λ (t : Bool). refuse t R.Change table (after (not (same-list given (listing-numbers cs T ds w q c))))) e
+        ∙ ap (λ (t : Bool). refuse (not t || in-state b w i) R.Change table (after (not (same-list given (listing-numbers cs T ds w q c))))) (sym (lt-ltb _ _ exists))
 
-    pub already-so : true ≡ in-state b w i → (L.Refused R.Change, table) ≡ changed-from cs ts ds w given i b table (O.From (q .x) (q .y) c)
+    pub already-so : true ≡ in-state b w i → (L.Refused R.Change, table) ≡ changed-from cs T ds w given i b table (O.From (q .x) (q .y) c)
     already-so e = by-state e
 
     module _ (otherwise : false ≡ in-state b w i) where
-      pub not-true : {t : Bool} → t ≡ same-list given (listing-numbers cs ts ds w q c) → not t ≡ true → (L.Refused R.Rows, table) ≡ changed-from cs ts ds w given i b table (O.From (q .x) (q .y) c)
+      pub not-true : {t : Bool} → t ≡ same-list given (listing-numbers cs T ds w q c) → not t ≡ true → (L.Refused R.Rows, table) ≡ changed-from cs T ds w given i b table (O.From (q .x) (q .y) c)
       not-true e h = ap after (sym h) ∙ ap (λ (t : Bool). after (not t)) e ∙ by-state otherwise
 
-      pub change-made : {r p : ℕ} {new : List ℕ} {v : ℕ} {t : Bool} → t ≡ same-list given (listing-numbers cs ts ds w q c) → not t ≡ false → v ≡ wished b w i → (r ≡ listing-row-count cs ts ds v q c) × ((p ≡ listing-crossings cs ts ds v q c) × (new ≡ sets table 0 (listing-numbers cs ts ds v q c))) → (L.Rows r p, new) ≡ changed-from cs ts ds w given i b table (O.From (q .x) (q .y) c)
+      pub change-made : {r p : ℕ} {new : List ℕ} {v : ℕ} {t : Bool} → t ≡ same-list given (listing-numbers cs T ds w q c) → not t ≡ false → v ≡ wished b w i → (r ≡ listing-row-count cs T ds v q c) × ((p ≡ listing-crossings cs T ds v q c) × (new ≡ sets table 0 (listing-numbers cs T ds v q c))) → (L.Rows r p, new) ≡ changed-from cs T ds w given i b table (O.From (q .x) (q .y) c)
       change-made e g f h =
           (λ k. (L.Rows (h .0 k) (h .1 .0 k), h .1 .1 k))
-          ∙ ap (λ (v : ℕ). listed-from cs ts ds v table (O.From (q .x) (q .y) c)) f
+          ∙ ap (λ (v : ℕ). listed-from cs T ds v table (O.From (q .x) (q .y) c)) f
           ∙ ap after (sym g)
           ∙ ap (λ (t : Bool). after (not t)) e
           ∙ by-state otherwise
 
 -- ---- the whole change
 
-module _ (cs : List ℤ) (ts ds : List ℕ) (w : ℕ) (s : Stand) (given : List ℕ) (i : ℕ) (b : Bool) (table : List ℕ) where
-  pub change-refused : {r : Refusal} → viewed cs ts ds w s (length table) ≡ O.Refused r → (L.Refused r, table) ≡ changed cs ts ds w s given i b table
+module _ (k : ℕ) (cs : List ℤ) (ts ds : List ℕ) (w : ℕ) (s : Stand) (given : List ℕ) (i : ℕ) (b : Bool) (table : List ℕ) where
+  pub change-refused : {r : Refusal} → viewed k cs ts ds w s (length table) ≡ O.Refused r → (L.Refused r, table) ≡ changed k cs ts ds w s given i b table
   unfolding changed
-  change-refused e = ap (changed-from cs ts ds w given i b table) (sym e)
+  change-refused e = ap (changed-from cs (cells-of k ts) ds w given i b table) (sym e)
 
-  pub change-done : {x y : ℤ} {c : ℕ} {reply : Listed × List ℕ} → viewed cs ts ds w s (length table) ≡ O.From x y c → reply ≡ changed-from cs ts ds w given i b table (O.From (toZ w64 (ofZ w64 x)) (toZ w64 (ofZ w64 y)) c) → reply ≡ changed cs ts ds w s given i b table
+  -- lists of which no cells are counted
+  pub not-counted : {x : Sizes} {r : Refusal} → x ≡ sizes-of k cs ts ds → x ≡ Sizes·Refused r → (L.Refused r, table) ≡ changed k cs ts ds w s given i b table
+  not-counted is e = change-refused (sym (plan-refused k cs ts ds w s (length table) (sym (refused-likewise k cs ts ds is e))))
+
+  -- T is the plan's cells as they were drawn, and the stand is as the code has read it
+  pub change-done : {x y : ℤ} {c : ℕ} {T : Cells} {reply : Listed × List ℕ} → viewed k cs ts ds w s (length table) ≡ O.From x y c → T ≡ cells-of k ts
+      → reply ≡ changed-from cs T ds w given i b table (O.From (toZ w64 (ofZ w64 x)) (toZ w64 (ofZ w64 y)) c) → reply ≡ changed k cs ts ds w s given i b table
   unfolding changed
-  change-done {x} {y} {c} view e =
+  change-done {c = c} view drawn e =
       e
-      ∙ ap (λ (q : Point). changed-from cs ts ds w given i b table (O.From (q .x) (q .y) c)) (as-read (view-says cs ts ds w s (length table) view .stand-near))
-      ∙ ap (changed-from cs ts ds w given i b table) (sym view)
+      ∙ ap₂ (λ (T : Cells) (q : Point). changed-from cs T ds w given i b table (O.From (q .x) (q .y) c)) drawn (as-read (view-says k cs ts ds w s (length table) view .stand-near))
+      ∙ ap (changed-from cs (cells-of k ts) ds w given i b table) (sym view)

@@ -4,19 +4,19 @@ use mathlib.Core.Path.{_≡_, refl}
 use Prim.Native.Nat.{ℕ}
 use lib.IntN.{ℤ}
 use Rattle.plane.specs.Side.{Point}
-use Rattle.expand.specs.Sight.{rows, numbers, crossings}
-use Rattle.sight.specs.Listing.{listing-rows, listing-numbers, listing-crossings}
-use Rattle.doors.specs.PlanFloor.{sight-from}
+use Rattle.cells.specs.Lists.{Cells}
+use Rattle.fan.specs.Sight.{rows, numbers, crossings}
+use Rattle.sight.specs.Listing.{listing-rows, listing-numbers, listing-crossings, sight-from}
 
-module _ (cs : List ℤ) (ts ds : List ℕ) (w : ℕ) (q : Point) (c : ℕ) where
-  pub rows-are : listing-rows cs ts ds w q c ≡ rows (sight-from cs ts ds w q c)
+module _ (cs : List ℤ) (T : Cells) (ds : List ℕ) (w : ℕ) (q : Point) (c : ℕ) where
+  pub rows-are : listing-rows cs T ds w q c ≡ rows (sight-from cs T ds w q c)
   unfolding listing-rows rows
   rows-are = refl
 
-  pub numbers-are : listing-numbers cs ts ds w q c ≡ numbers (sight-from cs ts ds w q c)
+  pub numbers-are : listing-numbers cs T ds w q c ≡ numbers (sight-from cs T ds w q c)
   unfolding listing-numbers numbers
   numbers-are = refl
 
-  pub crossings-are : listing-crossings cs ts ds w q c ≡ crossings (sight-from cs ts ds w q c)
+  pub crossings-are : listing-crossings cs T ds w q c ≡ crossings (sight-from cs T ds w q c)
   unfolding listing-crossings crossings
   crossings-are = refl

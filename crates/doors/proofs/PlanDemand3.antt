@@ -3,47 +3,48 @@
 use mathlib.Core.Bool.{true, false}
 use mathlib.Core.List.{List, map}
 use mathlib.Core.Path.{_≡_, sym, _∙_, ap, subst}
-use Prim.Native.Nat.{ℕ, _+_, _*_, _-_, _<_}
+use Prim.Native.Nat.{ℕ, _+_, _-_, _<_}
 use lib.ListN.{length, getD}
 use lib.IntN.{ℤ}
 use Rattle.plane.specs.Side.{Point}
-use Rattle.plan.specs.Lists.{cell-count, face-count, start, back}
+use Rattle.cells.specs.Lists.{Cells, cell-count, face-count, first, next, start, back}
+use Rattle.cells.specs.Sound.{Sound}
+use Rattle.cells.proofs.Plans.{back-starts-at-the-finish, back-finishes-at-the-start, door-exists, door-is-free}
 use Rattle.setting.specs.Setting.{shut, with-shut, with-open, ends}
-use Rattle.plan.specs.Sound.{Sound}
-use Rattle.plan.proofs.Plans.{back-starts-at-the-finish, back-finishes-at-the-start, door-exists, door-is-free}
 use Rattle.setting.proofs.Settings.{opening-opens-the-door, opening-undoes-shutting, shutting-undoes-opening}
 use Rattle.stand.proofs.Located.{InCell}
-use Rattle.expand.specs.Sight.{Sight, numbers, crossings}
-use Rattle.sight.specs.Once.{At}
-use Rattle.doors.specs.Route.{Routed, routed, way, row-numbers}
-use Rattle.doors.specs.Door.{is-door, same-to-door, on-door, untouched, those}
-use Rattle.doors.specs.Shutting.{Piece, runs, door-row, shut-rows, prune, crossings-left, crossings-lost}
-use Rattle.doors.specs.Opening.{open-rows}
-use Rattle.doors.specs.PlanFloor.{plan-floor, seen, finish, sight-from}
-use Rattle.doors.proofs.Demand3 as Any
-use Rattle.doors.proofs.Demand3.{DoorChange, listed}
-use Rattle.doors.proofs.Routes.{routed-numbers-are-the-numbers, face-is-on-the-way}
-use Rattle.doors.proofs.Ways.{way-tells-the-place, every-row-has-its-own-way}
-use Rattle.doors.proofs.SideSeen as Side
+use Rattle.fan.specs.Sight.{Sight, numbers, crossings}
+use Rattle.fan.specs.Once.{At}
+use Rattle.runs.specs.Route.{Routed, routed, way, row-numbers}
+use Rattle.runs.specs.Door.{is-door, same-to-door, on-door, untouched, those}
+use Rattle.runs.specs.Shutting.{Piece, runs, door-row, shut-rows, prune, crossings-left, crossings-lost}
+use Rattle.runs.specs.Opening.{open-rows}
+use Rattle.runs.proofs.Demand3 as Any
+use Rattle.runs.proofs.Demand3.{DoorChange, listed}
+use Rattle.runs.proofs.InThePlane.{faces-in-the-plane, sides-in-the-plane}
+use Rattle.runs.proofs.Routes.{routed-numbers-are-the-numbers, face-is-on-the-way}
+use Rattle.runs.proofs.Ways.{way-tells-the-place, every-row-has-its-own-way}
+use Rattle.runs.proofs.SideSeen as Side
+use Rattle.sight.specs.Listing.{plan-floor, seen, sight-from}
 use Rattle.sight.proofs.PlanFloor.{plan-geometry, start-in-the-cell}
-use Rattle.doors.proofs.PlanDoors.{plan-faces, plan-sides, plan-change}
+use Rattle.doors.proofs.PlanDoors.{plan-change}
 
-module _ {cs : List ℤ} {ts ds : List ℕ} (sound : Sound cs ts ds) (q : Point) (c : ℕ) (stands : InCell cs ts q c) (i : ℕ) (h : i < length ds) where
+module _ {cs : List ℤ} {T : Cells} {ds : List ℕ} (sound : Sound cs T ds) (q : Point) (c : ℕ) (stands : InCell cs T q c) (i : ℕ) (h : i < length ds) where
   -- the door's two faces
   abbrev f₀ : ℕ
   f₀ = getD ds i 0
 
   abbrev g₀ : ℕ
-  g₀ = back ts (getD ds i 0)
+  g₀ = back T (getD ds i 0)
 
   -- what is seen under a setting, and its rows with their routes
   abbrev under : ℕ → Sight
-  under w = sight-from cs ts ds w q c
+  under w = sight-from cs T ds w q c
 
   abbrev listing : ℕ → List Routed
-  listing w = routed (sight-from cs ts ds w q c)
+  listing w = routed (sight-from cs T ds w q c)
 
-  change : (w : ℕ) → shut w i ≡ false → DoorChange (face-count ts) f₀ g₀ (plan-floor cs ts ds w q) (ends ts ds (with-shut w i)) (start ts) (finish ts) (cell-count ts - 1) (3 * c) (3 * c + 1) (3 * c + 2)
+  change : (w : ℕ) → shut w i ≡ false → DoorChange (face-count T) f₀ g₀ (plan-floor cs T ds w q) (ends T ds (with-shut w i)) (cell-count T - 1) (first T c)
   change w is-open = plan-change sound w q c stands i h is-open
 
   -- ---- shutting an open door
@@ -80,7 +81,7 @@ module _ {cs : List ℤ} {ts ds : List ℕ} (sound : Sound cs ts ds) (q : Point)
     crossings-while-open = Any.crossings-while-open-are-those-and-the-lost (change w is-open)
 
     -- the listing under the open setting is the listing under the shut one with each row on the door replaced by its run
-    pub shutting-is-undone : listing w ≡ open-rows (plan-floor cs ts ds w q) f₀ g₀ (cell-count ts - 1) (listing (with-shut w i))
+    pub shutting-is-undone : listing w ≡ open-rows (plan-floor cs T ds w q) f₀ g₀ (cell-count T - 1) (listing (with-shut w i))
     shutting-is-undone = Any.opening-replaces-each-door-row (change w is-open)
 
     -- shutting and then opening returns the first list
@@ -91,12 +92,12 @@ module _ {cs : List ℤ} {ts ds : List ℕ} (sound : Sound cs ts ds) (q : Point)
 
   module _ (w : ℕ) (is-shut : shut w i ≡ true) where
     -- each row on the door is replaced by its run
-    pub opening-replaces-each-door-row : listing (with-open w i) ≡ open-rows (plan-floor cs ts ds (with-open w i) q) f₀ g₀ (cell-count ts - 1) (listing w)
+    pub opening-replaces-each-door-row : listing (with-open w i) ≡ open-rows (plan-floor cs T ds (with-open w i) q) f₀ g₀ (cell-count T - 1) (listing w)
     opening-replaces-each-door-row =
-        subst (λ (v : ℕ). listing (with-open w i) ≡ open-rows (plan-floor cs ts ds (with-open w i) q) f₀ g₀ (cell-count ts - 1) (listing v))
+        subst (λ (v : ℕ). listing (with-open w i) ≡ open-rows (plan-floor cs T ds (with-open w i) q) f₀ g₀ (cell-count T - 1) (listing v))
         (shutting-undoes-opening w i is-shut) (shutting-is-undone (with-open w i) (opening-opens-the-door w i))
 
-    pub opened-numbers-are-the-numbers : numbers (under (with-open w i)) ≡ row-numbers (open-rows (plan-floor cs ts ds (with-open w i) q) f₀ g₀ (cell-count ts - 1) (listing w))
+    pub opened-numbers-are-the-numbers : numbers (under (with-open w i)) ≡ row-numbers (open-rows (plan-floor cs T ds (with-open w i) q) f₀ g₀ (cell-count T - 1) (listing w))
     opened-numbers-are-the-numbers = sym (routed-numbers-are-the-numbers (under (with-open w i))) ∙ ap row-numbers opening-replaces-each-door-row
 
     -- the reverse of shutting
@@ -112,23 +113,23 @@ module _ {cs : List ℤ} {ts ds : List ℕ} (sound : Sound cs ts ds) (q : Point)
   -- ---- the door, seen
 
   -- the door's other face has its two ends reversed
-  other-starts : start ts g₀ ≡ finish ts f₀
+  other-starts : start T g₀ ≡ start T (next T f₀)
   other-starts = back-starts-at-the-finish sound f₀ (door-exists sound i h) (door-is-free sound i h)
 
-  other-finishes : finish ts g₀ ≡ start ts f₀
+  other-finishes : start T (next T g₀) ≡ start T f₀
   other-finishes = back-finishes-at-the-start sound f₀ (door-exists sound i h) (door-is-free sound i h)
 
   -- the door is always seen from the same side from one stand, under whatever settings: crossed or ended on, by one face
   pub door-is-seen-from-the-same-side : (w w′ : ℕ) {x y : Routed} {a b k m e e′ : ℕ} → At x (listing w) a → At y (listing w′) b → At e (way x) k → At e′ (way y) m → is-door f₀ g₀ e ≡ true → is-door f₀ g₀ e′ ≡ true → e ≡ e′
   door-is-seen-from-the-same-side w w′ {e = e} {e′ = e′} p p′ r r′ d d′ =
-      Side.seen-from-one-side (seen cs q) (start ts) (finish ts) f₀ g₀ other-starts other-finishes e e′ d d′
-      (Side.way-is-seen (plan-geometry sound w q) (start-in-the-cell sound w q c stands) (cell-count ts - 1) p r)
-      (Side.way-is-seen (plan-geometry sound w′ q) (start-in-the-cell sound w′ q c stands) (cell-count ts - 1) p′ r′)
+      Side.seen-from-one-side (plan-floor cs T ds w q) (seen cs q) f₀ g₀ other-starts other-finishes e e′ d d′
+      (Side.way-is-seen (plan-geometry sound w q) (start-in-the-cell sound w q c stands) (cell-count T - 1) p r)
+      (Side.way-is-seen (plan-geometry sound w′ q) (start-in-the-cell sound w′ q c stands) (cell-count T - 1) p′ r′)
 
   -- no route crosses it twice, nor ends on it after crossing it
   pub no-route-crosses-the-door-twice : (w : ℕ) {x : Routed} {k : ℕ} → At x (listing w) k → (a b : ℕ) → a < b → b < length (way x) → is-door f₀ g₀ (getD (way x) a 0) ≡ true → is-door f₀ g₀ (getD (way x) b 0) ≡ true → ⊥
   no-route-crosses-the-door-twice w p =
-      Side.no-way-meets-the-door-twice (plan-geometry sound w q) (start-in-the-cell sound w q c stands) (cell-count ts - 1) f₀ g₀ other-starts other-finishes p
+      Side.no-way-meets-the-door-twice (plan-geometry sound w q) (start-in-the-cell sound w q c stands) (cell-count T - 1) f₀ g₀ other-starts other-finishes p
 
   -- rows on the door have one face, and each a route of its own
   pub rows-on-the-door-have-one-face : (w w′ : ℕ) {x y : Routed} {a b : ℕ} → At x (listing w) a → At y (listing w′) b → on-door f₀ g₀ x ≡ true → on-door f₀ g₀ y ≡ true → x .row .face ≡ y .row .face
@@ -138,5 +139,5 @@ module _ {cs : List ℤ} {ts ds : List ℕ} (sound : Sound cs ts ds) (q : Point)
   pub rows-on-the-door-have-routes-of-their-own : (w : ℕ) {x y : Routed} {a b : ℕ} → At x (listing w) a → At y (listing w) b → on-door f₀ g₀ x ≡ true → on-door f₀ g₀ y ≡ true → x .route ≡ y .route → a ≡ b
   unfolding way
   rows-on-the-door-have-routes-of-their-own w p r d d′ same =
-      way-tells-the-place (every-row-has-its-own-way (listed (plan-faces sound w q .lines-differ) (plan-sides sound w q c stands))) p r
+      way-tells-the-place (every-row-has-its-own-way (listed (faces-in-the-plane (plan-geometry sound w q)) (sides-in-the-plane (plan-geometry sound w q) (start-in-the-cell sound w q c stands)) .through)) p r
       (rw (same, rows-on-the-door-have-one-face w w p r d d′))

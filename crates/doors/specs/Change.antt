@@ -5,6 +5,8 @@ use Prim.Native.Nat.{ℕ}
 use lib.Dec.{eqb, ltb}
 use lib.ListN.{length}
 use lib.IntN.{ℤ}
+use Rattle.cells.specs.Lists.{Cells}
+use Rattle.cells.specs.Cut.{cells-of}
 use Rattle.setting.specs.Setting.{shut, with-shut, with-open}
 use Rattle.limits.specs.declared.Refusal.{Refusal}
 use Rattle.limits.specs.declared.Refusal.the-variants.{Change, Rows}
@@ -42,13 +44,13 @@ refuse true r table rest = (L.Refused r, table)
 refuse false r table rest = rest
 
 -- replies 12 and 13, or the list and crossings under the new setting
-abbrev pub changed-from : List ℤ → List ℕ → List ℕ → ℕ → List ℕ → ℕ → Bool → List ℕ → View → Listed × List ℕ
-changed-from cs ts ds w given i b table (Refused r) = (L.Refused r, table)
-changed-from cs ts ds w given i b table (From x y c) =
+abbrev pub changed-from : List ℤ → Cells → List ℕ → ℕ → List ℕ → ℕ → Bool → List ℕ → View → Listed × List ℕ
+changed-from cs T ds w given i b table (Refused r) = (L.Refused r, table)
+changed-from cs T ds w given i b table (From x y c) =
     refuse (no-change ds w i b) Change table
-    (refuse (not (same-list given (listing-numbers cs ts ds w (record { x = x; y = y }) c))) Rows table
-    (listed-from cs ts ds (wished b w i) table (From x y c)))
+    (refuse (not (same-list given (listing-numbers cs T ds w (record { x = x; y = y }) c))) Rows table
+    (listed-from cs T ds (wished b w i) table (From x y c)))
 
--- the door change
-unfoldable pub changed : List ℤ → List ℕ → List ℕ → ℕ → Stand → List ℕ → ℕ → Bool → List ℕ → Listed × List ℕ
-changed cs ts ds w s given i b table = changed-from cs ts ds w given i b table (viewed cs ts ds w s (length table))
+-- the door change; the cells are in a list of kind k
+unfoldable pub changed : ℕ → List ℤ → List ℕ → List ℕ → ℕ → Stand → List ℕ → ℕ → Bool → List ℕ → Listed × List ℕ
+changed k cs ts ds w s given i b table = changed-from cs (cells-of k ts) ds w given i b table (viewed k cs ts ds w s (length table))

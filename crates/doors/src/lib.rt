@@ -1,21 +1,30 @@
 // The door change (document 01, "Changing a door"), and what shutting and opening a door does to a list.
-ghost use Prim.Native.Nat.{_*_, _<_, _≤_};
+ghost use Prim.Native.Nat.{suc, _*_, _<_, _≤_};
+ghost use mathlib.Core.Bool.{true};
 ghost use mathlib.Core.Path.{_≡_};
 ghost use lib.ListN.{length, take};
 ghost use Rattle.plane.specs.Side.{point, Near};
-ghost use Rattle.plan.specs.Lists.{corner-count};
-ghost use Rattle.plan.specs.Sound.{Sound};
+ghost use Rattle.limits.specs.Limits.{most-corners, most-cells, sized};
+ghost use Rattle.cells.specs.Lists.{tabled, corner-count, cell-count, face-count};
+ghost use Rattle.cells.specs.Cut.{cells-of};
+ghost use Rattle.cells.specs.Check.{framed};
+ghost use Rattle.cells.specs.Backed.{Backed};
+ghost use Rattle.cells.specs.Sound.{Sound};
+ghost use Rattle.checking.specs.Sizes.{sizes-of};
+ghost use Rattle.checking.specs.declared.Sizes.the-variants.{Of};
 ghost use Rattle.stand.specs.Find.{located};
-ghost use Rattle.stand.specs.declared.find.Found.the-variants.{Cell};
+ghost use Rattle.stand.specs.declared.locate.Found.the-variants.{Cell};
 ghost use Rattle.sight.specs.Listing.{listing-numbers};
 ghost use Rattle.sight.specs.declared.view.View.the-variants.{From};
 ghost use Rattle.doors.specs.Change.{same-list, in-state, wished as Change·wished, changed, changed-from};
-use plan::Plan;
-use plan::Refusal;
+use checking::Sizes;
+use checking::measure;
+use limits::Plan;
+use limits::Refusal;
 use sight::list::Listed;
 use sight::list::list_from;
 use sight::view::View;
-use sight::view::view_from;
+use sight::view::view_in;
 use stand::spot::Stand;
 
 // Is the given list the same as the first n numbers of the table, in length and every number?
@@ -36,23 +45,40 @@ fn is_same_list(given: &[u16], table: &[u16], n: usize) -> bool
     true
 }
 
-// Is the given list the true one under the setting? It is listed anew in the table that is lent for this.
+// Is the given list the true one under the setting? It is listed anew in the table that is lent for this; `lines` and `seen` are room to draw in.
 fn is_true_list_with_room(
     corners: &[i32],
-    cells: &[u16],
+    faces: &[u16],
+    firsts: &[u16],
+    backs: &[u16],
     doors: &[u16],
     setting: u64,
     q: [i64; 2],
     given: &[u16],
     c: usize,
     table: &mut [u16],
+    lines: &mut [u16],
+    seen: &mut [i32],
 ) -> bool
-    requires { ⌜ Sound (now corners) (now cells) (now doors) ⌝ }
-    requires { ⌜ Near (point q) × (located (now corners) (now cells) (point q) ≡ Cell c) ⌝ }
+    requires { ⌜ Sound (now corners) (tabled (now faces) (now firsts)) (now doors) × Backed (tabled (now faces) (now firsts)) (now backs) ⌝ }
+    requires { ⌜ Near (point q) × (located (now corners) (tabled (now faces) (now firsts)) (point q) ≡ Cell c) ⌝ }
     requires { ⌜ 3 * corner-count (now corners) ≤ length (now table) ⌝ }
-    ensures { λ r. ⌜ r ≡ same-list (now (given .entry)) (listing-numbers (now (corners .entry)) (now (cells .entry)) (now (doors .entry)) setting (point q) c) ⌝ }
+    requires { ⌜ (length (now lines) ≡ 4 * face-count (tabled (now faces) (now firsts))) × (length (now seen) ≡ length (now corners)) ⌝ }
+    ensures { λ r. ⌜ r ≡ same-list (now (given .entry)) (listing-numbers (now (corners .entry)) (tabled (now (faces .entry)) (now (firsts .entry))) (now (doors .entry)) setting (point q) c) ⌝ }
 {
-    let counts = list_from(corners, cells, doors, setting, q, table, c);
+    let counts = list_from(
+        corners,
+        faces,
+        firsts,
+        backs,
+        doors,
+        setting,
+        q,
+        table,
+        c,
+        lines,
+        seen,
+    );
     let n = 3 * counts.rows;
     is_same_list(given, table, n)
 }
@@ -83,25 +109,45 @@ fn wished(setting: u64, i: usize, shut: bool) -> u64
 // Is the given list the true one? It is listed anew in a table of its own, so the lent one keeps its contents.
 fn is_true_list(
     corners: &[i32],
-    cells: &[u16],
+    faces: &[u16],
+    firsts: &[u16],
+    backs: &[u16],
     doors: &[u16],
     setting: u64,
     q: [i64; 2],
     given: &[u16],
     c: usize,
+    lines: &mut [u16],
+    seen: &mut [i32],
 ) -> bool
-    requires { ⌜ Sound (now corners) (now cells) (now doors) ⌝ }
-    requires { ⌜ Near (point q) × (located (now corners) (now cells) (point q) ≡ Cell c) ⌝ }
-    ensures { λ r. ⌜ r ≡ same-list (now (given .entry)) (listing-numbers (now (corners .entry)) (now (cells .entry)) (now (doors .entry)) setting (point q) c) ⌝ }
+    requires { ⌜ Sound (now corners) (tabled (now faces) (now firsts)) (now doors) × Backed (tabled (now faces) (now firsts)) (now backs) ⌝ }
+    requires { ⌜ Near (point q) × (located (now corners) (tabled (now faces) (now firsts)) (point q) ≡ Cell c) ⌝ }
+    requires { ⌜ (length (now lines) ≡ 4 * face-count (tabled (now faces) (now firsts))) × (length (now seen) ≡ length (now corners)) ⌝ }
+    ensures { λ r. ⌜ r ≡ same-list (now (given .entry)) (listing-numbers (now (corners .entry)) (tabled (now (faces .entry)) (now (firsts .entry))) (now (doors .entry)) setting (point q) c) ⌝ }
 {
     let mut scratch = [0u16; 3 * Plan::MOST_CORNERS];
-    is_true_list_with_room(corners, cells, doors, setting, q, given, c, &mut scratch)
+    is_true_list_with_room(
+        corners,
+        faces,
+        firsts,
+        backs,
+        doors,
+        setting,
+        q,
+        given,
+        c,
+        &mut scratch,
+        lines,
+        seen,
+    )
 }
 
 // On a view: replies 12 and 13, or the list under the new setting.
 fn change_from(
     corners: &[i32],
-    cells: &[u16],
+    faces: &[u16],
+    firsts: &[u16],
+    backs: &[u16],
     doors: &[u16],
     setting: u64,
     q: [i64; 2],
@@ -110,11 +156,14 @@ fn change_from(
     shut: bool,
     table: &mut [u16],
     c: usize,
+    lines: &mut [u16],
+    seen: &mut [i32],
 ) -> Listed
-    requires { ⌜ Sound (now corners) (now cells) (now doors) ⌝ }
-    requires { ⌜ Near (point q) × (located (now corners) (now cells) (point q) ≡ Cell c) ⌝ }
+    requires { ⌜ Sound (now corners) (tabled (now faces) (now firsts)) (now doors) × Backed (tabled (now faces) (now firsts)) (now backs) ⌝ }
+    requires { ⌜ Near (point q) × (located (now corners) (tabled (now faces) (now firsts)) (point q) ≡ Cell c) ⌝ }
     requires { ⌜ 3 * corner-count (now corners) ≤ length (now table) ⌝ }
-    ensures { λ r. ⌜ (r, now (table .exit)) ≡ changed-from (now (corners .entry)) (now (cells .entry)) (now (doors .entry)) setting (now (given .entry)) door shut (now (table .entry)) (From (point q .x) (point q .y) c) ⌝ }
+    requires { ⌜ (length (now lines) ≡ 4 * face-count (tabled (now faces) (now firsts))) × (length (now seen) ≡ length (now corners)) ⌝ }
+    ensures { λ r. ⌜ (r, now (table .exit)) ≡ changed-from (now (corners .entry)) (tabled (now (faces .entry)) (now (firsts .entry))) (now (doors .entry)) setting (now (given .entry)) door shut (now (table .entry)) (From (point q .x) (point q .y) c) ⌝ }
 {
     if doors.len() <= door {
         return Listed::Refused(Refusal::Change);
@@ -122,40 +171,80 @@ fn change_from(
     if is_in_wished_state(setting, door, shut) {
         return Listed::Refused(Refusal::Change);
     }
-    if !is_true_list(corners, cells, doors, setting, q, given, c) {
+    if !is_true_list(
+        corners,
+        faces,
+        firsts,
+        backs,
+        doors,
+        setting,
+        q,
+        given,
+        c,
+        lines,
+        seen,
+    ) {
         return Listed::Refused(Refusal::Rows);
     }
     let counts = list_from(
         corners,
-        cells,
+        faces,
+        firsts,
+        backs,
         doors,
         wished(setting, door, shut),
         q,
         table,
         c,
+        lines,
+        seen,
     );
     Listed::Rows(counts.rows, counts.crossings)
 }
 
-// The door change: plan, old setting, stand, the list true under the old setting, a door, the wished state and the table.
-pub fn change(
+// The change in the room lent: the tables of the plan, its lines, and the corners seen.
+fn change_in(
     corners: &[i32],
     cells: &[u16],
     doors: &[u16],
+    kind: u16,
     setting: u64,
     stand: Stand,
     given: &[u16],
     door: usize,
     shut: bool,
     table: &mut [u16],
+    faces: &mut [u16],
+    firsts: &mut [u16],
+    backs: &mut [u16],
+    lines: &mut [u16],
+    seen: &mut [i32],
 ) -> Listed
-    ensures { λ r. ⌜ (r, now (table .exit)) ≡ changed (now (corners .entry)) (now (cells .entry)) (now (doors .entry)) setting stand (now (given .entry)) door shut (now (table .entry)) ⌝ }
+    requires { ⌜ (framed kind (now corners) (now cells) ≡ true) × (sized (corner-count (now corners)) (cell-count (cells-of kind (now cells))) (length (now doors)) ≡ true) ⌝ }
+    requires { ⌜ length (now faces) ≡ 2 * face-count (cells-of kind (now cells)) ⌝ }
+    requires { ⌜ length (now firsts) ≡ suc (cell-count (cells-of kind (now cells))) ⌝ }
+    requires { ⌜ length (now backs) ≡ face-count (cells-of kind (now cells)) ⌝ }
+    requires { ⌜ (length (now lines) ≡ 4 * face-count (cells-of kind (now cells))) × (length (now seen) ≡ length (now corners)) ⌝ }
+    ensures { λ r. ⌜ (r, now (table .exit)) ≡ changed kind (now (corners .entry)) (now (cells .entry)) (now (doors .entry)) setting stand (now (given .entry)) door shut (now (table .entry)) ⌝ }
 {
-    match view_from(corners, cells, doors, setting, stand, table.len()) {
+    match view_in(
+        corners,
+        cells,
+        doors,
+        kind,
+        setting,
+        stand,
+        table.len(),
+        faces,
+        firsts,
+        backs,
+    ) {
         View::Refused(r) => Listed::Refused(r),
         View::From(x, y, c) => change_from(
             corners,
-            cells,
+            faces,
+            firsts,
+            backs,
             doors,
             setting,
             [x, y],
@@ -164,6 +253,197 @@ pub fn change(
             shut,
             table,
             c,
+            lines,
+            seen,
         ),
+    }
+}
+
+// The change of a plan of m cells with n faces, in as much of the room lent as they need.
+fn change_cut(
+    corners: &[i32],
+    cells: &[u16],
+    doors: &[u16],
+    kind: u16,
+    setting: u64,
+    stand: Stand,
+    given: &[u16],
+    door: usize,
+    shut: bool,
+    table: &mut [u16],
+    m: usize,
+    n: usize,
+    faces: &mut [u16],
+    firsts: &mut [u16],
+    backs: &mut [u16],
+    lines: &mut [u16],
+    seen: &mut [i32],
+) -> Listed
+    requires { ⌜ sizes-of kind (now corners) (now cells) (now doors) ≡ Of m n ⌝ }
+    requires { ⌜ (2 * n ≤ length (now faces)) × (m < length (now firsts)) × (n ≤ length (now backs)) × (4 * n ≤ length (now lines)) ⌝ }
+    requires { ⌜ 2 * most-corners ≤ length (now seen) ⌝ }
+    ensures { λ r. ⌜ (r, now (table .exit)) ≡ changed kind (now (corners .entry)) (now (cells .entry)) (now (doors .entry)) setting stand (now (given .entry)) door shut (now (table .entry)) ⌝ }
+{
+    let twice = 2 * n;
+    let after = m + 1;
+    let fourfold = 4 * n;
+    let numbers = corners.len();
+    change_in(
+        corners,
+        cells,
+        doors,
+        kind,
+        setting,
+        stand,
+        given,
+        door,
+        shut,
+        table,
+        &mut faces[..twice],
+        &mut firsts[..after],
+        &mut backs[..n],
+        &mut lines[..fourfold],
+        &mut seen[..numbers],
+    )
+}
+
+// Lends room for no more faces than triangles have: the larger tables need not be cleared for them.
+fn change_few(
+    corners: &[i32],
+    cells: &[u16],
+    doors: &[u16],
+    kind: u16,
+    setting: u64,
+    stand: Stand,
+    given: &[u16],
+    door: usize,
+    shut: bool,
+    table: &mut [u16],
+    m: usize,
+    n: usize,
+) -> Listed
+    requires { ⌜ sizes-of kind (now corners) (now cells) (now doors) ≡ Of m n ⌝ }
+    requires { ⌜ n ≤ 3 * most-cells ⌝ }
+    ensures { λ r. ⌜ (r, now (table .exit)) ≡ changed kind (now (corners .entry)) (now (cells .entry)) (now (doors .entry)) setting stand (now (given .entry)) door shut (now (table .entry)) ⌝ }
+{
+    let mut faces = [0u16; 6 * Plan::MOST_CELLS];
+    let mut firsts = [0u16; 1 + Plan::MOST_CELLS];
+    let mut backs = [0u16; 3 * Plan::MOST_CELLS];
+    let mut lines = [0u16; 12 * Plan::MOST_CELLS];
+    let mut seen = [0i32; 2 * Plan::MOST_CORNERS];
+    change_cut(
+        corners,
+        cells,
+        doors,
+        kind,
+        setting,
+        stand,
+        given,
+        door,
+        shut,
+        table,
+        m,
+        n,
+        &mut faces,
+        &mut firsts,
+        &mut backs,
+        &mut lines,
+        &mut seen,
+    )
+}
+
+// Lends room for every plan.
+fn change_many(
+    corners: &[i32],
+    cells: &[u16],
+    doors: &[u16],
+    kind: u16,
+    setting: u64,
+    stand: Stand,
+    given: &[u16],
+    door: usize,
+    shut: bool,
+    table: &mut [u16],
+    m: usize,
+    n: usize,
+) -> Listed
+    requires { ⌜ sizes-of kind (now corners) (now cells) (now doors) ≡ Of m n ⌝ }
+    ensures { λ r. ⌜ (r, now (table .exit)) ≡ changed kind (now (corners .entry)) (now (cells .entry)) (now (doors .entry)) setting stand (now (given .entry)) door shut (now (table .entry)) ⌝ }
+{
+    let mut faces = [0u16; 16 * Plan::MOST_CELLS];
+    let mut firsts = [0u16; 1 + Plan::MOST_CELLS];
+    let mut backs = [0u16; 8 * Plan::MOST_CELLS];
+    let mut lines = [0u16; 32 * Plan::MOST_CELLS];
+    let mut seen = [0i32; 2 * Plan::MOST_CORNERS];
+    change_cut(
+        corners,
+        cells,
+        doors,
+        kind,
+        setting,
+        stand,
+        given,
+        door,
+        shut,
+        table,
+        m,
+        n,
+        &mut faces,
+        &mut firsts,
+        &mut backs,
+        &mut lines,
+        &mut seen,
+    )
+}
+
+// The door change: plan, the kind of its list of cells, old setting, stand, the list true under the old setting, a door, the wished state and the table.
+pub fn change(
+    corners: &[i32],
+    cells: &[u16],
+    doors: &[u16],
+    kind: u16,
+    setting: u64,
+    stand: Stand,
+    given: &[u16],
+    door: usize,
+    shut: bool,
+    table: &mut [u16],
+) -> Listed
+    ensures { λ r. ⌜ (r, now (table .exit)) ≡ changed kind (now (corners .entry)) (now (cells .entry)) (now (doors .entry)) setting stand (now (given .entry)) door shut (now (table .entry)) ⌝ }
+{
+    match measure(corners, cells, doors, kind) {
+        Sizes::Refused(r) => Listed::Refused(r),
+        Sizes::Of(m, n) => {
+            if n <= 3 * Plan::MOST_CELLS {
+                return change_few(
+                    corners,
+                    cells,
+                    doors,
+                    kind,
+                    setting,
+                    stand,
+                    given,
+                    door,
+                    shut,
+                    table,
+                    m,
+                    n,
+                );
+            }
+            change_many(
+                corners,
+                cells,
+                doors,
+                kind,
+                setting,
+                stand,
+                given,
+                door,
+                shut,
+                table,
+                m,
+                n,
+            )
+        }
     }
 }

@@ -1,22 +1,24 @@
 -- The expansion step by step: what a line or a cell hands on, how much of the table that takes, and what is written there.
-use mathlib.Core.Bool.{false}
+use mathlib.Core.Bool.{true, false}
 use mathlib.Core.List.{List}
 use mathlib.Core.Path.{_≡_, refl, ap, ap₂, sym, subst, _∙_}
-use Prim.Native.Nat.{ℕ, zero, suc, _+_, _*_, _-_, _^_, _%_, _<_, _≤_}
+use Prim.Native.Nat.{ℕ, zero, suc, _+_, _*_, _-_, _^_, _<_, _≤_}
 use native.Mathlib.Numerals.{add-one, sub-one}
 use native.Mathlib.Omega.{arith}
-use lib.ListN.{length, getD, set}
+use lib.ListN.{length, set}
 use lib.Seq.{sets}
 use lib.IntN.{ℤ}
+use lib.Signed.{leZ}
+use Rattle.exact.proofs.Order.{𝟘}
+use Rattle.plane.specs.Cone.{cross}
 use Rattle.exact.proofs.Lent.{sets-append}
-use Rattle.plane.specs.Side.{Point}
-use Rattle.plan.specs.Lists.{next}
-use Rattle.expand.specs.Sight.{Floor, Sight, follow, hand-on, numbers, row-count, crossings, Whole}
-use Rattle.expand.specs.Sight.Place.{between, right-of-r, left-of-l}
-use Rattle.expand.specs.Sight.Sight.{row, pass, both, cut}
-use Rattle.expand.specs.Sight.Whole.{whole-row, whole-pass, whole-both}
-use Rattle.expand.specs.Floor.{Lines, floor-of, placed}
-use Rattle.expand.proofs.Trees.{follow-too-far, follow-across, hand-on-both, hand-on-the-left, hand-on-the-right, three-numbers-a-row}
+use Rattle.fan.specs.Sight.{Floor, Sight, fan, follow, hand-on, numbers, row-count, crossings, Whole}
+use Rattle.fan.specs.Sight.Place.{between, right-of-r, left-of-l}
+use Rattle.fan.specs.Sight.Sight.{row, pass, both, cut}
+use Rattle.fan.specs.Sight.Whole.{whole-row, whole-pass, whole-both}
+use Rattle.expand.specs.Floor.{seen-at, placed}
+use Rattle.expand.specs.Narrows.{Narrows}
+use Rattle.fan.proofs.Trees.{follow-too-far, follow-across, fan-last, fan-both, fan-skips, fan-ends, three-numbers-a-row}
 
 -- ---- what a line is followed to
 
@@ -28,11 +30,67 @@ not-cut (whole-both w x) e = let z : _≡_ {A = ℕ} 0 1 = cc in omega arith
 -- a free line is passed, and what is beyond has one crossing less to spend
 pub record Passed (F : Floor) (n f r l : ℕ) : Type 0 where
   pub one-unentered : 1 ≤ n
-  pub is : follow F n f r l ≡ pass f r l (hand-on F (n - 1) (F .back f) r l)
+  pub is : follow F n f r l ≡ pass f r l (fan F (follow F (n - 1)) (F .more (F .back f)) (F .next (F .back f)) r l)
 
 pub passed : (F : Floor) (n f r l : ℕ) → F .ends f ≡ false → Whole (follow F n f r l) → Passed F n f r l
+unfolding hand-on
 passed F zero f r l e w = absurd (not-cut w (follow-too-far F f r l e))
 passed F (suc n) f r l e w = record { one-unentered = omega arith; is = rw sub-one (follow-across F n f r l e) }
+
+-- ---- what a side and those after it are handed on as
+
+skipping : (F : Floor) (on : ℕ → ℕ → ℕ → Sight) (e r l m : ℕ) → (m ≡ 0 → ⊥) → F .place (F .left-end e) r l ≡ right-of-r → fan F on m e r l ≡ fan F on (m - 1) (F .next e) r l
+skipping F on e r l zero h p = absurd (h refl)
+skipping F on e r l (suc m) h p = rw sub-one (fan-skips F on m e r l p)
+
+ending : (F : Floor) (on : ℕ → ℕ → ℕ → Sight) (e r l m : ℕ) → (m ≡ 0 → ⊥) → F .place (F .left-end e) r l ≡ left-of-l → fan F on m e r l ≡ on e r l
+ending F on e r l zero h p = absurd (h refl)
+ending F on e r l (suc m) h p = fan-ends F on m e r l p
+
+-- sides are left out one after another, each ending on or right of the right limit; where one ends on or left of the left limit, none follows it
+module _ (F : Floor) (r l m e : ℕ) where
+  pub narrows-none : Narrows F r l m e m e
+  narrows-none = record { no-more = omega arith; same = λ on. refl }
+
+  module _ {n f : ℕ} (s : Narrows F r l m e n f) (h : 0 < n) where
+    pub narrows-one-more : F .place (F .left-end f) r l ≡ right-of-r → Narrows F r l m e (n - 1) (F .next f)
+    narrows-one-more p =
+        record {
+          no-more = omega (arith, s .no-more);
+          same = λ on. s .same on ∙ skipping F on f r l n (λ k. omega arith) p;
+        }
+
+    pub narrows-to-one : F .place (F .left-end f) r l ≡ left-of-l → Narrows F r l m e 0 f
+    narrows-to-one p =
+        record {
+          no-more = omega arith;
+          same = λ on. s .same on ∙ ending F on f r l n (λ k. omega arith) p ∙ sym (fan-last F on f r l);
+        }
+
+pub is-right-of-r : (zs : List ℤ) (v r l : ℕ) → leZ (cross (seen-at zs r) (seen-at zs v)) 𝟘 ≡ true → right-of-r ≡ placed zs v r l
+unfolding placed
+is-right-of-r zs v r l h = rw (h, placed)
+
+pub is-left-of-l : (zs : List ℤ) (v r l : ℕ) → leZ (cross (seen-at zs r) (seen-at zs v)) 𝟘 ≡ false → leZ (cross (seen-at zs v) (seen-at zs l)) 𝟘 ≡ true → left-of-l ≡ placed zs v r l
+unfolding placed
+is-left-of-l zs v r l h k = rw (h, k, placed)
+
+module _ (F : Floor) (n e r l : ℕ) where
+  abbrev handed : ℕ → Sight
+  handed m = fan F (follow F n) m e r l
+
+  pub hands-the-last : {m : ℕ} → m ≡ 0 → handed m ≡ follow F n e r l
+  hands-the-last h = rw h (fan-last F (follow F n) e r l)
+
+  pub hands-skipping : (m : ℕ) → (m ≡ 0 → ⊥) → F .place (F .left-end e) r l ≡ right-of-r → handed m ≡ fan F (follow F n) (m - 1) (F .next e) r l
+  hands-skipping m h p = skipping F (follow F n) e r l m h p
+
+  pub hands-ending : (m : ℕ) → (m ≡ 0 → ⊥) → F .place (F .left-end e) r l ≡ left-of-l → handed m ≡ follow F n e r l
+  hands-ending m h p = ending F (follow F n) e r l m h p
+
+  pub hands-both : (m : ℕ) → (m ≡ 0 → ⊥) → F .place (F .left-end e) r l ≡ between → handed m ≡ both (follow F n e r (F .left-end e)) (fan F (follow F n) (m - 1) (F .next e) (F .left-end e) l)
+  hands-both zero h p = absurd (h refl)
+  hands-both (suc m) h p = rw sub-one (fan-both F (follow F n) m e r l p)
 
 -- ---- the room that a tree's rows take in a table of n numbers, from `at` on
 
@@ -99,26 +157,3 @@ unfolding numbers row-count crossings
 row-written old at {f} {r} {l} e =
     let d : at + 2 ≡ suc (suc at) = omega arith in
     subst (Written old (set (set (set old at f) (at + 1) r) (at + 2) l) at 1 0) (sym e) (refl, (refl, rw (add-one, d)))
-
--- ---- the cell that is entered through a face, by the faces and the corner that the code has found
-
-pub next-exists : {cs : List ℤ} {ls : List ℕ} (f : ℕ) {h : ℕ} → Lines cs ls → 2 * f + 1 < length ls → h ≡ next f → 2 * h + 1 < length ls
-unfolding next
-next-exists {ls = ls} f P h e = let w : length ls % 6 ≡ 0 = P .whole-cells in omega arith
-
-module _ (cs : List ℤ) (ls : List ℕ) (q : Point) (n g r l : ℕ) {right far : ℕ} (is-right : right ≡ next g) (is-far : far ≡ next right) where
-  abbrev F : Floor
-  F = floor-of cs ls q
-
-  left-line-is : far ≡ next (next g)
-  left-line-is = is-far ∙ ap next is-right
-
-  pub right-of-r-hands-on : placed cs q (getD ls (2 * far) 0) r l ≡ right-of-r → hand-on F n g r l ≡ follow F n far r l
-  right-of-r-hands-on = rw (left-line-is) (hand-on-the-left F n g r l)
-
-  pub left-of-l-hands-on : placed cs q (getD ls (2 * far) 0) r l ≡ left-of-l → hand-on F n g r l ≡ follow F n right r l
-  left-of-l-hands-on = rw (left-line-is, is-right) (hand-on-the-right F n g r l)
-
-  pub between-hands-on :
-      placed cs q (getD ls (2 * far) 0) r l ≡ between → hand-on F n g r l ≡ both (follow F n right r (getD ls (2 * far) 0)) (follow F n far (getD ls (2 * far) 0) l)
-  between-hands-on = rw (left-line-is, is-right) (hand-on-both F n g r l)

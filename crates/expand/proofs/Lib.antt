@@ -1,4 +1,2 @@
--- the equations of the tree, and three numbers a row
-pub mod Trees
 -- one step of the code: what a line or a cell hands on, the room that it takes, and what is written
 pub mod Expansion

@@ -1,6 +1,6 @@
--- The code's answer for the place of an apex, as the expansion has it.
-use Rattle.expand.specs.Sight.{Place}
-use Rattle.expand.specs.Sight.Place.{between, right-of-r, left-of-l}
+-- The code's answer for the place of a corner, as the expansion has it.
+use Rattle.fan.specs.Sight.{Place}
+use Rattle.fan.specs.Sight.Place.{between, right-of-r, left-of-l}
 use Rattle.expand.specs.declared.Apex.{Apex}
 use Rattle.expand.specs.declared.Apex.the-variants.{Between, RightOfR, LeftOfL}
 

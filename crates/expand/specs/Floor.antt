@@ -1,45 +1,59 @@
--- The floor of a plan seen from a stand. The lines of the plan under its setting are two numbers a face: the corner at which the face starts, and the
--- face on its other side, or wall where sight ends.
+-- The floor that the two tables of the code describe. Corners are two numbers each: x and y, less the stand's. Faces are four numbers each: the corner
+-- at which the face ends; the face on its other side, or wall where sight ends; how many sides of its cell follow the next one before it comes round
+-- again; and the next side of its cell.
 use mathlib.Core.Bool.{true, false}
 use mathlib.Core.List.{List}
 use mathlib.Core.Path.{_≡_}
-use Prim.Native.Nat.{ℕ, _+_, _*_, _%_, _<_, _≤_}
+use Prim.Native.Nat.{ℕ, _+_, _*_, _/_, _<_, _≤_}
 use lib.Dec.{eqb}
 use lib.ListN.{length, getD}
 use lib.IntN.{ℤ, pos}
 use lib.Signed.{leZ}
-use Rattle.plane.specs.Side.{Point, side}
-use Rattle.limits.specs.Limits.{most-corners, most-cells, wall}
-use Rattle.plan.specs.Lists.{corner-count, corner-at, next}
-use Rattle.plan.specs.Sound.{CornersNear}
-use Rattle.expand.specs.Sight.{Floor, Place}
-use Rattle.expand.specs.Sight.Place.{between, right-of-r, left-of-l}
+use Rattle.exact.specs.Within.{Within}
+use Rattle.plane.specs.Side.{Point}
+use Rattle.plane.specs.Cone.{cross}
+use Rattle.limits.specs.Limits.{most-cells, most-sides, wall}
+use Rattle.fan.specs.Sight.{Floor, Place}
+use Rattle.fan.specs.Sight.Place.{between, right-of-r, left-of-l}
 
--- v on or right of the ray to r, on or left of the ray to l, or strictly between; on a checked plan exactly one applies
-unfoldable pub placed : List ℤ → Point → ℕ → ℕ → ℕ → Place
-placed cs q v r l =
-    elim (leZ (side q (corner-at cs r) (corner-at cs v)) (pos 0)) [
+-- corner i, seen from the stand
+abbrev pub seen-at : List ℤ → ℕ → Point
+seen-at zs i = record { x = getD zs (2 * i) (pos 0); y = getD zs (2 * i + 1) (pos 0) }
+
+-- v on or right of the ray to r, on or left of the ray to l, or strictly between
+unfoldable pub placed : List ℤ → ℕ → ℕ → ℕ → Place
+placed zs v r l =
+    elim (leZ (cross (seen-at zs r) (seen-at zs v)) (pos 0)) [
       | true ↦ right-of-r
-      | false ↦ elim (leZ (side q (corner-at cs v) (corner-at cs l)) (pos 0)) [ true ↦ left-of-l | false ↦ between ]
+      | false ↦ elim (leZ (cross (seen-at zs v) (seen-at zs l)) (pos 0)) [ true ↦ left-of-l | false ↦ between ]
     ]
 
--- the floor that two numbers a face describe
-abbrev pub floor-of : List ℤ → List ℕ → Point → Floor
-floor-of cs ls q =
+-- where a face starts, the table does not say: following a line does not ask
+abbrev pub floor-of : List ℤ → List ℕ → Floor
+floor-of zs ls =
     record {
-      ends = λ f. eqb (getD ls (2 * f + 1) 0) wall;
-      back = λ f. getD ls (2 * f + 1) 0;
-      apex = λ g. getD ls (2 * next (next g)) 0;
-      right-line = next;
-      left-line = λ g. next (next g);
-      place = placed cs q;
+      ends = λ f. eqb (getD ls (4 * f + 1) 0) wall;
+      back = λ f. getD ls (4 * f + 1) 0;
+      next = λ f. getD ls (4 * f + 3) 0;
+      more = λ f. getD ls (4 * f + 2) 0;
+      right-end = λ f. 0;
+      left-end = λ f. getD ls (4 * f) 0;
+      place = placed zs;
     }
 
--- the lines of a checked plan: whole cells, corners that exist, and across each face wall or another face
-pub record Lines (cs : List ℤ) (ls : List ℕ) : Type 0 where
-  pub whole-cells : length ls % 6 ≡ 0
-  pub few-faces : length ls ≤ 6 * most-cells
-  pub few-corners : corner-count cs ≤ most-corners
-  pub corners-near : CornersNear cs
-  pub start-exists : (f : ℕ) → 2 * f + 1 < length ls → getD ls (2 * f) 0 < corner-count cs
-  pub across-exists : (f : ℕ) → 2 * f + 1 < length ls → (getD ls (2 * f + 1) 0 ≡ wall → ⊥) → 2 * getD ls (2 * f + 1) 0 + 1 < length ls
+-- twice the coordinate limit
+abbrev pub most-apart : ℕ
+most-apart = 1073741824
+
+-- every corner within the coordinate limits, seen from a stand within them
+pub record Near (zs : List ℤ) : Type 0 where
+  pub near : (i : ℕ) → i < length zs → Within most-apart (getD zs i (pos 0))
+
+-- the tables of an accepted plan: corners that exist, and across each face wall or another face
+pub record Lines (zs : List ℤ) (ls : List ℕ) : Type 0 where
+  pub few-faces : length ls ≤ 4 * (most-sides * most-cells)
+  pub corners : Near zs
+  pub end-exists : (f : ℕ) → 4 * f + 3 < length ls → getD ls (4 * f) 0 < length zs / 2
+  pub across-exists : (f : ℕ) → 4 * f + 3 < length ls → (getD ls (4 * f + 1) 0 ≡ wall → ⊥) → 4 * getD ls (4 * f + 1) 0 + 3 < length ls
+  pub few-more : (f : ℕ) → 4 * f + 3 < length ls → getD ls (4 * f + 2) 0 < most-sides
+  pub next-exists : (f : ℕ) → 4 * f + 3 < length ls → 4 * getD ls (4 * f + 3) 0 + 3 < length ls

@@ -1,6 +1,6 @@
--- the expansion over any floor: the tree of rows, passages and splits, its numbers and its counts
-pub mod Sight
--- the floor of a plan's table of lines, seen from the stand; where the apex lies
+-- the floor of the code's tables: corners seen from the stand, and four numbers a face
 pub mod Floor
--- the code's answer for the apex, as a place of the definition
+-- the code's answer for a corner, as a place of the definition
 pub mod Apex
+-- where handing on begins
+pub mod Narrows

@@ -1,4 +1,4 @@
--- a reply without room for five numbers leaves all as it was; otherwise the numbers are put
+-- a reply without room for seven numbers leaves all as it was; otherwise the numbers are put
 mod Replies
 -- several stands as a list of numbers
 mod Numbered

@@ -21,15 +21,15 @@ use Rattle.manopluea.specs.Calls.{in-numbers, list-stands-replies}
 use Rattle.exports.specs.Reply.{numbered-replies}
 use lib.Dec.{eqb}
 
-module _ (cs : List ℤ) (ts ds : List ℕ) (w : ℕ) (ns : List Float) (table replies : List ℕ) where
+module _ (kind : ℕ) (cs : List ℤ) (ts ds : List ℕ) (w : ℕ) (ns : List Float) (table replies : List ℕ) where
   abbrev pub said : Reply × (List ℕ × List ℕ)
-  said = numbered-replies (eqb (length ns % 3) 0) cs ts ds w ns table replies
+  said = numbered-replies (eqb (length ns % 3) 0) kind cs ts ds w ns table replies
 
   pub not-of-three : (length ns % 3 ≡ 0 → ⊥) → _≡_ {A = Reply × (List ℕ × List ℕ)} (refused Frame, (table, replies)) said
-  not-of-three h = ap (λ (b : Bool). numbered-replies b cs ts ds w ns table replies) (sym (ne-eqb _ _ h))
+  not-of-three h = ap (λ (b : Bool). numbered-replies b kind cs ts ds w ns table replies) (sym (ne-eqb _ _ h))
 
-  pub of-three : length ns % 3 ≡ 0 → (given : List Stand) → (length ns / 3 ≤ most-stands → take (length ns / 3) given ≡ stands-of ns) → list-stands-replies cs ts ds w given (length ns / 3) table replies ≡ said
+  pub of-three : length ns % 3 ≡ 0 → (given : List Stand) → (length ns / 3 ≤ most-stands → take (length ns / 3) given ≡ stands-of ns) → list-stands-replies kind cs ts ds w given (length ns / 3) table replies ≡ said
   of-three h given made =
       let all : take (length ns / 3) (stands-of ns) ≡ stands-of ns = take-all (length ns / 3) (stands-of ns) (omega (arith, length-of-stands ns)) in
-      ap (in-numbers listed-reply) (only-the-first-are-read cs ts ds w given (stands-of ns) (length ns / 3) table replies (λ few. made few ∙ sym all))
-      ∙ ap (λ (b : Bool). numbered-replies b cs ts ds w ns table replies) (sym (eq-eqb _ _ h))
+      ap (in-numbers listed-reply) (only-the-first-are-read kind cs ts ds w given (stands-of ns) (length ns / 3) table replies (λ few. made few ∙ sym all))
+      ∙ ap (λ (b : Bool). numbered-replies b kind cs ts ds w ns table replies) (sym (eq-eqb _ _ h))

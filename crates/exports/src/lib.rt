@@ -1,5 +1,5 @@
-// The public calls for C and Rust: each slice passes as a pointer and a length, each reply is five numbers (document 01, "Reply numbers"):
-// number, place, and up to three values. A reply with room for fewer is left alone, and so is all other lent memory.
+// The public calls for C and Rust: each slice passes as a pointer and a length, each reply is seven numbers (document 01, "Reply numbers"):
+// number, place, and up to five values. A reply with room for fewer is left alone, and so is all other lent memory.
 // include/manopluea.h has the promise of each function in words, specs/Reply.antt what each leaves as a function of the input.
 ghost use mathlib.Core.Path.{_≡_};
 ghost use Rattle.stand.specs.declared.spot.Stand.the-variants.{Point, Offset};
@@ -7,22 +7,29 @@ ghost use Rattle.exports.specs.Reply.{check-left, read-left, write-left,
 use manopluea::Listed;
 use manopluea::Refusal;
 use manopluea::Stand;
+use manopluea::Terms;
 
 mod reply;
 
 // The plan check; the values are the counts of corners, cells and doors.
 #[no_mangle]
-pub extern "C" fn manopluea_check(corners: &[i32], cells: &[u16], doors: &[u16], reply: &mut [u64])
-    ensures { λ _. ⌜ now (reply .exit) ≡ check-left (now (corners .entry)) (now (cells .entry)) (now (doors .entry)) (now (reply .entry)) ⌝ }
+pub extern "C" fn manopluea_check(
+    corners: &[i32],
+    cells: &[u16],
+    doors: &[u16],
+    kind: u16,
+    reply: &mut [u64],
+)
+    ensures { λ _. ⌜ now (reply .exit) ≡ check-left kind (now (corners .entry)) (now (cells .entry)) (now (doors .entry)) (now (reply .entry)) ⌝ }
 {
-    if reply.len() < 5 {
+    if reply.len() < 7 {
         return;
     }
-    let answer = manopluea::check(corners, cells, doors);
+    let answer = manopluea::check(corners, cells, doors, Terms { kind });
     reply::put_checked(reply, answer);
 }
 
-// Reads the three lists of a plan file; the values are the counts.
+// Reads the three lists of a plan file; the values are the counts, the kind of the list of cells and how many numbers it has.
 #[no_mangle]
 pub extern "C" fn manopluea_read(
     file: &[u8],
@@ -33,11 +40,11 @@ pub extern "C" fn manopluea_read(
 )
     ensures { λ _. ⌜ ((now (corners .exit), (now (cells .exit), now (doors .exit))), now (reply .exit)) ≡ read-left (now (file .entry)) (now (corners .entry)) (now (cells .entry)) (now (doors .entry)) (now (reply .entry)) ⌝ }
 {
-    if reply.len() < 5 {
+    if reply.len() < 7 {
         return;
     }
     let answer = manopluea::read(file, corners, cells, doors);
-    reply::put_checked(reply, answer);
+    reply::put_read(reply, answer);
 }
 
 // Writes the one file of three lists; the values are the counts.
@@ -46,15 +53,16 @@ pub extern "C" fn manopluea_write(
     corners: &[i32],
     cells: &[u16],
     doors: &[u16],
+    kind: u16,
     file: &mut [u8],
     reply: &mut [u64],
 )
-    ensures { λ _. ⌜ (now (file .exit), now (reply .exit)) ≡ write-left (now (corners .entry)) (now (cells .entry)) (now (doors .entry)) (now (file .entry)) (now (reply .entry)) ⌝ }
+    ensures { λ _. ⌜ (now (file .exit), now (reply .exit)) ≡ write-left kind (now (corners .entry)) (now (cells .entry)) (now (doors .entry)) (now (file .entry)) (now (reply .entry)) ⌝ }
 {
-    if reply.len() < 5 {
+    if reply.len() < 7 {
         return;
     }
-    let answer = manopluea::write(corners, cells, doors, file);
+    let answer = manopluea::write(corners, cells, doors, Terms { kind }, file);
     reply::put_checked(reply, answer);
 }
 
@@ -64,16 +72,17 @@ pub extern "C" fn manopluea_find_point(
     corners: &[i32],
     cells: &[u16],
     doors: &[u16],
+    kind: u16,
     x: f64,
     y: f64,
     reply: &mut [u64],
 )
-    ensures { λ _. ⌜ now (reply .exit) ≡ find-left (now (corners .entry)) (now (cells .entry)) (now (doors .entry)) (Point x y) (now (reply .entry)) ⌝ }
+    ensures { λ _. ⌜ now (reply .exit) ≡ find-left kind (now (corners .entry)) (now (cells .entry)) (now (doors .entry)) (Point x y) (now (reply .entry)) ⌝ }
 {
-    if reply.len() < 5 {
+    if reply.len() < 7 {
         return;
     }
-    let answer = manopluea::find(corners, cells, doors, Stand::Point(x, y));
+    let answer = manopluea::find(corners, cells, doors, Terms { kind }, Stand::Point(x, y));
     reply::put_found(reply, answer);
 }
 
@@ -83,17 +92,24 @@ pub extern "C" fn manopluea_find_offset(
     corners: &[i32],
     cells: &[u16],
     doors: &[u16],
+    kind: u16,
     corner: u16,
     dx: f64,
     dy: f64,
     reply: &mut [u64],
 )
-    ensures { λ _. ⌜ now (reply .exit) ≡ find-left (now (corners .entry)) (now (cells .entry)) (now (doors .entry)) (Offset corner dx dy) (now (reply .entry)) ⌝ }
+    ensures { λ _. ⌜ now (reply .exit) ≡ find-left kind (now (corners .entry)) (now (cells .entry)) (now (doors .entry)) (Offset corner dx dy) (now (reply .entry)) ⌝ }
 {
-    if reply.len() < 5 {
+    if reply.len() < 7 {
         return;
     }
-    let answer = manopluea::find(corners, cells, doors, Stand::Offset(corner, dx, dy));
+    let answer = manopluea::find(
+        corners,
+        cells,
+        doors,
+        Terms { kind },
+        Stand::Offset(corner, dx, dy),
+    );
     reply::put_found(reply, answer);
 }
 
@@ -103,18 +119,27 @@ pub extern "C" fn manopluea_list_point(
     corners: &[i32],
     cells: &[u16],
     doors: &[u16],
+    kind: u16,
     setting: u64,
     x: f64,
     y: f64,
     table: &mut [u16],
     reply: &mut [u64],
 )
-    ensures { λ _. ⌜ (now (table .exit), now (reply .exit)) ≡ list-left (now (corners .entry)) (now (cells .entry)) (now (doors .entry)) setting (Point x y) (now (table .entry)) (now (reply .entry)) ⌝ }
+    ensures { λ _. ⌜ (now (table .exit), now (reply .exit)) ≡ list-left kind (now (corners .entry)) (now (cells .entry)) (now (doors .entry)) setting (Point x y) (now (table .entry)) (now (reply .entry)) ⌝ }
 {
-    if reply.len() < 5 {
+    if reply.len() < 7 {
         return;
     }
-    let answer = manopluea::list(corners, cells, doors, setting, Stand::Point(x, y), table);
+    let answer = manopluea::list(
+        corners,
+        cells,
+        doors,
+        Terms { kind },
+        setting,
+        Stand::Point(x, y),
+        table,
+    );
     reply::put_listed(reply, answer);
 }
 
@@ -124,6 +149,7 @@ pub extern "C" fn manopluea_list_offset(
     corners: &[i32],
     cells: &[u16],
     doors: &[u16],
+    kind: u16,
     setting: u64,
     corner: u16,
     dx: f64,
@@ -131,15 +157,16 @@ pub extern "C" fn manopluea_list_offset(
     table: &mut [u16],
     reply: &mut [u64],
 )
-    ensures { λ _. ⌜ (now (table .exit), now (reply .exit)) ≡ list-left (now (corners .entry)) (now (cells .entry)) (now (doors .entry)) setting (Offset corner dx dy) (now (table .entry)) (now (reply .entry)) ⌝ }
+    ensures { λ _. ⌜ (now (table .exit), now (reply .exit)) ≡ list-left kind (now (corners .entry)) (now (cells .entry)) (now (doors .entry)) setting (Offset corner dx dy) (now (table .entry)) (now (reply .entry)) ⌝ }
 {
-    if reply.len() < 5 {
+    if reply.len() < 7 {
         return;
     }
     let answer = manopluea::list(
         corners,
         cells,
         doors,
+        Terms { kind },
         setting,
         Stand::Offset(corner, dx, dy),
         table,
@@ -153,6 +180,7 @@ pub extern "C" fn manopluea_change_point(
     corners: &[i32],
     cells: &[u16],
     doors: &[u16],
+    kind: u16,
     setting: u64,
     x: f64,
     y: f64,
@@ -162,15 +190,16 @@ pub extern "C" fn manopluea_change_point(
     table: &mut [u16],
     reply: &mut [u64],
 )
-    ensures { λ _. ⌜ (now (table .exit), now (reply .exit)) ≡ change-left (now (corners .entry)) (now (cells .entry)) (now (doors .entry)) setting (Point x y) (now (given .entry)) door shut (now (table .entry)) (now (reply .entry)) ⌝ }
+    ensures { λ _. ⌜ (now (table .exit), now (reply .exit)) ≡ change-left kind (now (corners .entry)) (now (cells .entry)) (now (doors .entry)) setting (Point x y) (now (given .entry)) door shut (now (table .entry)) (now (reply .entry)) ⌝ }
 {
-    if reply.len() < 5 {
+    if reply.len() < 7 {
         return;
     }
     let answer = manopluea::change(
         corners,
         cells,
         doors,
+        Terms { kind },
         setting,
         Stand::Point(x, y),
         given,
@@ -187,6 +216,7 @@ pub extern "C" fn manopluea_change_offset(
     corners: &[i32],
     cells: &[u16],
     doors: &[u16],
+    kind: u16,
     setting: u64,
     corner: u16,
     dx: f64,
@@ -197,15 +227,16 @@ pub extern "C" fn manopluea_change_offset(
     table: &mut [u16],
     reply: &mut [u64],
 )
-    ensures { λ _. ⌜ (now (table .exit), now (reply .exit)) ≡ change-left (now (corners .entry)) (now (cells .entry)) (now (doors .entry)) setting (Offset corner dx dy) (now (given .entry)) door shut (now (table .entry)) (now (reply .entry)) ⌝ }
+    ensures { λ _. ⌜ (now (table .exit), now (reply .exit)) ≡ change-left kind (now (corners .entry)) (now (cells .entry)) (now (doors .entry)) setting (Offset corner dx dy) (now (given .entry)) door shut (now (table .entry)) (now (reply .entry)) ⌝ }
 {
-    if reply.len() < 5 {
+    if reply.len() < 7 {
         return;
     }
     let answer = manopluea::change(
         corners,
         cells,
         doors,
+        Terms { kind },
         setting,
         Stand::Offset(corner, dx, dy),
         given,
@@ -222,15 +253,16 @@ pub extern "C" fn manopluea_list_stands(
     corners: &[i32],
     cells: &[u16],
     doors: &[u16],
+    kind: u16,
     setting: u64,
     stands: &[f64],
     table: &mut [u16],
     replies: &mut [u64],
     reply: &mut [u64],
 )
-    ensures { λ _. ⌜ ((now (table .exit), now (replies .exit)), now (reply .exit)) ≡ list-stands-left (now (corners .entry)) (now (cells .entry)) (now (doors .entry)) setting (now (stands .entry)) (now (table .entry)) (now (replies .entry)) (now (reply .entry)) ⌝ }
+    ensures { λ _. ⌜ ((now (table .exit), now (replies .exit)), now (reply .exit)) ≡ list-stands-left kind (now (corners .entry)) (now (cells .entry)) (now (doors .entry)) setting (now (stands .entry)) (now (table .entry)) (now (replies .entry)) (now (reply .entry)) ⌝ }
 {
-    if reply.len() < 5 {
+    if reply.len() < 7 {
         return;
     }
     if stands.len() % 3 != 0 {
@@ -243,6 +275,7 @@ pub extern "C" fn manopluea_list_stands(
         corners,
         cells,
         doors,
+        Terms { kind },
         setting,
         given,
         count,
@@ -257,7 +290,7 @@ pub extern "C" fn manopluea_list_stands(
 pub extern "C" fn manopluea_print(input: &[u8], text: &mut [u8], reply: &mut [u64])
     ensures { λ _. ⌜ (now (text .exit), now (reply .exit)) ≡ print-left (now (input .entry)) (now (text .entry)) (now (reply .entry)) ⌝ }
 {
-    if reply.len() < 5 {
+    if reply.len() < 7 {
         return;
     }
     let answer = printing::print(input, text);

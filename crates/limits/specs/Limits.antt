@@ -19,6 +19,20 @@ most-cells = 3000
 abbrev pub most-doors : ℕ
 most-doors = 64
 
+-- the sides, and corners, of one cell (document 02, A14)
+abbrev pub least-sides : ℕ
+least-sides = 3
+
+abbrev pub most-sides : ℕ
+most-sides = 8
+
+-- the kind of a list of cells of three corners, and of a list that has each cell's corner count before it
+abbrev pub triangles : ℕ
+triangles = 2
+
+abbrev pub polygons : ℕ
+polygons = 12
+
 -- the stands of one call (document 02, A1)
 abbrev pub most-stands : ℕ
 most-stands = 32

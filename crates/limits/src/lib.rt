@@ -21,6 +21,14 @@ impl Plan {
     pub const MOST_CELLS: usize = 3000;
 
     pub const MOST_DOORS: usize = 64;
+    // the sides, and corners, of one cell (document 02, A14)
+    pub const LEAST_SIDES: u16 = 3;
+
+    pub const MOST_SIDES: u16 = 8;
+    // the kind of a list of cells of three corners, and of a list that has each cell's corner count before it
+    pub const TRIANGLES: u16 = 2;
+
+    pub const POLYGONS: u16 = 12;
     // the stands of one call (document 02, A1)
     pub const MOST_STANDS: usize = 32;
     // coordinates go from −COORDINATE to COORDINATE

@@ -1,106 +1,137 @@
-// The table of lines: two numbers a face, the corner at which the face starts, and the face on its other side, or wall where sight ends.
-ghost use Prim.Native.Nat.{_+_, _*_, _<_, _≤_};
+// The table of lines: four numbers a face. The corner at which the face ends; the face on its other side, or wall where sight ends; how many sides of its
+// cell follow the next one before it comes round again; and the next side of its cell.
+ghost use Prim.Native.Nat.{suc, _+_, _*_, _<_, _≤_};
 ghost use mathlib.Core.List.{[]};
 ghost use mathlib.Core.Path.{_≡_};
-ghost use lib.ListN.{length, set};
-ghost use Rattle.limits.specs.Limits.{most-cells, wall};
-ghost use Rattle.plan.specs.Lists.{cell-count, face-count, neighbour};
-ghost use Rattle.plan.specs.Meeting.{MeetOnce};
-ghost use Rattle.plan.specs.Sound.{NeighboursRight};
-ghost use Rattle.lines.specs.Lined.{SoundCells, facing as Lined·facing, Facing, Lined, shut-line};
-use plan::Plan;
-use plan::neighbour;
+ghost use lib.ListN.{length, getD};
+ghost use Rattle.limits.specs.Limits.{most-cells, most-sides, wall};
+ghost use Rattle.cells.specs.Lists.{tabled, cell-count, face-count, first, neighbour, back};
+ghost use Rattle.cells.specs.Backed.{Backed};
+ghost use Rattle.cells.specs.Sound.{Numbered, NeighboursRight};
+ghost use Rattle.lines.specs.Lined.{SoundCells, across as Lined·across, Drawn, Lined, with-face, shut-line};
+use limits::Plan;
 
-// The face of cell o that starts at corner b, or wall where o is wall.
-fn facing(cells: &[u16], o: u16, b: u16) -> u16
-    requires { ⌜ cell-count (now cells) ≤ most-cells ⌝ }
-    requires { ⌜ ((o ≡ wall → ⊥) → o < cell-count (now cells)) ⌝ }
-    ensures { λ r. ⌜ r ≡ Lined·facing (now (cells .entry)) o b ⌝ }
+// The line of face f.
+fn draw_side(lines: &mut [u16], f: usize, end: u16, across: u16, more: u16, next: u16)
+    requires { ⌜ 4 * f + 3 < length (now lines) ⌝ }
+    ensures { λ _. ⌜ now (lines .exit) ≡ with-face (now (lines .entry)) f end across more next ⌝ }
 {
-    if o == Plan::WALL {
+    let at = 4 * f;
+    lines[at] = end;
+    lines[at + 1] = across;
+    lines[at + 2] = more;
+    lines[at + 3] = next;
+}
+
+// The side after face f, of the cell whose sides go from `begin` to before `end`.
+fn after(f: usize, begin: usize, end: usize) -> usize
+    requires { ⌜ f < end ⌝ }
+    ensures { λ r. ⌜ ((suc f ≡ end → r ≡ begin) × ((suc f ≡ end → ⊥) → r ≡ suc f)) ⌝ }
+{
+    if f + 1 == end {
+        return begin;
+    }
+    f + 1
+}
+
+// What is across face f, without doors.
+fn beyond(faces: &[u16], backs: &[u16], f: usize) -> u16
+    requires { ⌜ (2 * f + 1 < length (now faces)) × (f < length (now backs)) ⌝ }
+    ensures { λ r. ⌜ ((getD (now (faces .entry)) (2 * f + 1) 0 ≡ wall → r ≡ wall) × ((getD (now (faces .entry)) (2 * f + 1) 0 ≡ wall → ⊥) → r ≡ getD (now (backs .entry)) f 0)) ⌝ }
+{
+    if faces[2 * f + 1] == Plan::WALL {
         return Plan::WALL;
     }
-    let at = 6 * (o as usize);
-    let second = cells[at + 1];
-    let third = cells[at + 2];
-    if second == b {
-        return 3 * o + 1;
-    }
-    if third == b {
-        return 3 * o + 2;
-    }
-    3 * o
+    backs[f]
 }
 
-// The line of face f, which runs from corner a to corner b, with cell o across it.
-fn draw_side(cells: &[u16], lines: &mut [u16], f: usize, a: u16, b: u16, o: u16)
-    requires { ⌜ cell-count (now cells) ≤ most-cells ⌝ }
-    requires { ⌜ ((o ≡ wall → ⊥) → o < cell-count (now cells)) ⌝ }
-    requires { ⌜ 2 * f + 1 < length (now lines) ⌝ }
-    ensures { λ _. ⌜ now (lines .exit) ≡ set (set (now (lines .entry)) (2 * f) a) (2 * f + 1) (Lined·facing (now (cells .entry)) o b) ⌝ }
+// The lines of one cell, without doors.
+fn draw_cell(faces: &[u16], firsts: &[u16], backs: &[u16], lines: &mut [u16], c: usize)
+    requires { ⌜ Numbered (tabled (now faces) (now firsts)) × Backed (tabled (now faces) (now firsts)) (now backs) ⌝ }
+    requires { ⌜ c < cell-count (tabled (now faces) (now firsts)) ⌝ }
+    requires { ⌜ face-count (tabled (now faces) (now firsts)) ≤ most-sides * most-cells ⌝ }
+    requires { ⌜ Drawn (tabled (now faces) (now firsts)) (Lined·across (tabled (now faces) (now firsts)) [] 0) (first (tabled (now faces) (now firsts)) c) (now lines) ⌝ }
+    ensures { λ _. ⌜ Drawn (tabled (now (faces .entry)) (now (firsts .entry))) (Lined·across (tabled (now (faces .entry)) (now (firsts .entry))) [] 0) (first (tabled (now (faces .entry)) (now (firsts .entry))) (suc c)) (now (lines .exit)) ⌝ }
 {
-    lines[2 * f] = a;
-    lines[2 * f + 1] = facing(cells, o, b);
+    let begin = firsts[c] as usize;
+    let end = firsts[c + 1] as usize;
+    let more = (end - begin - 2) as u16;
+    let mut f = begin;
+    while f < end {
+        let n = after(f, begin, end);
+        let across = beyond(faces, backs, f);
+        draw_side(lines, f, faces[2 * n], across, more, n as u16);
+        f += 1;
+    }
 }
 
-// The lines of the cells without doors. On an accepted plan the cell across a face has one face that starts where this one ends: no search is needed.
-fn draw(cells: &[u16], lines: &mut [u16])
-    requires { ⌜ NeighboursRight (now cells) × Facing (now cells) ⌝ }
-    requires { ⌜ cell-count (now cells) ≤ most-cells ⌝ }
-    requires { ⌜ length (now lines) ≡ 6 * cell-count (now cells) ⌝ }
-    ensures { λ _. ⌜ Lined (now (cells .entry)) [] 0 (now (lines .exit)) ⌝ }
+// The lines of the cells, without doors.
+fn draw(faces: &[u16], firsts: &[u16], backs: &[u16], lines: &mut [u16])
+    requires { ⌜ Numbered (tabled (now faces) (now firsts)) × Backed (tabled (now faces) (now firsts)) (now backs) ⌝ }
+    requires { ⌜ face-count (tabled (now faces) (now firsts)) ≤ most-sides * most-cells ⌝ }
+    requires { ⌜ length (now lines) ≡ 4 * face-count (tabled (now faces) (now firsts)) ⌝ }
+    ensures { λ _. ⌜ Lined (tabled (now (faces .entry)) (now (firsts .entry))) [] 0 (now (lines .exit)) ⌝ }
 {
-    let m = cells.len() / 6;
+    let m = firsts.len() - 1;
     let mut c = 0;
     while c < m {
-        let at = 6 * c;
-        let f = 3 * c;
-        let first = cells[at];
-        let second = cells[at + 1];
-        let third = cells[at + 2];
-        draw_side(cells, lines, f, first, second, cells[at + 3]);
-        draw_side(cells, lines, f + 1, second, third, cells[at + 4]);
-        draw_side(cells, lines, f + 2, third, first, cells[at + 5]);
+        draw_cell(faces, firsts, backs, lines, c);
         c += 1;
     }
 }
 
 // Sight ends at both faces of a line.
-fn shut(cells: &[u16], f: usize, lines: &mut [u16])
-    requires { ⌜ NeighboursRight (now cells) ⌝ }
-    requires { ⌜ MeetOnce (now cells) ⌝ }
-    requires { ⌜ f < face-count (now cells) ⌝ }
-    requires { ⌜ (neighbour (now cells) f ≡ wall → ⊥) ⌝ }
-    requires { ⌜ length (now lines) ≡ 6 * cell-count (now cells) ⌝ }
-    ensures { λ _. ⌜ now (lines .exit) ≡ shut-line (now (cells .entry)) f (now (lines .entry)) ⌝ }
+fn shut(faces: &[u16], firsts: &[u16], backs: &[u16], f: usize, lines: &mut [u16])
+    requires { ⌜ Backed (tabled (now faces) (now firsts)) (now backs) ⌝ }
+    requires { ⌜ f < face-count (tabled (now faces) (now firsts)) ⌝ }
+    requires { ⌜ (neighbour (tabled (now faces) (now firsts)) f ≡ wall → ⊥) ⌝ }
+    requires { ⌜ back (tabled (now faces) (now firsts)) f < face-count (tabled (now faces) (now firsts)) ⌝ }
+    requires { ⌜ length (now lines) ≡ 4 * face-count (tabled (now faces) (now firsts)) ⌝ }
+    ensures { λ _. ⌜ now (lines .exit) ≡ shut-line (tabled (now (faces .entry)) (now (firsts .entry))) f (now (lines .entry)) ⌝ }
 {
-    let g = neighbour::back(cells, f);
-    lines[2 * f + 1] = Plan::WALL;
-    lines[2 * g + 1] = Plan::WALL;
+    let g = backs[f] as usize;
+    lines[4 * f + 1] = Plan::WALL;
+    lines[4 * g + 1] = Plan::WALL;
 }
 
 // Sight ends at the doors that are shut.
-fn shut_doors(cells: &[u16], doors: &[u16], setting: u64, lines: &mut [u16])
-    requires { ⌜ SoundCells (now cells) (now doors) ⌝ }
-    requires { ⌜ Lined (now cells) [] 0 (now lines) ⌝ }
-    ensures { λ _. ⌜ Lined (now (cells .entry)) (now (doors .entry)) setting (now (lines .exit)) ⌝ }
+fn shut_doors(
+    faces: &[u16],
+    firsts: &[u16],
+    backs: &[u16],
+    doors: &[u16],
+    setting: u64,
+    lines: &mut [u16],
+)
+    requires { ⌜ SoundCells (tabled (now faces) (now firsts)) (now doors) ⌝ }
+    requires { ⌜ Backed (tabled (now faces) (now firsts)) (now backs) ⌝ }
+    requires { ⌜ Lined (tabled (now faces) (now firsts)) [] 0 (now lines) ⌝ }
+    ensures { λ _. ⌜ Lined (tabled (now (faces .entry)) (now (firsts .entry))) (now (doors .entry)) setting (now (lines .exit)) ⌝ }
 {
     let k = doors.len();
     let mut i = 0;
     while i < k {
         if setting::is_shut(setting, i) {
-            shut(cells, doors[i] as usize, lines);
+            shut(faces, firsts, backs, doors[i] as usize, lines);
         }
         i += 1;
     }
 }
 
 // The lines of an accepted plan under its setting.
-pub fn lines_of(cells: &[u16], doors: &[u16], setting: u64, lines: &mut [u16])
-    requires { ⌜ SoundCells (now cells) (now doors) ⌝ }
-    requires { ⌜ length (now lines) ≡ 6 * cell-count (now cells) ⌝ }
-    ensures { λ _. ⌜ Lined (now (cells .entry)) (now (doors .entry)) setting (now (lines .exit)) ⌝ }
+pub fn lines_of(
+    faces: &[u16],
+    firsts: &[u16],
+    backs: &[u16],
+    doors: &[u16],
+    setting: u64,
+    lines: &mut [u16],
+)
+    requires { ⌜ SoundCells (tabled (now faces) (now firsts)) (now doors) ⌝ }
+    requires { ⌜ Backed (tabled (now faces) (now firsts)) (now backs) ⌝ }
+    requires { ⌜ length (now lines) ≡ 4 * face-count (tabled (now faces) (now firsts)) ⌝ }
+    ensures { λ _. ⌜ Lined (tabled (now (faces .entry)) (now (firsts .entry))) (now (doors .entry)) setting (now (lines .exit)) ⌝ }
 {
-    draw(cells, lines);
-    shut_doors(cells, doors, setting, lines);
+    draw(faces, firsts, backs, lines);
+    shut_doors(faces, firsts, backs, doors, setting, lines);
 }

@@ -14,3 +14,5 @@ pub mod ChangesOfQ
 pub mod MorningOfQ
 -- wrong versions break the demand that document 01 names
 pub mod ShutOut
+-- a plan of triangles is answered alike in either kind (document 02, A14)
+pub mod EitherKind

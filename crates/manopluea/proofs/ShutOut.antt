@@ -3,7 +3,6 @@
 use mathlib.Core.Bool.{true, false}
 use mathlib.Core.List.{List, [], _∷_}
 use mathlib.Core.Path.{_≡_, refl, ap, ap₂, sym, _∙_, subst}
-use mathlib.Core.Logic.{inl, inr}
 use native.Mathlib.Omega.{arith}
 use Prim.Native.Nat.{ℕ, zero, suc, _+_, _*_, _<_}
 use lib.Ieee.{ofBits}
@@ -13,45 +12,45 @@ use lib.IntN.{ℤ, pos, negsuc}
 use lib.Signed.{_<ℤ_}
 use Rattle.plane.specs.Side.{Point as Vector, side}
 use Rattle.plane.specs.Cone.{minus, cross, Holds, Direction}
-use Rattle.plane.specs.Tests.{by-sides}
-use Rattle.limits.specs.Limits.{sized}
-use Rattle.plan.specs.Least.{least}
-use Rattle.plan.specs.Lists.{corner-at, next, start, neighbour, answers, back}
-use Rattle.plan.specs.Check.{outside, wrong-corner, wrong-cell, wrong-neighbour, names, wrong-door, checked}
+use Rattle.limits.specs.Limits.{triangles, sized}
+use Rattle.cells.specs.Least.{least}
+use Rattle.cells.specs.Lists.{corner-at, next, start, neighbour, answers, back, home}
+use Rattle.cells.specs.Check.{outside, wrong-corner, wrong-cell, wrong-neighbour, names, wrong-door, checked, framed, some-face, wrong-for-side, missing-corner, wrong-side, checked-cells}
 use Rattle.limits.specs.Reply.{number, refused}
-use Rattle.plan.specs.PlanQ.{corners-of-Q, cells-of-Q, doors-of-Q}
+use Rattle.cells.specs.PlanQ.{corners-of-Q, cells-of-Q, doors-of-Q}
 use Rattle.limits.specs.declared.Refusal.{Refusal}
 use Rattle.limits.specs.declared.Refusal.the-variants.{Frame, Size, Corner, Cell as NoCell, Neighbour, Door, Setting, Stand as NoStand, Line, Outside, Room, Change, Rows as Untrue}
+use Rattle.cells.specs.Cut.{cell-of, cut-triangles, cut-polygons, cut, pairs, faces-of, firsts-from, tables, cells-of}
 use Rattle.setting.specs.Setting.{shut, with-shut, wrong-setting, bars, ends}
 use Rattle.number.specs.Whole.{whole}
 use Rattle.stand.specs.Spot.{whole-point, stood}
-use Rattle.stand.specs.Find.{against, located}
+use Rattle.stand.specs.Find.{against, located, not-left-of, right-of}
 use Rattle.stand.specs.declared.spot.Stand.{Stand}
 use Rattle.stand.specs.declared.spot.Stand.the-variants.{Point}
 use Rattle.stand.specs.declared.spot.Spot.the-variants.{At}
-use Rattle.stand.specs.declared.find.Found.the-variants.{Cell}
+use Rattle.stand.specs.declared.locate.Found.the-variants.{Cell}
+use Rattle.cells.proofs.Tables.{numbered}
 use Rattle.stand.proofs.Located.{found-cell-holds-the-stand}
-use Rattle.expand.specs.Sight.{Row, follow, numbers, row-count, crossings}
-use Rattle.expand.specs.Floor.{placed}
-use Rattle.sight.specs.Walk.Walks.{ended, crossed}
-use Rattle.sight.specs.Written.{written, row-at}
-use Rattle.sight.specs.Listing.{viewed, listing-numbers, listing-row-count, listing-crossings, listed}
+use Rattle.fan.specs.Sight.{Row, follow, numbers, row-count, crossings, fan, sides, from-inside}
+use Rattle.fan.specs.Walk.Among.{this, after as one-after}
+use Rattle.fan.specs.Walk.Walks.{ended, crossed}
+use Rattle.fan.specs.Written.{written, row-at}
+use Rattle.sight.specs.Listing.{sight-from, viewed, listing-numbers, listing-row-count, listing-crossings, listed, placed}
 use Rattle.sight.specs.Reply.{listed-reply}
 use Rattle.sight.specs.declared.view.View.the-variants.{From}
 use Rattle.sight.specs.declared.list.Listed.{Listed}
 use Rattle.sight.specs.declared.list.Listed.the-variants.{Rows}
 use Rattle.sight.proofs.Sightings.{walk-is-unique}
 use Rattle.sight.proofs.Views.{view-says}
-use Rattle.doors.specs.Route.{routed, row-numbers}
-use Rattle.doors.specs.Door.{is-door, crosses, side-seen, before, same-to-door, on-door}
-use Rattle.doors.specs.Shutting.{last, joined, pieces, is-run, door-row, shut-piece, shut-rows}
-use Rattle.doors.specs.PlanFloor.{sight-from}
+use Rattle.runs.specs.Route.{routed, row-numbers}
+use Rattle.runs.specs.Door.{is-door, crosses, side-seen, before, same-to-door, on-door}
+use Rattle.runs.specs.Shutting.{last, joined, pieces, is-run, door-row, shut-piece, shut-rows}
 use Rattle.doors.specs.Change.{no-change}
 use Rattle.manopluea.specs.Cases.{six, three, old, untouched}
 use Rattle.manopluea.specs.Conditions.{Answers, list-conditions}
 use Rattle.manopluea.specs.Demands.{MeetsNoCorner, HeldOnce, HoldsDirection, WalkEndsAt, Sighted, Demand-2, Demand-3}
 use Rattle.manopluea.specs.Hall.{corners-of-hall, cells-of-hall, doors-of-hall, stand-in-hall, hall-table, open-hall, shut-hall}
-use Rattle.manopluea.specs.ShutOut.{sides-1-and-2-as-walls, rows-of, first-run-alone, only-the-first-run, in-front-of, joined-on-the-door, adjacent-runs-joined}
+use Rattle.manopluea.specs.ShutOut.{as-walls, other-sides-as-walls, rows-of, first-run-alone, only-the-first-run, in-front-of, joined-on-the-door, adjacent-runs-joined}
 use Rattle.manopluea.proofs.Demands.{demand-1}
 
 -- ---- plan Q from (6, 3), under a setting
@@ -62,12 +61,12 @@ stand = Point six three
 abbrev q : Vector
 q = record { x = pos 6; y = pos 3 }
 
-view-open : viewed corners-of-Q cells-of-Q doors-of-Q 0 stand 12 ≡ From (pos 6) (pos 3) 0
-unfolding ofBits side by-sides sized least next start neighbour answers back outside wrong-corner wrong-cell wrong-neighbour names wrong-door checked wrong-setting whole whole-point stood against located viewed
+view-open : viewed triangles corners-of-Q cells-of-Q doors-of-Q 0 stand 12 ≡ From (pos 6) (pos 3) 0
+unfolding ofBits side sized least home next start neighbour answers back cell-of cut-triangles cut-polygons cut pairs faces-of firsts-from tables cells-of framed outside wrong-corner some-face wrong-for-side missing-corner wrong-side wrong-cell wrong-neighbour names wrong-door checked-cells checked wrong-setting whole whole-point stood not-left-of right-of against located viewed
 view-open = refl
 
-view-shut : viewed corners-of-Q cells-of-Q doors-of-Q 1 stand 12 ≡ From (pos 6) (pos 3) 0
-unfolding ofBits side by-sides sized least next start neighbour answers back outside wrong-corner wrong-cell wrong-neighbour names wrong-door checked wrong-setting whole whole-point stood against located viewed
+view-shut : viewed triangles corners-of-Q cells-of-Q doors-of-Q 1 stand 12 ≡ From (pos 6) (pos 3) 0
+unfolding ofBits side sized least home next start neighbour answers back cell-of cut-triangles cut-polygons cut pairs faces-of firsts-from tables cells-of framed outside wrong-corner some-face wrong-for-side missing-corner wrong-side wrong-cell wrong-neighbour names wrong-door checked-cells checked wrong-setting whole whole-point stood not-left-of right-of against located viewed
 view-shut = refl
 
 -- the direction (−3, 5) meets no corner
@@ -77,7 +76,7 @@ d = record { x = negsuc 2; y = pos 5 }
 d-is-a-direction : Direction d
 d-is-a-direction = record { not-both-zero = λ e f. let z : _≡_ {A = ℕ} 0 1 = cc in omega arith }
 
-d-meets-no-corner : (w : ℕ) → MeetsNoCorner corners-of-Q cells-of-Q doors-of-Q w q 0 d
+d-meets-no-corner : (w : ℕ) → MeetsNoCorner corners-of-Q (cells-of triangles cells-of-Q) doors-of-Q w q 0 d
 unfolding cross minus
 d-meets-no-corner w zero h m = let e = m .along in let z : _≡_ {A = ℕ} 0 1 = cc in omega arith
 d-meets-no-corner w (suc zero) h m = let e = m .along in let z : _≡_ {A = ℕ} 0 1 = cc in omega arith
@@ -94,16 +93,16 @@ leaves-by-4 : Holds (minus (record { x = pos 10; y = pos 10 }) q) (minus (record
 unfolding cross minus
 leaves-by-4 = record { right = record { lt = tt }; left = record { lt = tt } }
 
-walk-while-open : WalkEndsAt corners-of-Q cells-of-Q doors-of-Q 0 q 0 d 4
-unfolding start next ends bars names shut least neighbour answers back
-walk-while-open = record { side = 2; of-the-cell = inr (inr refl); leaves = leaves-by-2; walks = crossed refl (inl refl) leaves-by-4 (ended refl) }
+walk-while-open : WalkEndsAt corners-of-Q (cells-of triangles cells-of-Q) doors-of-Q 0 q 0 d 4
+unfolding start next home ends bars names shut least neighbour answers back cell-of cut-triangles cut pairs faces-of firsts-from tables cells-of
+walk-while-open = record { side = 2; of-the-cell = one-after (one-after this); leaves = leaves-by-2; walks = crossed refl this leaves-by-4 (ended refl) }
 
-walk-once-shut : WalkEndsAt corners-of-Q cells-of-Q doors-of-Q 1 q 0 d 2
-unfolding start next ends bars names shut least neighbour answers back
-walk-once-shut = record { side = 2; of-the-cell = inr (inr refl); leaves = leaves-by-2; walks = ended refl }
+walk-once-shut : WalkEndsAt corners-of-Q (cells-of triangles cells-of-Q) doors-of-Q 1 q 0 d 2
+unfolding start next home ends bars names shut least neighbour answers back cell-of cut-triangles cut pairs faces-of firsts-from tables cells-of
+walk-once-shut = record { side = 2; of-the-cell = one-after (one-after this); leaves = leaves-by-2; walks = ended refl }
 
 -- what demand 2 asks at the stand's point and cell
-module _ {cs : List ℤ} {ts ds : List ℕ} {w : ℕ} {s : Stand} {n k : ℕ} {table : List ℕ} (seen : Sighted cs ts ds w s n k table) {x y : ℤ} {c : ℕ} (at : stood cs s ≡ At x y) (in-cell : located cs ts (record { x = x; y = y }) ≡ Cell c) where
+module _ {kind : ℕ} {cs : List ℤ} {ts ds : List ℕ} {w : ℕ} {s : Stand} {n k : ℕ} {table : List ℕ} (seen : Sighted kind cs ts ds w s n k table) {x y : ℤ} {c : ℕ} (at : stood cs s ≡ At x y) (in-cell : located cs (cells-of kind ts) (record { x = x; y = y }) ≡ Cell c) where
   same-x : seen .x ≡ x
   same-x = let e = seen .the-stand in let f : At (seen .x) (seen .y) ≡ At x y = sym e ∙ at in cc
 
@@ -115,23 +114,23 @@ module _ {cs : List ℤ} {ts ds : List ℕ} {w : ℕ} {s : Stand} {n k : ℕ} {t
 
   same-cell : seen .cell ≡ c
   same-cell =
-      let f : Cell (seen .cell) ≡ Cell c = sym (seen .its-cell) ∙ ap (located cs ts) same-point ∙ in-cell in
+      let f : Cell (seen .cell) ≡ Cell c = sym (seen .its-cell) ∙ ap (located cs (cells-of kind ts)) same-point ∙ in-cell in
       cc
 
-  held-there : (d : Vector) → Direction d → MeetsNoCorner cs ts ds w (record { x = x; y = y }) c d → HeldOnce cs ts ds w (record { x = x; y = y }) c n table d
-  held-there d = subst (λ (p : Vector). Direction d → MeetsNoCorner cs ts ds w p c d → HeldOnce cs ts ds w p c n table d) same-point (subst (λ (c : ℕ). Direction d → MeetsNoCorner cs ts ds w (record { x = seen .x; y = seen .y }) c d → HeldOnce cs ts ds w (record { x = seen .x; y = seen .y }) c n table d) same-cell (seen .held d))
+  held-there : (d : Vector) → Direction d → MeetsNoCorner cs (cells-of kind ts) ds w (record { x = x; y = y }) c d → HeldOnce cs (cells-of kind ts) ds w (record { x = x; y = y }) c n table d
+  held-there d = subst (λ (p : Vector). Direction d → MeetsNoCorner cs (cells-of kind ts) ds w p c d → HeldOnce cs (cells-of kind ts) ds w p c n table d) same-point (subst (λ (c : ℕ). Direction d → MeetsNoCorner cs (cells-of kind ts) ds w (record { x = seen .x; y = seen .y }) c d → HeldOnce cs (cells-of kind ts) ds w (record { x = seen .x; y = seen .y }) c n table d) same-cell (seen .held d))
 
 -- so the row that holds the direction (−3, 5) has the face where its walk ends
-module _ {w : ℕ} (view : viewed corners-of-Q cells-of-Q doors-of-Q w stand 12 ≡ From (pos 6) (pos 3) 0) {f : ℕ} (ends-there : WalkEndsAt corners-of-Q cells-of-Q doors-of-Q w q 0 d f) {n k : ℕ} {after : List ℕ} {before : List ℕ} (demand : Demand-2 corners-of-Q cells-of-Q doors-of-Q w stand before (Rows n k) after) where
-  held-d : HeldOnce corners-of-Q cells-of-Q doors-of-Q w q 0 n after d
+module _ {w : ℕ} (view : viewed triangles corners-of-Q cells-of-Q doors-of-Q w stand 12 ≡ From (pos 6) (pos 3) 0) {f : ℕ} (ends-there : WalkEndsAt corners-of-Q (cells-of triangles cells-of-Q) doors-of-Q w q 0 d f) {n k : ℕ} {after : List ℕ} {before : List ℕ} (demand : Demand-2 triangles corners-of-Q cells-of-Q doors-of-Q w stand before (Rows n k) after) where
+  held-d : HeldOnce corners-of-Q (cells-of triangles cells-of-Q) doors-of-Q w q 0 n after d
   held-d =
-      let says = view-says corners-of-Q cells-of-Q doors-of-Q w stand 12 view in
+      let says = view-says triangles corners-of-Q cells-of-Q doors-of-Q w stand 12 view in
       held-there (demand .sighted n k refl) (says .stand-is) (says .stand-cell) d d-is-a-direction (d-meets-no-corner w)
 
   face-of-d : held-d .row .face ≡ f
   face-of-d =
-      let says = view-says corners-of-Q cells-of-Q doors-of-Q w stand 12 view in
-      walk-is-unique (says .sound) w q 0 (found-cell-holds-the-stand corners-of-Q cells-of-Q q (says .stand-cell)) d (held-d .met) ends-there
+      let says = view-says triangles corners-of-Q cells-of-Q doors-of-Q w stand 12 view in
+      walk-is-unique (says .sound) w q 0 (found-cell-holds-the-stand corners-of-Q (numbered triangles cells-of-Q) q (says .stand-cell)) d (held-d .met) ends-there
 
 -- ---- one that always refuses: the exact conditions of demand 1
 
@@ -151,13 +150,13 @@ no-refusal-is-0 Change e = omega arith
 no-refusal-is-0 Untrue e = omega arith
 
 -- no condition applies to plan Q, so whatever is refused there breaks demand 1
-listed-open : listed corners-of-Q cells-of-Q doors-of-Q 0 stand untouched .0 ≡ Rows 4 1
-unfolding ofBits side by-sides sized least next start neighbour answers back outside wrong-corner wrong-cell wrong-neighbour names wrong-door checked shut wrong-setting bars ends whole whole-point stood against located follow numbers row-count crossings placed viewed listing-numbers listing-row-count listing-crossings listed
+listed-open : listed triangles corners-of-Q cells-of-Q doors-of-Q 0 stand untouched .0 ≡ Rows 4 1
+unfolding ofBits side sized least home next start neighbour answers back cell-of cut-triangles cut-polygons cut pairs faces-of firsts-from tables cells-of framed outside wrong-corner some-face wrong-for-side missing-corner wrong-side wrong-cell wrong-neighbour names wrong-door checked-cells checked shut wrong-setting bars ends whole whole-point stood not-left-of right-of against located fan follow sides from-inside numbers row-count crossings placed viewed listing-numbers listing-row-count listing-crossings listed
 listed-open = refl
 
-pub always-refused-breaks-demand-1 : (r : Refusal) (after : List ℕ) {numbers : List ℕ} → Answers numbers (list-conditions corners-of-Q cells-of-Q doors-of-Q 0 stand 12) (refused r) untouched after → ⊥
+pub always-refused-breaks-demand-1 : (r : Refusal) (after : List ℕ) {numbers : List ℕ} → Answers numbers (list-conditions triangles corners-of-Q cells-of-Q doors-of-Q 0 stand 12) (refused r) untouched after → ⊥
 always-refused-breaks-demand-1 r after says =
-    let done = demand-1 .list corners-of-Q cells-of-Q doors-of-Q 0 stand untouched .exact in
+    let done = demand-1 .list triangles corners-of-Q cells-of-Q doors-of-Q 0 stand untouched .exact in
     no-refusal-is-0 r
     (ap (λ (p : ℕ × ℕ). p .0) (says .exact ∙ sym done) ∙ ap (λ (a : Listed). listed-reply a .number) listed-open)
 
@@ -177,27 +176,27 @@ not-right-of-d : pos 0 <ℤ cross (record { x = negsuc 5; y = negsuc 2 }) d → 
 unfolding cross
 not-right-of-d h = h .lt
 
-pub nothing-written-breaks-demand-2 : (n k : ℕ) → Demand-2 corners-of-Q cells-of-Q doors-of-Q 0 stand untouched (Rows n k) untouched → ⊥
+pub nothing-written-breaks-demand-2 : (n k : ℕ) → Demand-2 triangles corners-of-Q cells-of-Q doors-of-Q 0 stand untouched (Rows n k) untouched → ⊥
 nothing-written-breaks-demand-2 n k demand =
     let one = held-d view-open walk-while-open demand .one in
-    let holds = subst (HoldsDirection corners-of-Q cells-of-Q doors-of-Q 0 q 0 d) (sym (one .stands)) (one .has) in
+    let holds = subst (HoldsDirection corners-of-Q (cells-of triangles cells-of-Q) doors-of-Q 0 q 0 d) (sym (one .stands)) (one .has) in
     not-right-of-d (subst (λ (v : Vector). pos 0 <ℤ cross v d) (seen-in-the-old-table (one .place)) (holds .right))
 
 -- the same rows always: with the door of Q open and shut
-pub the-same-rows-always-break-demand-2 : (n k : ℕ) (before before′ after : List ℕ) → Demand-2 corners-of-Q cells-of-Q doors-of-Q 0 stand before (Rows n k) after → Demand-2 corners-of-Q cells-of-Q doors-of-Q 1 stand before′ (Rows n k) after → ⊥
+pub the-same-rows-always-break-demand-2 : (n k : ℕ) (before before′ after : List ℕ) → Demand-2 triangles corners-of-Q cells-of-Q doors-of-Q 0 stand before (Rows n k) after → Demand-2 triangles corners-of-Q cells-of-Q doors-of-Q 1 stand before′ (Rows n k) after → ⊥
 the-same-rows-always-break-demand-2 n k before before′ after as-open as-shut =
     let one = held-d view-open walk-while-open as-open in
     let two = held-d view-shut walk-once-shut as-shut in
-    let here : two .one .place ≡ one .one .place = one .one .no-other (two .one .place) (two .one .within) (subst (HoldsDirection corners-of-Q cells-of-Q doors-of-Q 0 q 0 d) (sym (two .one .stands)) (two .one .has)) in
+    let here : two .one .place ≡ one .one .place = one .one .no-other (two .one .place) (two .one .within) (subst (HoldsDirection corners-of-Q (cells-of triangles cells-of-Q) doors-of-Q 0 q 0 d) (sym (two .one .stands)) (two .one .has)) in
     let same : two .row ≡ one .row = sym (two .one .stands) ∙ ap (row-at after) here ∙ one .one .stands in
     let four = face-of-d view-open walk-while-open as-open in
     let the-door = face-of-d view-shut walk-once-shut as-shut in
     let z : _≡_ {A = ℕ} 2 4 = sym the-door ∙ ap (λ (r : Row). r .face) same ∙ four in
     omega arith
 
--- sides 1 and 2 of the stand's cell as walls: the direction (−3, 5) is on the row of face 2, while its walk ends at face 4
-walls-listed : sides-1-and-2-as-walls corners-of-Q cells-of-Q doors-of-Q 0 stand untouched ≡ (Rows 3 0, 0 ∷ 0 ∷ 1 ∷ 1 ∷ 1 ∷ 2 ∷ 2 ∷ 2 ∷ 0 ∷ old ∷ old ∷ old ∷ [])
-unfolding ofBits side by-sides sized least next start neighbour answers back outside wrong-corner wrong-cell wrong-neighbour names wrong-door checked shut wrong-setting bars ends whole whole-point stood against located follow numbers row-count crossings placed viewed
+-- all sides of the stand's cell but side 0 as walls: the direction (−3, 5) is on the row of face 2, while its walk ends at face 4
+walls-listed : other-sides-as-walls triangles corners-of-Q cells-of-Q doors-of-Q 0 stand untouched ≡ (Rows 3 0, 0 ∷ 0 ∷ 1 ∷ 1 ∷ 1 ∷ 2 ∷ 2 ∷ 2 ∷ 0 ∷ old ∷ old ∷ old ∷ [])
+unfolding ofBits side sized least home next start neighbour answers back cell-of cut-triangles cut-polygons cut pairs faces-of firsts-from tables cells-of framed outside wrong-corner some-face wrong-for-side missing-corner wrong-side wrong-cell wrong-neighbour names wrong-door checked-cells checked shut wrong-setting bars ends whole whole-point stood not-left-of right-of against located fan follow sides from-inside numbers row-count crossings placed viewed as-walls
 walls-listed = refl
 
 no-row-of-face-4 : (i : ℕ) → i < 3 → row-at (0 ∷ 0 ∷ 1 ∷ 1 ∷ 1 ∷ 2 ∷ 2 ∷ 2 ∷ 0 ∷ old ∷ old ∷ old ∷ []) i .face ≡ 4 → ⊥
@@ -206,26 +205,26 @@ no-row-of-face-4 (suc zero) h e = omega arith
 no-row-of-face-4 (suc (suc zero)) h e = omega arith
 no-row-of-face-4 (suc (suc (suc i))) h e = omega arith
 
-pub sides-1-and-2-as-walls-break-demand-2 : Demand-2 corners-of-Q cells-of-Q doors-of-Q 0 stand untouched (sides-1-and-2-as-walls corners-of-Q cells-of-Q doors-of-Q 0 stand untouched .0) (sides-1-and-2-as-walls corners-of-Q cells-of-Q doors-of-Q 0 stand untouched .1) → ⊥
-sides-1-and-2-as-walls-break-demand-2 demand =
-    let asked = subst (λ (p : Listed × List ℕ). Demand-2 corners-of-Q cells-of-Q doors-of-Q 0 stand untouched (p .0) (p .1)) walls-listed demand in
+pub other-sides-as-walls-break-demand-2 : Demand-2 triangles corners-of-Q cells-of-Q doors-of-Q 0 stand untouched (other-sides-as-walls triangles corners-of-Q cells-of-Q doors-of-Q 0 stand untouched .0) (other-sides-as-walls triangles corners-of-Q cells-of-Q doors-of-Q 0 stand untouched .1) → ⊥
+other-sides-as-walls-break-demand-2 demand =
+    let asked = subst (λ (p : Listed × List ℕ). Demand-2 triangles corners-of-Q cells-of-Q doors-of-Q 0 stand untouched (p .0) (p .1)) walls-listed demand in
     let one = held-d view-open walk-while-open asked .one in
     no-row-of-face-4 (one .place) (one .within) (ap (λ (r : Row). r .face) (one .stands) ∙ face-of-d view-open walk-while-open asked)
 
 -- crossings other than the expansion's, on any plan
-pub invented-crossings-break-demand-2 : (cs : List ℤ) (ts ds : List ℕ) (w : ℕ) (s : Stand) (before after : List ℕ) (n k : ℕ) → (demand : Demand-2 cs ts ds w s before (Rows n k) after) → {x y : ℤ} {c : ℕ} → stood cs s ≡ At x y → located cs ts (record { x = x; y = y }) ≡ Cell c → (k ≡ listing-crossings cs ts ds w (record { x = x; y = y }) c → ⊥) → ⊥
-invented-crossings-break-demand-2 cs ts ds w s before after n k demand at in-cell other =
+pub invented-crossings-break-demand-2 : (kind : ℕ) (cs : List ℤ) (ts ds : List ℕ) (w : ℕ) (s : Stand) (before after : List ℕ) (n k : ℕ) → (demand : Demand-2 kind cs ts ds w s before (Rows n k) after) → {x y : ℤ} {c : ℕ} → stood cs s ≡ At x y → located cs (cells-of kind ts) (record { x = x; y = y }) ≡ Cell c → (k ≡ listing-crossings cs (cells-of kind ts) ds w (record { x = x; y = y }) c → ⊥) → ⊥
+invented-crossings-break-demand-2 kind cs ts ds w s before after n k demand at in-cell other =
     let seen = demand .sighted n k refl in
-    other (seen .crossed ∙ ap₂ (λ (p : Vector) (c : ℕ). listing-crossings cs ts ds w p c) (same-point seen at in-cell) (same-cell seen at in-cell))
+    other (seen .crossed ∙ ap₂ (λ (p : Vector) (c : ℕ). listing-crossings cs (cells-of kind ts) ds w p c) (same-point seen at in-cell) (same-cell seen at in-cell))
 
 -- ---- demand 3, in the hall: its door is shut, from the true list
 
-listed-while-open : listed corners-of-hall cells-of-hall doors-of-hall 0 stand-in-hall hall-table ≡ (Rows 6 6, open-hall)
-unfolding ofBits side by-sides sized least next start neighbour answers back outside wrong-corner wrong-cell wrong-neighbour names wrong-door checked shut wrong-setting bars ends whole whole-point stood against located follow numbers row-count crossings placed viewed listing-numbers listing-row-count listing-crossings listed
+listed-while-open : listed triangles corners-of-hall cells-of-hall doors-of-hall 0 stand-in-hall hall-table ≡ (Rows 6 6, open-hall)
+unfolding ofBits side sized least home next start neighbour answers back cell-of cut-triangles cut-polygons cut pairs faces-of firsts-from tables cells-of framed outside wrong-corner some-face wrong-for-side missing-corner wrong-side wrong-cell wrong-neighbour names wrong-door checked-cells checked shut wrong-setting bars ends whole whole-point stood not-left-of right-of against located fan follow sides from-inside numbers row-count crossings placed viewed listing-numbers listing-row-count listing-crossings listed
 listed-while-open = refl
 
-listed-once-shut : listed corners-of-hall cells-of-hall doors-of-hall (with-shut 0 0) stand-in-hall hall-table ≡ (Rows 5 4, sets hall-table 0 shut-hall)
-unfolding ofBits side by-sides sized least next start neighbour answers back outside wrong-corner wrong-cell wrong-neighbour names wrong-door checked shut with-shut wrong-setting bars ends whole whole-point stood against located follow numbers row-count crossings placed viewed listing-numbers listing-row-count listing-crossings listed
+listed-once-shut : listed triangles corners-of-hall cells-of-hall doors-of-hall (with-shut 0 0) stand-in-hall hall-table ≡ (Rows 5 4, sets hall-table 0 shut-hall)
+unfolding ofBits side sized least home next start neighbour answers back cell-of cut-triangles cut-polygons cut pairs faces-of firsts-from tables cells-of framed outside wrong-corner some-face wrong-for-side missing-corner wrong-side wrong-cell wrong-neighbour names wrong-door checked-cells checked shut with-shut wrong-setting bars ends whole whole-point stood not-left-of right-of against located fan follow sides from-inside numbers row-count crossings placed viewed listing-numbers listing-row-count listing-crossings listed
 listed-once-shut = refl
 
 may-shut : no-change doors-of-hall 0 0 true ≡ false
@@ -234,7 +233,7 @@ may-shut = refl
 
 -- demand 3 of an answer and a table leaves one answer and one table
 abbrev Demanded : Listed → List ℕ → Type 0
-Demanded answer after = Demand-3 corners-of-hall cells-of-hall doors-of-hall 0 stand-in-hall open-hall 0 true hall-table answer after
+Demanded answer after = Demand-3 triangles corners-of-hall cells-of-hall doors-of-hall 0 stand-in-hall open-hall 0 true hall-table answer after
 
 shut-from-the-true-list : {answer : Listed} {after : List ℕ} → Demanded answer after → _≡_ {A = Listed × List ℕ} (answer, after) (Rows 5 4, sets hall-table 0 shut-hall)
 shut-from-the-true-list demand = demand .from-the-true-list 6 6 open-hall listed-while-open may-shut refl ∙ listed-once-shut
@@ -248,19 +247,19 @@ pub a-copied-list-breaks-demand-3 : (answer : Listed) → Demanded answer (sets 
 a-copied-list-breaks-demand-3 answer demand = other-table 6 demand (λ e. omega arith)
 
 -- only the first run treated
-first-run-numbers : row-numbers (only-the-first-run 10 12 (routed (sight-from corners-of-hall cells-of-hall doors-of-hall 0 (record { x = pos 0; y = pos 5 }) 0))) ≡ 0 ∷ 0 ∷ 1 ∷ 3 ∷ 1 ∷ 3 ∷ 10 ∷ 3 ∷ 2 ∷ 14 ∷ 2 ∷ 4 ∷ 8 ∷ 4 ∷ 0 ∷ []
-unfolding routed row-numbers written follow ends bars names shut least back answers neighbour start next placed side is-door crosses side-seen before same-to-door last joined pieces is-run door-row rows-of first-run-alone
+first-run-numbers : row-numbers (only-the-first-run 10 12 (routed (sight-from corners-of-hall (cells-of triangles cells-of-hall) doors-of-hall 0 (record { x = pos 0; y = pos 5 }) 0))) ≡ 0 ∷ 0 ∷ 1 ∷ 3 ∷ 1 ∷ 3 ∷ 10 ∷ 3 ∷ 2 ∷ 14 ∷ 2 ∷ 4 ∷ 8 ∷ 4 ∷ 0 ∷ []
+unfolding routed row-numbers written fan follow sides from-inside ends bars names shut least back answers neighbour start next home cell-of cut-triangles cut pairs faces-of firsts-from tables cells-of placed side is-door crosses side-seen before same-to-door last joined pieces is-run door-row rows-of first-run-alone
 first-run-numbers = refl
 
-pub only-the-first-run-breaks-demand-3 : (answer : Listed) → Demanded answer (sets hall-table 0 (row-numbers (only-the-first-run 10 12 (routed (sight-from corners-of-hall cells-of-hall doors-of-hall 0 (record { x = pos 0; y = pos 5 }) 0))))) → ⊥
+pub only-the-first-run-breaks-demand-3 : (answer : Listed) → Demanded answer (sets hall-table 0 (row-numbers (only-the-first-run 10 12 (routed (sight-from corners-of-hall (cells-of triangles cells-of-hall) doors-of-hall 0 (record { x = pos 0; y = pos 5 }) 0))))) → ⊥
 only-the-first-run-breaks-demand-3 answer demand = other-table 9 demand (λ e. let f = ap (λ (l : List ℕ). getD (sets hall-table 0 l) 9 0) first-run-numbers in omega arith)
 
 -- adjacent runs joined
-joined-numbers : row-numbers (adjacent-runs-joined 10 12 (routed (sight-from corners-of-hall cells-of-hall doors-of-hall 0 (record { x = pos 0; y = pos 5 }) 0))) ≡ 0 ∷ 0 ∷ 1 ∷ 3 ∷ 1 ∷ 3 ∷ 10 ∷ 3 ∷ 4 ∷ 8 ∷ 4 ∷ 0 ∷ []
-unfolding routed row-numbers written follow ends bars names shut least back answers neighbour start next placed side is-door crosses side-seen before same-to-door on-door last joined pieces is-run door-row shut-piece shut-rows in-front-of joined-on-the-door
+joined-numbers : row-numbers (adjacent-runs-joined 10 12 (routed (sight-from corners-of-hall (cells-of triangles cells-of-hall) doors-of-hall 0 (record { x = pos 0; y = pos 5 }) 0))) ≡ 0 ∷ 0 ∷ 1 ∷ 3 ∷ 1 ∷ 3 ∷ 10 ∷ 3 ∷ 4 ∷ 8 ∷ 4 ∷ 0 ∷ []
+unfolding routed row-numbers written fan follow sides from-inside ends bars names shut least back answers neighbour start next home cell-of cut-triangles cut pairs faces-of firsts-from tables cells-of placed side is-door crosses side-seen before same-to-door on-door last joined pieces is-run door-row shut-piece shut-rows in-front-of joined-on-the-door
 joined-numbers = refl
 
-pub joined-runs-break-demand-3 : (answer : Listed) → Demanded answer (sets hall-table 0 (row-numbers (adjacent-runs-joined 10 12 (routed (sight-from corners-of-hall cells-of-hall doors-of-hall 0 (record { x = pos 0; y = pos 5 }) 0))))) → ⊥
+pub joined-runs-break-demand-3 : (answer : Listed) → Demanded answer (sets hall-table 0 (row-numbers (adjacent-runs-joined 10 12 (routed (sight-from corners-of-hall (cells-of triangles cells-of-hall) doors-of-hall 0 (record { x = pos 0; y = pos 5 }) 0))))) → ⊥
 joined-runs-break-demand-3 answer demand = other-table 8 demand (λ e. let f = ap (λ (l : List ℕ). getD (sets hall-table 0 l) 8 0) joined-numbers in omega arith)
 
 -- invented crossings

@@ -12,18 +12,19 @@ use lib.IntN.{ℤ}
 use Rattle.limits.specs.declared.Plan.{Plan}
 use Rattle.limits.specs.declared.Checked.{Checked}
 use Rattle.limits.specs.declared.Checked.the-variants as C
-use Rattle.plan.specs.Lists.{corner-count}
-use Rattle.plan.specs.Check.{checked}
+use Rattle.cells.specs.Lists.{corner-count}
+use Rattle.cells.specs.Cut.{cells-of}
+use Rattle.cells.specs.Check.{checked}
 use Rattle.setting.specs.Setting.{wrong-setting}
 use Rattle.stand.specs.Spot.{stood}
 use Rattle.stand.specs.declared.spot.Stand.{Stand}
-use Rattle.expand.specs.Sight.{Row}
+use Rattle.fan.specs.Sight.{Row}
 use Rattle.sight.specs.Listing.{listed-from, listed}
 use Rattle.sight.specs.Reply.{listed-reply}
-use Rattle.sight.specs.Written.{row-at, OneRow}
+use Rattle.fan.specs.Written.{row-at, OneRow}
 use Rattle.sight.specs.declared.list.Listed.{Listed}
 use Rattle.sight.specs.declared.list.Listed.the-variants as L
-use Rattle.morning.specs.Morning.{rows-of, rows-in-all, crossings-in-all, all-rows, all-replies, stands-from, listed-stands}
+use Rattle.morning.specs.Morning.{rows-of, single, rows-in-all, crossings-in-all, all-rows, all-replies, stands-from, listed-stands}
 use Rattle.grant.specs.Asked.{asked}
 use Rattle.grant.proofs.Grants.{grant-says}
 use Rattle.morning.proofs.Single.{listed-by-spot}
@@ -57,7 +58,7 @@ module _ (n : ℕ) (a b : List ℕ) (same : take (3 * n) a ≡ take (3 * n) b) w
         no-other = λ i h p. one .no-other i h (subst P (sym (same-row i h)) p);
       }
 
-  same-sighted : {cs : List ℤ} {ts ds : List ℕ} {w : ℕ} {s : Stand} {k : ℕ} → Sighted cs ts ds w s n k a → Sighted cs ts ds w s n k b
+  same-sighted : {kind : ℕ} {cs : List ℤ} {ts ds : List ℕ} {w : ℕ} {s : Stand} {k : ℕ} → Sighted kind cs ts ds w s n k a → Sighted kind cs ts ds w s n k b
   same-sighted seen =
       record {
         x = seen .x;
@@ -75,14 +76,14 @@ module _ (n : ℕ) (a b : List ℕ) (same : take (3 * n) a ≡ take (3 * n) b) w
 
 -- ---- a stand's own reply, by its condition
 
-stand-by-condition : (cs : List ℤ) (ts ds : List ℕ) (w : ℕ) {p : Plan} → checked cs ts ds ≡ C.Accepted p → wrong-setting w (length ds) ≡ false → (s : Stand) (lent : List ℕ) → 3 * corner-count cs ≤ length lent → listed-reply (listed cs ts ds w s lent .0) .number ≡ lowest (stand-conditions cs ts (stood cs s)) .0
+stand-by-condition : (kind : ℕ) (cs : List ℤ) (ts ds : List ℕ) (w : ℕ) {p : Plan} → checked kind cs ts ds ≡ C.Accepted p → wrong-setting w (length ds) ≡ false → (s : Stand) (lent : List ℕ) → 3 * corner-count cs ≤ length lent → listed-reply (listed kind cs ts ds w s lent .0) .number ≡ lowest (stand-conditions cs (cells-of kind ts) (stood cs s)) .0
 unfolding lowest
-stand-by-condition cs ts ds w accepted right s lent room =
-    ap (λ (l : Listed × List ℕ). listed-reply (l .0) .number) (listed-by-spot cs ts ds w accepted right s lent)
+stand-by-condition kind cs ts ds w accepted right s lent room =
+    ap (λ (l : Listed × List ℕ). listed-reply (l .0) .number) (listed-by-spot kind cs ts ds w accepted right s lent)
     ∙ ap (λ (t : ℕ × ℕ). t .0)
-    (by-stand cs ts ds w s (length lent) (λ v. told (listed-reply (listed-from cs ts ds w lent v .0))) (λ r. refl) (λ spot. []) (λ x y. refl) (stood cs s)
-    ∙ ap (λ (b : Bool). lowest (stand-conditions cs ts (stood cs s) ++ (when 11 b 0 ∷ []))) (le-ltb _ _ room)
-    ∙ last-does-not-apply (stand-conditions cs ts (stood cs s)) 11 0)
+    (by-stand kind cs ts ds w s (length lent) (λ v. told (listed-reply (listed-from cs (cells-of kind ts) ds w lent v .0))) (λ r. refl) (λ spot. []) (λ x y. refl) (stood cs s)
+    ∙ ap (λ (b : Bool). lowest (stand-conditions cs (cells-of kind ts) (stood cs s) ++ (when 11 b 0 ∷ []))) (le-ltb _ _ room)
+    ∙ last-does-not-apply (stand-conditions cs (cells-of kind ts) (stood cs s)) 11 0)
 
 -- the first of three numbers that stand from a place on
 first-of-three : (l : List ℕ) (a : ℕ) {x y z : ℕ} → take 3 (drop a l) ≡ x ∷ y ∷ z ∷ [] → getD l a 0 ≡ x
@@ -92,38 +93,38 @@ first-of-three l a e =
 
 -- ---- the whole call
 
-module _ (cs : List ℤ) (ts ds : List ℕ) (w : ℕ) (stands : List Stand) (m : ℕ) (table replies : List ℕ) where
+module _ (kind : ℕ) (cs : List ℤ) (ts ds : List ℕ) (w : ℕ) (stands : List Stand) (m : ℕ) (table replies : List ℕ) where
   -- whenever the call is done: each stand's reply, counts and rows are those of the listing called alone, the counts are the sums, and beyond what
   -- was written all is as it was
-  pub together-is-single-calls : {n k : ℕ} → listed-stands cs ts ds w stands m table replies .0 ≡ L.Rows n k → SingleCalls cs ts ds w (take m stands) n k table (listed-stands cs ts ds w stands m table replies .1 .0) replies (listed-stands cs ts ds w stands m table replies .1 .1)
+  pub together-is-single-calls : {n k : ℕ} → listed-stands kind cs ts ds w stands m table replies .0 ≡ L.Rows n k → SingleCalls kind cs ts ds w (take m stands) n k table (listed-stands kind cs ts ds w stands m table replies .1 .0) replies (listed-stands kind cs ts ds w stands m table replies .1 .1)
   unfolding listed-stands
-  together-is-single-calls {n} {k} e = by-asked (asked cs ts ds w m (length table) (length replies)) refl e
+  together-is-single-calls {n} {k} e = by-asked (asked kind cs ts ds w m (length table) (length replies)) refl e
     where
       ss : List Stand
       ss = take m stands
 
-      by-asked : (c : Checked) → asked cs ts ds w m (length table) (length replies) ≡ c → stands-from cs ts ds w ss table replies c .0 ≡ L.Rows n k → SingleCalls cs ts ds w ss n k table (stands-from cs ts ds w ss table replies c .1 .0) replies (stands-from cs ts ds w ss table replies c .1 .1)
+      by-asked : (c : Checked) → asked kind cs ts ds w m (length table) (length replies) ≡ c → stands-from (single kind cs ts ds w) ss table replies c .0 ≡ L.Rows n k → SingleCalls kind cs ts ds w ss n k table (stands-from (single kind cs ts ds w) ss table replies c .1 .0) replies (stands-from (single kind cs ts ds w) ss table replies c .1 .1)
       by-asked (C.Accepted p) h answer =
-          let grant = grant-says cs ts ds w m (length table) (length replies) (record { plan = p; accepted = h }) in
-          let rows-added : n ≡ rows-in-all cs ts ds w ss = cc in
-          let crossings-added : k ≡ crossings-in-all cs ts ds w ss = cc in
+          let grant = grant-says kind cs ts ds w m (length table) (length replies) (record { plan = p; accepted = h }) in
+          let rows-added : n ≡ rows-in-all (single kind cs ts ds w) ss = cc in
+          let crossings-added : k ≡ crossings-in-all (single kind cs ts ds w) ss = cc in
           record {
             each = λ i s at lent room.
-                let rows = rows-are-the-single-ones cs ts ds w stands m table replies grant at lent room in
-                let reply = reply-is-the-single-one cs ts ds w stands m table replies grant at lent room in
+                let rows = rows-are-the-single-ones kind cs ts ds w stands m table replies grant at lent room in
+                let reply = reply-is-the-single-one kind cs ts ds w stands m table replies grant at lent room in
                 record {
                   reply = reply;
                   by-condition =
-                      first-of-three (sets replies 0 (all-replies cs ts ds w ss)) (3 * i) reply
-                      ∙ stand-by-condition cs ts ds w (grant .plan-accepted) (grant .setting-right) s lent room;
+                      first-of-three (sets replies 0 (all-replies (single kind cs ts ds w) ss)) (3 * i) reply
+                      ∙ stand-by-condition kind cs ts ds w (grant .plan-accepted) (grant .setting-right) s lent room;
                   rows = rows;
                   sighted = λ a b alone.
-                      same-sighted a (listed cs ts ds w s lent .1) (drop (3 * rows-in-all cs ts ds w (take i ss)) (sets table 0 (all-rows cs ts ds w ss))) (sym (subst (λ (l : Listed). take (3 * rows-of l) (drop (3 * rows-in-all cs ts ds w (take i ss)) (sets table 0 (all-rows cs ts ds w ss))) ≡ take (3 * rows-of l) (listed cs ts ds w s lent .1)) alone rows)) (demand-2 cs ts ds w s lent .sighted a b alone);
+                      same-sighted a (listed kind cs ts ds w s lent .1) (drop (3 * rows-in-all (single kind cs ts ds w) (take i ss)) (sets table 0 (all-rows (single kind cs ts ds w) ss))) (sym (subst (λ (l : Listed). take (3 * rows-of l) (drop (3 * rows-in-all (single kind cs ts ds w) (take i ss)) (sets table 0 (all-rows (single kind cs ts ds w) ss))) ≡ take (3 * rows-of l) (listed kind cs ts ds w s lent .1)) alone rows)) (demand-2 kind cs ts ds w s lent .sighted a b alone);
                 };
             rows-added = rows-added;
             crossings-added = crossings-added;
-            table-beyond = subst (λ (i : ℕ). drop (3 * i) (sets table 0 (all-rows cs ts ds w ss)) ≡ drop (3 * i) table) (sym rows-added) (table-is-kept-beyond cs ts ds w stands m table replies grant);
-            replies-beyond = replies-are-kept-beyond cs ts ds w stands m table replies grant;
+            table-beyond = subst (λ (i : ℕ). drop (3 * i) (sets table 0 (all-rows (single kind cs ts ds w) ss)) ≡ drop (3 * i) table) (sym rows-added) (table-is-kept-beyond kind cs ts ds w stands m table replies grant);
+            replies-beyond = replies-are-kept-beyond kind cs ts ds w stands m table replies grant;
           }
       by-asked (C.Refused r) h answer = absurd (never answer)
         where

@@ -3,9 +3,10 @@ use mathlib.Core.Bool.{Bool}
 use mathlib.Core.List.{List}
 use Prim.Native.Nat.{ℕ}
 use lib.IntN.{ℤ}
-use Rattle.plan.specs.Check.{checked}
+use Rattle.cells.specs.Check.{checked}
 use Rattle.limits.specs.Reply.{Reply, checked-reply}
 use Rattle.planfile.specs.Calls as File
+use Rattle.planfile.specs.Reply.{read-numbers}
 use Rattle.stand.specs.Find.{found}
 use Rattle.stand.specs.Reply.{found-reply}
 use Rattle.stand.specs.declared.spot.Stand.{Stand}
@@ -14,27 +15,27 @@ use Rattle.sight.specs.Reply.{listed-reply}
 use Rattle.doors.specs.Change.{changed}
 use Rattle.morning.specs.Morning.{listed-stands}
 
--- an answer and lent memory, the answer in numbers
+-- an answer and lent memory, the answer in numbers. Where a call takes the three lists of a plan, the caller says first which kind the list of cells is in
 abbrev pub in-numbers : {A M : Type 0} → (A → Reply) → A × M → Reply × M
 in-numbers reply p = (reply (p .0), p .1)
 
-abbrev pub check-replies : List ℤ → List ℕ → List ℕ → Reply
-check-replies cs ts ds = checked-reply (checked cs ts ds)
+abbrev pub check-replies : ℕ → List ℤ → List ℕ → List ℕ → Reply
+check-replies kind cs ts ds = checked-reply (checked kind cs ts ds)
 
 abbrev pub read-replies : List ℕ → List ℤ → List ℕ → List ℕ → Reply × (List ℤ × (List ℕ × List ℕ))
-read-replies file corners cells doors = in-numbers checked-reply (File.read file corners cells doors)
+read-replies file corners cells doors = in-numbers read-numbers (File.read file corners cells doors)
 
-abbrev pub write-replies : List ℤ → List ℕ → List ℕ → List ℕ → Reply × List ℕ
-write-replies cs ts ds file = in-numbers checked-reply (File.written cs ts ds file)
+abbrev pub write-replies : ℕ → List ℤ → List ℕ → List ℕ → List ℕ → Reply × List ℕ
+write-replies kind cs ts ds file = in-numbers checked-reply (File.written kind cs ts ds file)
 
-abbrev pub find-replies : List ℤ → List ℕ → List ℕ → Stand → Reply
-find-replies cs ts ds s = found-reply (found cs ts ds s)
+abbrev pub find-replies : ℕ → List ℤ → List ℕ → List ℕ → Stand → Reply
+find-replies kind cs ts ds s = found-reply (found kind cs ts ds s)
 
-abbrev pub list-replies : List ℤ → List ℕ → List ℕ → ℕ → Stand → List ℕ → Reply × List ℕ
-list-replies cs ts ds w s table = in-numbers listed-reply (listed cs ts ds w s table)
+abbrev pub list-replies : ℕ → List ℤ → List ℕ → List ℕ → ℕ → Stand → List ℕ → Reply × List ℕ
+list-replies kind cs ts ds w s table = in-numbers listed-reply (listed kind cs ts ds w s table)
 
-abbrev pub change-replies : List ℤ → List ℕ → List ℕ → ℕ → Stand → List ℕ → ℕ → Bool → List ℕ → Reply × List ℕ
-change-replies cs ts ds w s given i b table = in-numbers listed-reply (changed cs ts ds w s given i b table)
+abbrev pub change-replies : ℕ → List ℤ → List ℕ → List ℕ → ℕ → Stand → List ℕ → ℕ → Bool → List ℕ → Reply × List ℕ
+change-replies kind cs ts ds w s given i b table = in-numbers listed-reply (changed kind cs ts ds w s given i b table)
 
-abbrev pub list-stands-replies : List ℤ → List ℕ → List ℕ → ℕ → List Stand → ℕ → List ℕ → List ℕ → Reply × (List ℕ × List ℕ)
-list-stands-replies cs ts ds w stands n table replies = in-numbers listed-reply (listed-stands cs ts ds w stands n table replies)
+abbrev pub list-stands-replies : ℕ → List ℤ → List ℕ → List ℕ → ℕ → List Stand → ℕ → List ℕ → List ℕ → Reply × (List ℕ × List ℕ)
+list-stands-replies kind cs ts ds w stands n table replies = in-numbers listed-reply (listed-stands kind cs ts ds w stands n table replies)

@@ -4,8 +4,9 @@ use Prim.Native.Nat.{ℕ, _*_}
 use lib.Ieee.{Float, ofBits, binary64}
 use lib.ListN.{replicate}
 use lib.IntN.{ℤ, pos, negsuc}
-use Rattle.plan.specs.Lists.{corner-count}
-use Rattle.plan.specs.PlanQ.{corners-of-Q, cells-of-Q, doors-of-Q}
+use Rattle.cells.specs.Lists.{corner-count}
+use Rattle.cells.specs.PlanQ.{corners-of-Q, cells-of-Q, doors-of-Q}
+use Rattle.limits.specs.Limits.{triangles}
 use Rattle.limits.specs.declared.Refusal.the-variants.{Setting, Stand as NoStand, Line, Outside}
 use Rattle.stand.specs.declared.spot.Stand.{Stand}
 use Rattle.stand.specs.declared.spot.Stand.the-variants.{Point}
@@ -19,6 +20,10 @@ corners-of-Q+ x y = corners-of-Q ++ (x ∷ y ∷ [])
 
 abbrev pub cells-of-Q+ : List ℕ
 cells-of-Q+ = 0 ∷ 1 ∷ 2 ∷ 65535 ∷ 65535 ∷ 1 ∷ 0 ∷ 2 ∷ 3 ∷ 0 ∷ 2 ∷ 65535 ∷ 3 ∷ 2 ∷ 4 ∷ 1 ∷ 65535 ∷ 65535 ∷ []
+
+-- the four corners of Q as one cell of a list of kind 12: its corner count, its corners, and its neighbours, all wall
+abbrev pub square-of-Q : List ℕ
+square-of-Q = 4 ∷ 0 ∷ 1 ∷ 2 ∷ 3 ∷ 65535 ∷ 65535 ∷ 65535 ∷ 65535 ∷ []
 
 pub record Case : Type 0 where
   pub corners : List ℤ
@@ -84,7 +89,7 @@ cases =
 
 -- what the listing's definition says of a case, and what document 01 says
 abbrev pub computed : Case → Listed × List ℕ
-computed k = listed (k .corners) (k .cells) doors-of-Q (k .setting) (k .stand) (replicate (3 * corner-count (k .corners)) old)
+computed k = listed triangles (k .corners) (k .cells) doors-of-Q (k .setting) (k .stand) (replicate (3 * corner-count (k .corners)) old)
 
 abbrev pub stated : Case → Listed × List ℕ
 stated k = (k .reply, k .table)

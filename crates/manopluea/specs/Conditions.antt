@@ -9,12 +9,13 @@ use lib.ListN.{length}
 use lib.IntN.{ℤ}
 use Rattle.plane.specs.Side.{Point}
 use Rattle.limits.specs.Limits.{most-stands, sized}
-use Rattle.plan.specs.Lists.{corner-count, cell-count, face-count}
-use Rattle.plan.specs.Check.{framed, first-wrong-corner, first-wrong-cell, first-wrong-face, first-wrong-door}
+use Rattle.cells.specs.Lists.{Cells, corner-count, cell-count, face-count}
+use Rattle.cells.specs.Cut.{cells-of}
+use Rattle.cells.specs.Check.{framed, first-wrong-corner, first-wrong-cell, first-wrong-face, first-wrong-door}
 use Rattle.limits.specs.Reply.{Reply}
 use Rattle.setting.specs.Setting.{wrong-setting}
 use Rattle.records.specs.Record.{framed as framed-records}
-use Rattle.planfile.specs.File.{file-of, corners-in, cells-in, doors-in}
+use Rattle.planfile.specs.File.{file-of, kind-in, corners-in, cells-in, doors-in}
 use Rattle.planfile.specs.Calls.{has-room}
 use Rattle.stand.specs.Spot.{stood}
 use Rattle.stand.specs.Find.{first-inside, first-border}
@@ -49,21 +50,21 @@ pub record Answers {M : Type 0} (numbers : List ℕ) (conditions : List Conditio
 -- ---- the plan: check
 
 -- with whatever else is SIZE for the call
-abbrev pub plan-conditions-with : Bool → List ℤ → List ℕ → List ℕ → List Condition
-plan-conditions-with too-many cs ts ds =
-    when 1 (not (framed cs ts)) 0
-    ∷ when 2 (too-many || not (sized (corner-count cs) (cell-count ts) (length ds))) 0
+abbrev pub plan-conditions-with : Bool → ℕ → List ℤ → List ℕ → List ℕ → List Condition
+plan-conditions-with too-many kind cs ts ds =
+    when 1 (not (framed kind cs ts)) 0
+    ∷ when 2 (too-many || not (sized (corner-count cs) (cell-count (cells-of kind ts)) (length ds))) 0
     ∷ when 3 (ltb (first-wrong-corner cs) (corner-count cs)) (first-wrong-corner cs)
-    ∷ when 4 (ltb (first-wrong-cell cs ts) (cell-count ts)) (first-wrong-cell cs ts)
-    ∷ when 5 (ltb (first-wrong-face ts) (face-count ts)) (first-wrong-face ts)
-    ∷ when 6 (ltb (first-wrong-door ts ds) (length ds)) (first-wrong-door ts ds)
+    ∷ when 4 (ltb (first-wrong-cell cs (cells-of kind ts)) (cell-count (cells-of kind ts))) (first-wrong-cell cs (cells-of kind ts))
+    ∷ when 5 (ltb (first-wrong-face (cells-of kind ts)) (face-count (cells-of kind ts))) (first-wrong-face (cells-of kind ts))
+    ∷ when 6 (ltb (first-wrong-door (cells-of kind ts) ds) (length ds)) (first-wrong-door (cells-of kind ts) ds)
     ∷ []
 
-abbrev pub plan-conditions : List ℤ → List ℕ → List ℕ → List Condition
+abbrev pub plan-conditions : ℕ → List ℤ → List ℕ → List ℕ → List Condition
 plan-conditions = plan-conditions-with false
 
-abbrev pub CheckAnswers : List ℤ → List ℕ → List ℕ → Type 0
-CheckAnswers cs ts ds = Answers {M = Unit {0}} (1 ∷ 2 ∷ 3 ∷ 4 ∷ 5 ∷ 6 ∷ []) (plan-conditions cs ts ds) (check-replies cs ts ds) tt tt
+abbrev pub CheckAnswers : ℕ → List ℤ → List ℕ → List ℕ → Type 0
+CheckAnswers kind cs ts ds = Answers {M = Unit {0}} (1 ∷ 2 ∷ 3 ∷ 4 ∷ 5 ∷ 6 ∷ []) (plan-conditions kind cs ts ds) (check-replies kind cs ts ds) tt tt
 
 -- ---- the plan file: reader and writer
 
@@ -71,7 +72,7 @@ CheckAnswers cs ts ds = Answers {M = Unit {0}} (1 ∷ 2 ∷ 3 ∷ 4 ∷ 5 ∷ 6 
 abbrev pub read-conditions : List ℕ → ℕ → ℕ → ℕ → List Condition
 read-conditions s n m k =
     when 1 (not (framed-records s)) 0
-    ∷ plan-conditions (corners-in s) (cells-in s) (doors-in s)
+    ∷ plan-conditions (kind-in s) (corners-in s) (cells-in s) (doors-in s)
     ++ (when 11 (not (has-room (corners-in s) (cells-in s) (doors-in s) n m k)) 0 ∷ [])
 
 abbrev pub ReadAnswers : List ℕ → List ℤ → List ℕ → List ℕ → Type 0
@@ -79,12 +80,12 @@ ReadAnswers file corners cells doors =
     Answers (1 ∷ 1 ∷ 2 ∷ 3 ∷ 4 ∷ 5 ∷ 6 ∷ 11 ∷ []) (read-conditions file (length corners) (length cells) (length doors)) (read-replies file corners cells doors .0) (corners, (cells, doors)) (read-replies file corners cells doors .1)
 
 -- the plan; then bytes shorter than the file
-abbrev pub write-conditions : List ℤ → List ℕ → List ℕ → ℕ → List Condition
-write-conditions cs ts ds room = plan-conditions cs ts ds ++ (when 11 (not (leb (length (file-of cs ts ds)) room)) 0 ∷ [])
+abbrev pub write-conditions : ℕ → List ℤ → List ℕ → List ℕ → ℕ → List Condition
+write-conditions kind cs ts ds room = plan-conditions kind cs ts ds ++ (when 11 (not (leb (length (file-of kind cs ts ds)) room)) 0 ∷ [])
 
-abbrev pub WriteAnswers : List ℤ → List ℕ → List ℕ → List ℕ → Type 0
-WriteAnswers cs ts ds file =
-    Answers (1 ∷ 2 ∷ 3 ∷ 4 ∷ 5 ∷ 6 ∷ 11 ∷ []) (write-conditions cs ts ds (length file)) (write-replies cs ts ds file .0) file (write-replies cs ts ds file .1)
+abbrev pub WriteAnswers : ℕ → List ℤ → List ℕ → List ℕ → List ℕ → Type 0
+WriteAnswers kind cs ts ds file =
+    Answers (1 ∷ 2 ∷ 3 ∷ 4 ∷ 5 ∷ 6 ∷ 11 ∷ []) (write-conditions kind cs ts ds (length file)) (write-replies kind cs ts ds file .0) file (write-replies kind cs ts ds file .1)
 
 -- ---- the stand: finding
 
@@ -94,69 +95,69 @@ not-accepted (At x y) = false
 not-accepted Refused = true
 
 -- strictly inside some cell; on some cell's border
-abbrev pub inside-some : List ℤ → List ℕ → Point → Bool
-inside-some cs ts q = ltb (first-inside cs ts q) (cell-count ts)
+abbrev pub inside-some : List ℤ → Cells → Point → Bool
+inside-some cs T q = ltb (first-inside cs T q) (cell-count T)
 
-abbrev pub on-some-border : List ℤ → List ℕ → Point → Bool
-on-some-border cs ts q = ltb (first-border cs ts q) (cell-count ts)
+abbrev pub on-some-border : List ℤ → Cells → Point → Bool
+on-some-border cs T q = ltb (first-border cs T q) (cell-count T)
 
 -- 9: strictly inside no cell, on some cell's border
-abbrev pub on-a-line : List ℤ → List ℕ → Spot → Bool
-on-a-line cs ts (At x y) = not (inside-some cs ts (record { x = x; y = y })) && on-some-border cs ts (record { x = x; y = y })
-on-a-line cs ts Refused = false
+abbrev pub on-a-line : List ℤ → Cells → Spot → Bool
+on-a-line cs T (At x y) = not (inside-some cs T (record { x = x; y = y })) && on-some-border cs T (record { x = x; y = y })
+on-a-line cs T Refused = false
 
 -- 10: inside or on no cell
-abbrev pub off-every-cell : List ℤ → List ℕ → Spot → Bool
-off-every-cell cs ts (At x y) = not (inside-some cs ts (record { x = x; y = y })) && not (on-some-border cs ts (record { x = x; y = y }))
-off-every-cell cs ts Refused = false
+abbrev pub off-every-cell : List ℤ → Cells → Spot → Bool
+off-every-cell cs T (At x y) = not (inside-some cs T (record { x = x; y = y })) && not (on-some-border cs T (record { x = x; y = y }))
+off-every-cell cs T Refused = false
 
-abbrev pub stand-conditions : List ℤ → List ℕ → Spot → List Condition
-stand-conditions cs ts spot =
-    when 8 (not-accepted spot) 0 ∷ when 9 (on-a-line cs ts spot) 0 ∷ when 10 (off-every-cell cs ts spot) 0 ∷ []
+abbrev pub stand-conditions : List ℤ → Cells → Spot → List Condition
+stand-conditions cs T spot =
+    when 8 (not-accepted spot) 0 ∷ when 9 (on-a-line cs T spot) 0 ∷ when 10 (off-every-cell cs T spot) 0 ∷ []
 
-abbrev pub find-conditions : List ℤ → List ℕ → List ℕ → Stand → List Condition
-find-conditions cs ts ds s = plan-conditions cs ts ds ++ stand-conditions cs ts (stood cs s)
+abbrev pub find-conditions : ℕ → List ℤ → List ℕ → List ℕ → Stand → List Condition
+find-conditions kind cs ts ds s = plan-conditions kind cs ts ds ++ stand-conditions cs (cells-of kind ts) (stood cs s)
 
-abbrev pub FindAnswers : List ℤ → List ℕ → List ℕ → Stand → Type 0
-FindAnswers cs ts ds s =
-    Answers {M = Unit {0}} (1 ∷ 2 ∷ 3 ∷ 4 ∷ 5 ∷ 6 ∷ 8 ∷ 9 ∷ 10 ∷ []) (find-conditions cs ts ds s) (find-replies cs ts ds s) tt tt
+abbrev pub FindAnswers : ℕ → List ℤ → List ℕ → List ℕ → Stand → Type 0
+FindAnswers kind cs ts ds s =
+    Answers {M = Unit {0}} (1 ∷ 2 ∷ 3 ∷ 4 ∷ 5 ∷ 6 ∷ 8 ∷ 9 ∷ 10 ∷ []) (find-conditions kind cs ts ds s) (find-replies kind cs ts ds s) tt tt
 
 -- ---- listing and door change
 
 -- a bit at or above the door count; the stand; a table shorter than 3·corners numbers
-abbrev pub list-conditions : List ℤ → List ℕ → List ℕ → ℕ → Stand → ℕ → List Condition
-list-conditions cs ts ds w s room =
-    plan-conditions cs ts ds
-    ++ (when 7 (wrong-setting w (length ds)) 0 ∷ stand-conditions cs ts (stood cs s))
+abbrev pub list-conditions : ℕ → List ℤ → List ℕ → List ℕ → ℕ → Stand → ℕ → List Condition
+list-conditions kind cs ts ds w s room =
+    plan-conditions kind cs ts ds
+    ++ (when 7 (wrong-setting w (length ds)) 0 ∷ stand-conditions cs (cells-of kind ts) (stood cs s))
     ++ (when 11 (ltb room (3 * corner-count cs)) 0 ∷ [])
 
-abbrev pub ListAnswers : List ℤ → List ℕ → List ℕ → ℕ → Stand → List ℕ → Type 0
-ListAnswers cs ts ds w s table =
-    Answers (1 ∷ 2 ∷ 3 ∷ 4 ∷ 5 ∷ 6 ∷ 7 ∷ 8 ∷ 9 ∷ 10 ∷ 11 ∷ []) (list-conditions cs ts ds w s (length table)) (list-replies cs ts ds w s table .0) table (list-replies cs ts ds w s table .1)
+abbrev pub ListAnswers : ℕ → List ℤ → List ℕ → List ℕ → ℕ → Stand → List ℕ → Type 0
+ListAnswers kind cs ts ds w s table =
+    Answers (1 ∷ 2 ∷ 3 ∷ 4 ∷ 5 ∷ 6 ∷ 7 ∷ 8 ∷ 9 ∷ 10 ∷ 11 ∷ []) (list-conditions kind cs ts ds w s (length table)) (list-replies kind cs ts ds w s table .0) table (list-replies kind cs ts ds w s table .1)
 
 -- the true list under the setting, from a stand in its cell
-abbrev pub true-numbers : List ℤ → List ℕ → List ℕ → ℕ → Spot → List ℕ
-true-numbers cs ts ds w (At x y) = listing-numbers cs ts ds w (record { x = x; y = y }) (first-inside cs ts (record { x = x; y = y }))
-true-numbers cs ts ds w Refused = []
+abbrev pub true-numbers : List ℤ → Cells → List ℕ → ℕ → Spot → List ℕ
+true-numbers cs T ds w (At x y) = listing-numbers cs T ds w (record { x = x; y = y }) (first-inside cs T (record { x = x; y = y }))
+true-numbers cs T ds w Refused = []
 
 -- no such door, or already in that state; the given list differs from the true one
-abbrev pub change-conditions : List ℤ → List ℕ → List ℕ → ℕ → Stand → List ℕ → ℕ → Bool → ℕ → List Condition
-change-conditions cs ts ds w s given i b room =
-    list-conditions cs ts ds w s room
-    ++ (when 12 (no-change ds w i b) 0 ∷ when 13 (not (same-list given (true-numbers cs ts ds w (stood cs s)))) 0 ∷ [])
+abbrev pub change-conditions : ℕ → List ℤ → List ℕ → List ℕ → ℕ → Stand → List ℕ → ℕ → Bool → ℕ → List Condition
+change-conditions kind cs ts ds w s given i b room =
+    list-conditions kind cs ts ds w s room
+    ++ (when 12 (no-change ds w i b) 0 ∷ when 13 (not (same-list given (true-numbers cs (cells-of kind ts) ds w (stood cs s)))) 0 ∷ [])
 
-abbrev pub ChangeAnswers : List ℤ → List ℕ → List ℕ → ℕ → Stand → List ℕ → ℕ → Bool → List ℕ → Type 0
-ChangeAnswers cs ts ds w s given i b table =
-    Answers (1 ∷ 2 ∷ 3 ∷ 4 ∷ 5 ∷ 6 ∷ 7 ∷ 8 ∷ 9 ∷ 10 ∷ 11 ∷ 12 ∷ 13 ∷ []) (change-conditions cs ts ds w s given i b (length table)) (change-replies cs ts ds w s given i b table .0) table (change-replies cs ts ds w s given i b table .1)
+abbrev pub ChangeAnswers : ℕ → List ℤ → List ℕ → List ℕ → ℕ → Stand → List ℕ → ℕ → Bool → List ℕ → Type 0
+ChangeAnswers kind cs ts ds w s given i b table =
+    Answers (1 ∷ 2 ∷ 3 ∷ 4 ∷ 5 ∷ 6 ∷ 7 ∷ 8 ∷ 9 ∷ 10 ∷ 11 ∷ 12 ∷ 13 ∷ []) (change-conditions kind cs ts ds w s given i b (length table)) (change-replies kind cs ts ds w s given i b table .0) table (change-replies kind cs ts ds w s given i b table .1)
 
 -- ---- a morning's stands together (document 02, A1)
 
 -- SIZE also for more than 32 stands; no stand is looked at; a table below 3·corners·stands numbers, or fewer than 3·stands places for the replies
-abbrev pub list-stands-conditions : List ℤ → List ℕ → List ℕ → ℕ → ℕ → ℕ → ℕ → List Condition
-list-stands-conditions cs ts ds w n room places =
-    plan-conditions-with (ltb most-stands n) cs ts ds
+abbrev pub list-stands-conditions : ℕ → List ℤ → List ℕ → List ℕ → ℕ → ℕ → ℕ → ℕ → List Condition
+list-stands-conditions kind cs ts ds w n room places =
+    plan-conditions-with (ltb most-stands n) kind cs ts ds
     ++ (when 7 (wrong-setting w (length ds)) 0 ∷ when 11 (no-room (corner-count cs) n room places) 0 ∷ [])
 
-abbrev pub ListStandsAnswers : List ℤ → List ℕ → List ℕ → ℕ → List Stand → ℕ → List ℕ → List ℕ → Type 0
-ListStandsAnswers cs ts ds w stands n table replies =
-    Answers (1 ∷ 2 ∷ 3 ∷ 4 ∷ 5 ∷ 6 ∷ 7 ∷ 11 ∷ []) (list-stands-conditions cs ts ds w n (length table) (length replies)) (list-stands-replies cs ts ds w stands n table replies .0) (table, replies) (list-stands-replies cs ts ds w stands n table replies .1)
+abbrev pub ListStandsAnswers : ℕ → List ℤ → List ℕ → List ℕ → ℕ → List Stand → ℕ → List ℕ → List ℕ → Type 0
+ListStandsAnswers kind cs ts ds w stands n table replies =
+    Answers (1 ∷ 2 ∷ 3 ∷ 4 ∷ 5 ∷ 6 ∷ 7 ∷ 11 ∷ []) (list-stands-conditions kind cs ts ds w n (length table) (length replies)) (list-stands-replies kind cs ts ds w stands n table replies .0) (table, replies) (list-stands-replies kind cs ts ds w stands n table replies .1)

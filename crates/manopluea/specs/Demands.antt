@@ -3,12 +3,13 @@
 use mathlib.Core.Bool.{Bool, true, false}
 use mathlib.Core.List.{List, map}
 use mathlib.Core.Path.{_≡_}
-use Prim.Native.Nat.{ℕ, _+_, _*_, _<_}
+use Prim.Native.Nat.{ℕ, _*_, _<_}
 use lib.ListN.{getD, take, drop}
 use lib.IntN.{ℤ}
 use Rattle.plane.specs.Side.{Point}
 use Rattle.plane.specs.Cone.{Meets, Direction}
-use Rattle.plan.specs.Lists.{corner-count, start, back}
+use Rattle.cells.specs.Lists.{Cells, corner-count, first, back}
+use Rattle.cells.specs.Cut.{cells-of}
 use Rattle.limits.specs.Reply.{number, place}
 use Rattle.limits.specs.declared.Refusal.{Refusal}
 use Rattle.limits.specs.declared.Refusal.the-variants.{Rows as Untrue}
@@ -16,47 +17,46 @@ use Rattle.stand.specs.Spot.{stood}
 use Rattle.stand.specs.Find.{located}
 use Rattle.stand.specs.declared.spot.Stand.{Stand}
 use Rattle.stand.specs.declared.spot.Spot.the-variants.{At}
-use Rattle.stand.specs.declared.find.Found.the-variants.{Cell}
-use Rattle.expand.specs.Sight.{Row}
-use Rattle.sight.specs.Walk.{RowHolds, WalkEnds}
-use Rattle.sight.specs.Written.{OneRow}
-use Rattle.sight.specs.Listing.{plan-floor, seen, finish, listing-numbers, listing-row-count, listing-crossings, listed}
+use Rattle.stand.specs.declared.locate.Found.the-variants.{Cell}
+use Rattle.fan.specs.Sight.{Row}
+use Rattle.fan.specs.Walk.{RowHolds, WalkEnds}
+use Rattle.fan.specs.Written.{OneRow}
+use Rattle.sight.specs.Listing.{plan-floor, seen, sight-from, listing-numbers, listing-row-count, listing-crossings, listed}
 use Rattle.sight.specs.declared.list.Listed.{Listed}
 use Rattle.sight.specs.declared.list.Listed.the-variants.{Rows, Refused}
-use Rattle.doors.specs.Route.{Routed, routed, row-numbers}
-use Rattle.doors.specs.Door.{on-door, untouched, those}
-use Rattle.doors.specs.Shutting.{runs, door-row}
-use Rattle.doors.specs.PlanFloor.{sight-from}
+use Rattle.runs.specs.Route.{Routed, routed, row-numbers}
+use Rattle.runs.specs.Door.{on-door, untouched, those}
+use Rattle.runs.specs.Shutting.{runs, door-row}
 use Rattle.doors.specs.Change.{no-change, wished}
 use Rattle.manopluea.specs.Conditions.{CheckAnswers, ReadAnswers, WriteAnswers, FindAnswers, ListAnswers, ChangeAnswers, ListStandsAnswers}
 
 -- ---- demand 1
 
 pub record Demand-1 : Type 0 where
-  pub check : (cs : List ℤ) (ts ds : List ℕ) → CheckAnswers cs ts ds
+  pub check : (kind : ℕ) (cs : List ℤ) (ts ds : List ℕ) → CheckAnswers kind cs ts ds
   pub read : (file : List ℕ) (corners : List ℤ) (cells doors : List ℕ) → ReadAnswers file corners cells doors
-  pub write : (cs : List ℤ) (ts ds file : List ℕ) → WriteAnswers cs ts ds file
-  pub find : (cs : List ℤ) (ts ds : List ℕ) (s : Stand) → FindAnswers cs ts ds s
-  pub list : (cs : List ℤ) (ts ds : List ℕ) (w : ℕ) (s : Stand) (table : List ℕ) → ListAnswers cs ts ds w s table
-  pub change : (cs : List ℤ) (ts ds : List ℕ) (w : ℕ) (s : Stand) (given : List ℕ) (i : ℕ) (b : Bool) (table : List ℕ) → ChangeAnswers cs ts ds w s given i b table
-  pub list-stands : (cs : List ℤ) (ts ds : List ℕ) (w : ℕ) (stands : List Stand) (n : ℕ) (table replies : List ℕ) → ListStandsAnswers cs ts ds w stands n table replies
+  pub write : (kind : ℕ) (cs : List ℤ) (ts ds file : List ℕ) → WriteAnswers kind cs ts ds file
+  pub find : (kind : ℕ) (cs : List ℤ) (ts ds : List ℕ) (s : Stand) → FindAnswers kind cs ts ds s
+  pub list : (kind : ℕ) (cs : List ℤ) (ts ds : List ℕ) (w : ℕ) (s : Stand) (table : List ℕ) → ListAnswers kind cs ts ds w s table
+  pub change : (kind : ℕ) (cs : List ℤ) (ts ds : List ℕ) (w : ℕ) (s : Stand) (given : List ℕ) (i : ℕ) (b : Bool) (table : List ℕ) → ChangeAnswers kind cs ts ds w s given i b table
+  pub list-stands : (kind : ℕ) (cs : List ℤ) (ts ds : List ℕ) (w : ℕ) (stands : List Stand) (n : ℕ) (table replies : List ℕ) → ListStandsAnswers kind cs ts ds w stands n table replies
   -- different refusals have different numbers, or the same number at different places
   pub apart : (r s : Refusal) → number r ≡ number s → place r ≡ place s → r ≡ s
 
 -- ---- demand 2
 
-module _ (cs : List ℤ) (ts ds : List ℕ) (w : ℕ) (q : Point) (c : ℕ) where
+module _ (cs : List ℤ) (T : Cells) (ds : List ℕ) (w : ℕ) (q : Point) (c : ℕ) where
   -- the whole ray of direction d from q, q itself not counted, meets no corner of the plan
   abbrev pub MeetsNoCorner : Point → Type 0
   MeetsNoCorner d = (k : ℕ) → k < corner-count cs → ¬ Meets d (seen cs q k)
 
   -- the row holds d strictly between its limits
   abbrev pub HoldsDirection : Point → Row → Type 0
-  HoldsDirection d r = RowHolds (plan-floor cs ts ds w q) (seen cs q) (start ts) (finish ts) d r
+  HoldsDirection d r = RowHolds (plan-floor cs T ds w q) (seen cs q) d r
 
   -- the walk for d from cell c ends at this face
   abbrev pub WalkEndsAt : Point → ℕ → Type 0
-  WalkEndsAt d f = WalkEnds (plan-floor cs ts ds w q) (seen cs q) (start ts) (finish ts) d (3 * c) (3 * c + 1) (3 * c + 2) f
+  WalkEndsAt d f = WalkEnds (plan-floor cs T ds w q) (seen cs q) d (first T c) f
 
   -- exactly one of the first n rows of the table holds d, and its face is where the walk ends
   pub record HeldOnce (n : ℕ) (table : List ℕ) (d : Point) : Type 0 where
@@ -64,20 +64,20 @@ module _ (cs : List ℤ) (ts ds : List ℕ) (w : ℕ) (q : Point) (c : ℕ) wher
     pub one : OneRow (HoldsDirection d) table n row
     pub met : WalkEndsAt d (row .face)
 
-module _ (cs : List ℤ) (ts ds : List ℕ) (w : ℕ) (s : Stand) where
+module _ (kind : ℕ) (cs : List ℤ) (ts ds : List ℕ) (w : ℕ) (s : Stand) where
   -- n rows of a table and k crossings, seen from the very point that the stand is, in the cell that is found for it
   pub record Sighted (n k : ℕ) (table : List ℕ) : Type 0 where
     pub x : ℤ
     pub y : ℤ
     pub the-stand : stood cs s ≡ At x y
     pub cell : ℕ
-    pub its-cell : located cs ts (record { x = x; y = y }) ≡ Cell cell
-    -- rows, order and crossings are those of the published triangular expansion
-    pub expanded : take (3 * n) table ≡ listing-numbers cs ts ds w (record { x = x; y = y }) cell
-    pub counted : n ≡ listing-row-count cs ts ds w (record { x = x; y = y }) cell
-    pub crossed : k ≡ listing-crossings cs ts ds w (record { x = x; y = y }) cell
+    pub its-cell : located cs (cells-of kind ts) (record { x = x; y = y }) ≡ Cell cell
+    -- rows, order and crossings are those of the published expansion
+    pub expanded : take (3 * n) table ≡ listing-numbers cs (cells-of kind ts) ds w (record { x = x; y = y }) cell
+    pub counted : n ≡ listing-row-count cs (cells-of kind ts) ds w (record { x = x; y = y }) cell
+    pub crossed : k ≡ listing-crossings cs (cells-of kind ts) ds w (record { x = x; y = y }) cell
     -- every direction whose ray meets no corner is held by exactly one row, whose wall is the first met walking cell by cell
-    pub held : (d : Point) → Direction d → MeetsNoCorner cs ts ds w (record { x = x; y = y }) cell d → HeldOnce cs ts ds w (record { x = x; y = y }) cell n table d
+    pub held : (d : Point) → Direction d → MeetsNoCorner cs (cells-of kind ts) ds w (record { x = x; y = y }) cell d → HeldOnce cs (cells-of kind ts) ds w (record { x = x; y = y }) cell n table d
 
   -- whenever the answer is n rows, they are so, and beyond them the table is as it was
   pub record Demand-2 (before : List ℕ) (answer : Listed) (after : List ℕ) : Type 0 where
@@ -95,13 +95,13 @@ abbrev pub once-shut : {A : Type 0} → Bool → A → A → A
 once-shut true old new = new
 once-shut false old new = old
 
-module _ (cs : List ℤ) (ts ds : List ℕ) (w : ℕ) (s : Stand) (given : List ℕ) (i : ℕ) (b : Bool) where
+module _ (kind : ℕ) (cs : List ℤ) (ts ds : List ℕ) (w : ℕ) (s : Stand) (given : List ℕ) (i : ℕ) (b : Bool) where
   -- the door's two faces
   abbrev pub face : ℕ
   face = getD ds i 0
 
   abbrev pub other-face : ℕ
-  other-face = back ts (getD ds i 0)
+  other-face = back (cells-of kind ts) (getD ds i 0)
 
   -- the given list and the first n rows of a table, as rows with their routes: rows that the door does not touch stand in both, in order, and each run
   -- through the open door is one row on the shut door
@@ -117,15 +117,15 @@ module _ (cs : List ℤ) (ts ds : List ℕ) (w : ℕ) (s : Stand) (given : List 
     pub y : ℤ
     pub the-stand : stood cs s ≡ At x y
     pub cell : ℕ
-    pub its-cell : located cs ts (record { x = x; y = y }) ≡ Cell cell
-    pub old-seen : old ≡ routed (sight-from cs ts ds w (record { x = x; y = y }) cell)
-    pub new-seen : new ≡ routed (sight-from cs ts ds (wished b w i) (record { x = x; y = y }) cell)
+    pub its-cell : located cs (cells-of kind ts) (record { x = x; y = y }) ≡ Cell cell
+    pub old-seen : old ≡ routed (sight-from cs (cells-of kind ts) ds w (record { x = x; y = y }) cell)
+    pub new-seen : new ≡ routed (sight-from cs (cells-of kind ts) ds (wished b w i) (record { x = x; y = y }) cell)
 
   pub record Demand-3 (before : List ℕ) (answer : Listed) (after : List ℕ) : Type 0 where
     -- whenever the answer is rows, answer and table are those of a fresh listing under the new setting
-    pub fresh : (n k : ℕ) → answer ≡ Rows n k → (answer, after) ≡ listed cs ts ds (wished b w i) s before
+    pub fresh : (n k : ℕ) → answer ≡ Rows n k → (answer, after) ≡ listed kind cs ts ds (wished b w i) s before
     pub run-by-run : (n k : ℕ) → answer ≡ Rows n k → RunByRun n after
     -- and so it is from every true list of a door that is not yet so
-    pub from-the-true-list : (n k : ℕ) (t : List ℕ) → listed cs ts ds w s before ≡ (Rows n k, t) → no-change ds w i b ≡ false → given ≡ take (3 * n) t → (answer, after) ≡ listed cs ts ds (wished b w i) s before
+    pub from-the-true-list : (n k : ℕ) (t : List ℕ) → listed kind cs ts ds w s before ≡ (Rows n k, t) → no-change ds w i b ≡ false → given ≡ take (3 * n) t → (answer, after) ≡ listed kind cs ts ds (wished b w i) s before
     -- while a given list that is not the true one is 13, and the table is as it was
-    pub from-another-list : (n k : ℕ) (t : List ℕ) → listed cs ts ds w s before ≡ (Rows n k, t) → no-change ds w i b ≡ false → (given ≡ take (3 * n) t → ⊥) → _≡_ {A = Listed × List ℕ} (answer, after) (Refused Untrue, before)
+    pub from-another-list : (n k : ℕ) (t : List ℕ) → listed kind cs ts ds w s before ≡ (Rows n k, t) → no-change ds w i b ≡ false → (given ≡ take (3 * n) t → ⊥) → _≡_ {A = Listed × List ℕ} (answer, after) (Refused Untrue, before)

@@ -1,7 +1,9 @@
 // Manopluea: the public calls, and all that a client needs to read (document 01).
 //
-// A plan is three lists of whole numbers: corners x, y, x, y, .. in millimetres; cells of three corner numbers and three neighbours (65535 is wall);
-// doors, a face number each. Face = 3·cell + side. In a door setting bit i is one while door i is shut.
+// A plan is three lists of whole numbers: corners x, y, x, y, .. in millimetres; cells; doors, a face number each. The list of cells is of kind 2, cells of
+// three corner numbers and three neighbours (65535 is wall), or of kind 12, in which each cell of 3 to 8 corners has its corner count before it (document
+// 02, A14): the caller says which. Faces are numbered in the order of the list: the sides of the first cell, then those of the second, and so on; for
+// kind 2 that is 3·cell + side. In a door setting bit i is one while door i is shut.
 //
 // Every call takes every input and has no `requires`. Its promise is one equation, said twice: the answer, with what stands in the lent memory at exit,
 // is a definition of the input and of what stood there at entry; and so are document 01's reply number, place and values (`checked-reply`,
@@ -9,73 +11,92 @@
 // 0, what lies beyond what was written does. The lowest number that applies is the reply. docs/PROMISES.md says what determines each part,
 // docs/THEOREMS.md what is proved of the definitions, the three demands first (proofs/Demands.antt).
 ghost use mathlib.Core.Path.{_≡_};
-ghost use Rattle.plan.specs.Check.{checked};
+ghost use Rattle.cells.specs.Check.{checked};
 ghost use Rattle.planfile.specs.Calls.{written, read as Calls·read};
 ghost use Rattle.stand.specs.Find.{found};
 ghost use Rattle.sight.specs.Listing.{listed};
 ghost use Rattle.doors.specs.Change.{changed};
 ghost use Rattle.morning.specs.Morning.{listed-stands};
 ghost use Rattle.limits.specs.Reply.{checked-reply};
+ghost use Rattle.planfile.specs.Reply.{read-numbers};
 ghost use Rattle.stand.specs.Reply.{found-reply};
 ghost use Rattle.sight.specs.Reply.{listed-reply};
 ghost use Rattle.manopluea.specs.Calls.{check-replies, read-replies, write-replies, find-replies, list-replies, change-replies, list-stands-replies};
-pub use plan::Checked;
-pub use plan::Plan;
-pub use plan::Refusal;
+pub use limits::Checked;
+pub use limits::Plan;
+pub use limits::Refusal;
+pub use planfile::ReadPlan;
 pub use sight::list::Listed;
-pub use stand::find::Found;
+pub use stand::locate::Found;
 pub use stand::spot::Stand;
+
+// What a call is told beside its lists: so far which kind the list of cells is in, 2 or 12; every other number is FRAME. Later requests add to it.
+pub struct Terms {
+    pub kind: u16,
+}
 
 // The plan check. Accepted with the counts of corners, cells and doors; else FRAME, SIZE, CORNER, CELL, NEIGHBOUR or DOOR,
 // the lowest number that applies, at its least place.
-pub fn check(corners: &[i32], cells: &[u16], doors: &[u16]) -> Checked
-    ensures answer { λ r. ⌜ r ≡ checked (now (corners .entry)) (now (cells .entry)) (now (doors .entry)) ⌝ }
-    ensures numbers { λ r. ⌜ checked-reply r ≡ check-replies (now (corners .entry)) (now (cells .entry)) (now (doors .entry)) ⌝ }
+pub fn check(corners: &[i32], cells: &[u16], doors: &[u16], terms: Terms) -> Checked
+    ensures answer { λ r. ⌜ r ≡ checked (terms .kind) (now (corners .entry)) (now (cells .entry)) (now (doors .entry)) ⌝ }
+    ensures numbers { λ r. ⌜ checked-reply r ≡ check-replies (terms .kind) (now (corners .entry)) (now (cells .entry)) (now (doors .entry)) ⌝ }
 {
-    plan::check(corners, cells, doors)
+    let kind = terms.kind;
+    checking::check(corners, cells, doors, kind)
 }
 
-// The reader: the three lists of a plan file go into the lent lists, from their beginning. Accepted with the counts; else 1 to 6 as the check has
-// them, or ROOM where any list is shorter than its numbers.
-pub fn read(file: &[u8], corners: &mut [i32], cells: &mut [u16], doors: &mut [u16]) -> Checked
+// The reader: the three lists of a plan file go into the lent lists, from their beginning. Accepted with the counts, which kind the list of cells is in,
+// and how many numbers that list has; else 1 to 6 as the check has them, or ROOM where any list is shorter than its numbers.
+pub fn read(file: &[u8], corners: &mut [i32], cells: &mut [u16], doors: &mut [u16]) -> ReadPlan
     ensures answer { λ r. ⌜ (r, (now (corners .exit), (now (cells .exit), now (doors .exit)))) ≡ Calls·read (now (file .entry)) (now (corners .entry)) (now (cells .entry)) (now (doors .entry)) ⌝ }
-    ensures numbers { λ r. ⌜ (checked-reply r, (now (corners .exit), (now (cells .exit), now (doors .exit)))) ≡ read-replies (now (file .entry)) (now (corners .entry)) (now (cells .entry)) (now (doors .entry)) ⌝ }
+    ensures numbers { λ r. ⌜ (read-numbers r, (now (corners .exit), (now (cells .exit), now (doors .exit)))) ≡ read-replies (now (file .entry)) (now (corners .entry)) (now (cells .entry)) (now (doors .entry)) ⌝ }
 {
     planfile::read(file, corners, cells, doors)
 }
 
-// The writer: the one file of three lists goes into the lent bytes, from their beginning. Accepted with the counts; else 1 to 6 as the check has
-// them, or ROOM where the bytes are shorter than the file. Reading what was written returns the lists, writing what was read the same bytes.
-pub fn write(corners: &[i32], cells: &[u16], doors: &[u16], file: &mut [u8]) -> Checked
-    ensures answer { λ r. ⌜ (r, now (file .exit)) ≡ written (now (corners .entry)) (now (cells .entry)) (now (doors .entry)) (now (file .entry)) ⌝ }
-    ensures numbers { λ r. ⌜ (checked-reply r, now (file .exit)) ≡ write-replies (now (corners .entry)) (now (cells .entry)) (now (doors .entry)) (now (file .entry)) ⌝ }
+// The writer: the one file of three lists, its cells in a record of the kind told, goes into the lent bytes, from their beginning. Accepted with the
+// counts; else 1 to 6 as the check has them, or ROOM where the bytes are shorter than the file. Reading what was written returns the lists and their kind,
+// writing what was read the same bytes.
+pub fn write(
+    corners: &[i32],
+    cells: &[u16],
+    doors: &[u16],
+    terms: Terms,
+    file: &mut [u8],
+) -> Checked
+    ensures answer { λ r. ⌜ (r, now (file .exit)) ≡ written (terms .kind) (now (corners .entry)) (now (cells .entry)) (now (doors .entry)) (now (file .entry)) ⌝ }
+    ensures numbers { λ r. ⌜ (checked-reply r, now (file .exit)) ≡ write-replies (terms .kind) (now (corners .entry)) (now (cells .entry)) (now (doors .entry)) (now (file .entry)) ⌝ }
 {
-    planfile::write(corners, cells, doors, file)
+    let kind = terms.kind;
+    planfile::write(corners, cells, doors, kind, file)
 }
 
 // The stand's cell: the least-numbered cell that holds it strictly inside. Else 1 to 6 as the check has them, STAND where a number or corner is not
 // accepted, LINE where the stand is strictly inside no cell but on some cell's border, OUTSIDE where it is inside or on none.
-pub fn find(corners: &[i32], cells: &[u16], doors: &[u16], stand: Stand) -> Found
-    ensures answer { λ r. ⌜ r ≡ found (now (corners .entry)) (now (cells .entry)) (now (doors .entry)) stand ⌝ }
-    ensures numbers { λ r. ⌜ found-reply r ≡ find-replies (now (corners .entry)) (now (cells .entry)) (now (doors .entry)) stand ⌝ }
+pub fn find(corners: &[i32], cells: &[u16], doors: &[u16], terms: Terms, stand: Stand) -> Found
+    ensures answer { λ r. ⌜ r ≡ found (terms .kind) (now (corners .entry)) (now (cells .entry)) (now (doors .entry)) stand ⌝ }
+    ensures numbers { λ r. ⌜ found-reply r ≡ find-replies (terms .kind) (now (corners .entry)) (now (cells .entry)) (now (doors .entry)) stand ⌝ }
 {
-    stand::find::find(corners, cells, doors, stand)
+    let kind = terms.kind;
+    find::find(corners, cells, doors, kind, stand)
 }
 
 // The listing: the walls seen from a stand under a door setting, three numbers a row (face on the side seen, right limit, left limit), in the order of
-// the triangular expansion. Replies row count and crossings; else 1 to 6, SETTING, STAND, LINE, OUTSIDE, or ROOM for a table below 3·corners numbers.
+// the expansion. Replies row count and crossings; else 1 to 6, SETTING, STAND, LINE, OUTSIDE, or ROOM for a table below 3·corners numbers.
 pub fn list(
     corners: &[i32],
     cells: &[u16],
     doors: &[u16],
+    terms: Terms,
     setting: u64,
     stand: Stand,
     table: &mut [u16],
 ) -> Listed
-    ensures answer { λ r. ⌜ (r, now (table .exit)) ≡ listed (now (corners .entry)) (now (cells .entry)) (now (doors .entry)) setting stand (now (table .entry)) ⌝ }
-    ensures numbers { λ r. ⌜ (listed-reply r, now (table .exit)) ≡ list-replies (now (corners .entry)) (now (cells .entry)) (now (doors .entry)) setting stand (now (table .entry)) ⌝ }
+    ensures answer { λ r. ⌜ (r, now (table .exit)) ≡ listed (terms .kind) (now (corners .entry)) (now (cells .entry)) (now (doors .entry)) setting stand (now (table .entry)) ⌝ }
+    ensures numbers { λ r. ⌜ (listed-reply r, now (table .exit)) ≡ list-replies (terms .kind) (now (corners .entry)) (now (cells .entry)) (now (doors .entry)) setting stand (now (table .entry)) ⌝ }
 {
-    sight::list::list(corners, cells, doors, setting, stand, table)
+    let kind = terms.kind;
+    sight::list::list(corners, cells, doors, kind, setting, stand, table)
 }
 
 // The door change: from the true list under the old setting, the list and crossings with one door shut or opened. Refuses as the listing does;
@@ -84,6 +105,7 @@ pub fn change(
     corners: &[i32],
     cells: &[u16],
     doors: &[u16],
+    terms: Terms,
     setting: u64,
     stand: Stand,
     given: &[u16],
@@ -91,13 +113,15 @@ pub fn change(
     shut: bool,
     table: &mut [u16],
 ) -> Listed
-    ensures answer { λ r. ⌜ (r, now (table .exit)) ≡ changed (now (corners .entry)) (now (cells .entry)) (now (doors .entry)) setting stand (now (given .entry)) door shut (now (table .entry)) ⌝ }
-    ensures numbers { λ r. ⌜ (listed-reply r, now (table .exit)) ≡ change-replies (now (corners .entry)) (now (cells .entry)) (now (doors .entry)) setting stand (now (given .entry)) door shut (now (table .entry)) ⌝ }
+    ensures answer { λ r. ⌜ (r, now (table .exit)) ≡ changed (terms .kind) (now (corners .entry)) (now (cells .entry)) (now (doors .entry)) setting stand (now (given .entry)) door shut (now (table .entry)) ⌝ }
+    ensures numbers { λ r. ⌜ (listed-reply r, now (table .exit)) ≡ change-replies (terms .kind) (now (corners .entry)) (now (cells .entry)) (now (doors .entry)) setting stand (now (given .entry)) door shut (now (table .entry)) ⌝ }
 {
+    let kind = terms.kind;
     doors::change(
         corners,
         cells,
         doors,
+        kind,
         setting,
         stand,
         given,
@@ -115,19 +139,22 @@ pub fn list_stands(
     corners: &[i32],
     cells: &[u16],
     doors: &[u16],
+    terms: Terms,
     setting: u64,
     stands: [Stand; Plan::MOST_STANDS],
     count: usize,
     table: &mut [u16],
     replies: &mut [u64],
 ) -> Listed
-    ensures answer { λ r. ⌜ (r, (now (table .exit), now (replies .exit))) ≡ listed-stands (now (corners .entry)) (now (cells .entry)) (now (doors .entry)) setting stands count (now (table .entry)) (now (replies .entry)) ⌝ }
-    ensures numbers { λ r. ⌜ (listed-reply r, (now (table .exit), now (replies .exit))) ≡ list-stands-replies (now (corners .entry)) (now (cells .entry)) (now (doors .entry)) setting stands count (now (table .entry)) (now (replies .entry)) ⌝ }
+    ensures answer { λ r. ⌜ (r, (now (table .exit), now (replies .exit))) ≡ listed-stands (terms .kind) (now (corners .entry)) (now (cells .entry)) (now (doors .entry)) setting stands count (now (table .entry)) (now (replies .entry)) ⌝ }
+    ensures numbers { λ r. ⌜ (listed-reply r, (now (table .exit), now (replies .exit))) ≡ list-stands-replies (terms .kind) (now (corners .entry)) (now (cells .entry)) (now (doors .entry)) setting stands count (now (table .entry)) (now (replies .entry)) ⌝ }
 {
+    let kind = terms.kind;
     morning::list_stands(
         corners,
         cells,
         doors,
+        kind,
         setting,
         stands,
         count,

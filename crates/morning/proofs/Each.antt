@@ -6,21 +6,19 @@ use native.Mathlib.Nat.{add-zero, mul-suc, mul-add, mul-assoc, mul-le-mul, le-tr
 use native.Mathlib.Omega.{arith}
 use borrow.Rule.Slice.PartAt.{part-to-end}
 use borrow.Rule.Slice.PartMut.{putMid}
-use lib.ListN.{length, getD, take, drop, replicate, length-append, length-drop, length-replicate}
+use lib.ListN.{length, getD, take, drop, length-append, length-drop}
 use lib.Seq.{sets, length-sets, length-take-le, take-suc}
 use lib.IntN.{ℤ}
 use Rattle.exact.proofs.Lent.{sets-append, part-put-back}
 use Rattle.limits.specs.Limits.{most-corners, most-cells}
-use Rattle.plan.specs.Lists.{corner-count}
-use Rattle.plan.proofs.Plans.{counts}
+use Rattle.cells.specs.Lists.{Cells, corner-count}
+use Rattle.cells.specs.Sound.{Sound}
+use Rattle.cells.proofs.Plans.{counts}
 use Rattle.stand.specs.declared.spot.Stand.{Stand}
-use Rattle.lines.specs.Lined.{Lined}
-use Rattle.sight.specs.Listing.{listed}
 use Rattle.sight.specs.declared.list.Listed.{Listed}
-use Rattle.morning.specs.Morning.{rows-of, crossings-of, three-of, rows-in, one-after-another, in-all, single, rows-in-all, crossings-in-all, all-rows, all-replies}
-use Rattle.morning.specs.OverLines.{over-lines}
-use Rattle.grant.proofs.Grants.{Grant}
-use Rattle.morning.proofs.Single.{AsSingle, listed-as-single, over-lines-is-listed}
+use Rattle.morning.specs.Morning.{rows-of, crossings-of, three-of, rows-in, one-after-another, in-all, rows-in-all, crossings-in-all, all-rows, all-replies}
+use Rattle.morning.specs.OverLines.{listed-on, single-on, RoomFor}
+use Rattle.morning.proofs.Single.{Small, AsSingle, listed-on-as-single, single-on-is-small}
 
 -- ---- one after another, and in all
 
@@ -66,25 +64,20 @@ unfolding in-all
 one-each [] = refl
 one-each (s ∷ ss) = omega (arith, one-each ss)
 
-module _ (cs : List ℤ) (ts ds : List ℕ) (w : ℕ) {n room places : ℕ} (grant : Grant cs ts ds w n room places) where
-  -- with a table that has room for 3·corners numbers every stand is listed as alone
-  alone : (s : Stand) (t : List ℕ) → 3 * corner-count cs ≤ length t → AsSingle cs t (single cs ts ds w s) (listed cs ts ds w s t)
-  alone = listed-as-single cs ts ds w (grant .plan-accepted) (grant .setting-right)
+-- ---- small listings
 
-  itself : (s : Stand) → AsSingle cs (replicate (3 * corner-count cs) 0) (single cs ts ds w s) (listed cs ts ds w s (replicate (3 * corner-count cs) 0))
-  itself s = alone s (replicate (3 * corner-count cs) 0) (omega (arith, length-replicate {A = ℕ} (3 * corner-count cs) 0))
+module _ {cs : List ℤ} {listing : Stand → Listed × List ℕ} (small : (s : Stand) → Small cs (listing s)) where
+  pub few-rows-in-all : (ss : List Stand) → rows-in-all listing ss ≤ corner-count cs * length ss
+  few-rows-in-all = at-most-each (λ s. rows-of (listing s .0)) (corner-count cs) (λ s. small s .few-rows)
 
-  pub few-rows-in-all : (ss : List Stand) → rows-in-all cs ts ds w ss ≤ corner-count cs * length ss
-  few-rows-in-all = at-most-each (λ s. rows-of (single cs ts ds w s .0)) (corner-count cs) (λ s. itself s .few-rows)
+  pub few-crossings-in-all : (ss : List Stand) → crossings-in-all listing ss ≤ most-corners * most-cells * length ss
+  few-crossings-in-all = at-most-each (λ s. crossings-of (listing s .0)) (most-corners * most-cells) (λ s. small s .few-crossings)
 
-  pub few-crossings-in-all : (ss : List Stand) → crossings-in-all cs ts ds w ss ≤ most-corners * most-cells * length ss
-  few-crossings-in-all = at-most-each (λ s. crossings-of (single cs ts ds w s .0)) (most-corners * most-cells) (λ s. itself s .few-crossings)
+  pub rows-are-three-numbers : (ss : List Stand) → length (all-rows listing ss) ≡ 3 * rows-in-all listing ss
+  rows-are-three-numbers = long-in-all (λ s. rows-in (listing s)) (λ s. rows-of (listing s .0)) 3 (λ s. small s .three-a-row)
 
-  pub rows-are-three-numbers : (ss : List Stand) → length (all-rows cs ts ds w ss) ≡ 3 * rows-in-all cs ts ds w ss
-  rows-are-three-numbers = long-in-all (λ s. rows-in (single cs ts ds w s)) (λ s. rows-of (single cs ts ds w s .0)) 3 (λ s. itself s .three-a-row)
-
-  pub replies-are-three-numbers : (ss : List Stand) → length (all-replies cs ts ds w ss) ≡ 3 * length ss
-  replies-are-three-numbers ss = long-in-all (λ s. three-of (single cs ts ds w s .0)) (λ s. 1) 3 (λ s. refl) ss ∙ ap (λ (n : ℕ). 3 * n) (one-each ss)
+pub replies-are-three-numbers : (listing : Stand → Listed × List ℕ) (ss : List Stand) → length (all-replies listing ss) ≡ 3 * length ss
+replies-are-three-numbers listing ss = long-in-all (λ s. three-of (listing s .0)) (λ s. 1) 3 (λ s. refl) ss ∙ ap (λ (n : ℕ). 3 * n) (one-each ss)
 
 -- before stand i: few rows and crossings yet, and room for its own
 pub record Next (cs : List ℤ) (i rows crossings : ℕ) (table replies : List ℕ) : Type 0 where
@@ -93,107 +86,118 @@ pub record Next (cs : List ℤ) (i rows crossings : ℕ) (table replies : List �
   pub room-left : 3 * rows + 3 * corner-count cs ≤ length table
   pub places-left : 3 * i + 3 ≤ length replies
 
-module _ (cs : List ℤ) (ts ds : List ℕ) (w : ℕ) (stands : List Stand) where
+module _ (listing : Stand → Listed × List ℕ) (stands : List Stand) where
   -- rows, crossings, table and replies after the first i stands
   pub record SoFar (i rows crossings : ℕ) (table₀ table replies₀ replies : List ℕ) : Type 0 where
-    pub rows-are : rows ≡ rows-in-all cs ts ds w (take i stands)
-    pub crossings-are : crossings ≡ crossings-in-all cs ts ds w (take i stands)
-    pub table-is : table ≡ sets table₀ 0 (all-rows cs ts ds w (take i stands))
-    pub replies-are : replies ≡ sets replies₀ 0 (all-replies cs ts ds w (take i stands))
+    pub rows-are : rows ≡ rows-in-all listing (take i stands)
+    pub crossings-are : crossings ≡ crossings-in-all listing (take i stands)
+    pub table-is : table ≡ sets table₀ 0 (all-rows listing (take i stands))
+    pub replies-are : replies ≡ sets replies₀ 0 (all-replies listing (take i stands))
 
   pub none-yet : (table replies : List ℕ) → SoFar 0 0 0 table table replies replies
   unfolding one-after-another in-all
   none-yet table replies = record { rows-are = refl; crossings-are = refl; table-is = refl; replies-are = refl }
 
-  module _ {i rows crossings : ℕ} {table₀ table replies₀ replies : List ℕ} (so : SoFar i rows crossings table₀ table replies₀ replies) where
-    pub table-keeps-its-length : length table ≡ length table₀
-    table-keeps-its-length = ap length (so .table-is) ∙ length-sets table₀ 0 (all-rows cs ts ds w (take i stands))
+module _ {listing : Stand → Listed × List ℕ} {stands : List Stand} {i rows crossings : ℕ} {table₀ table replies₀ replies : List ℕ} (so : SoFar listing stands i rows crossings table₀ table replies₀ replies) where
+  pub table-keeps-its-length : length table ≡ length table₀
+  table-keeps-its-length = ap length (so .table-is) ∙ length-sets table₀ 0 (all-rows listing (take i stands))
 
-    pub replies-keep-their-length : length replies ≡ length replies₀
-    replies-keep-their-length = ap length (so .replies-are) ∙ length-sets replies₀ 0 (all-replies cs ts ds w (take i stands))
+  pub replies-keep-their-length : length replies ≡ length replies₀
+  replies-keep-their-length = ap length (so .replies-are) ∙ length-sets replies₀ 0 (all-replies listing (take i stands))
 
-    abbrev Listed-to : ℕ → Type 0
-    Listed-to n =
-        (rows ≡ rows-in-all cs ts ds w (take n stands))
-        × ((crossings ≡ crossings-in-all cs ts ds w (take n stands))
-        × ((table ≡ sets table₀ 0 (all-rows cs ts ds w (take n stands))) × (replies ≡ sets replies₀ 0 (all-replies cs ts ds w (take n stands)))))
+  abbrev Listed-to : ℕ → Type 0
+  Listed-to n =
+      (rows ≡ rows-in-all listing (take n stands))
+      × ((crossings ≡ crossings-in-all listing (take n stands))
+      × ((table ≡ sets table₀ 0 (all-rows listing (take n stands))) × (replies ≡ sets replies₀ 0 (all-replies listing (take n stands)))))
 
-    pub all-listed : (n : ℕ) → i ≡ n → Listed-to n
-    all-listed n e = subst Listed-to e (so .rows-are, (so .crossings-are, (so .table-is, so .replies-are)))
+  pub all-listed : (n : ℕ) → i ≡ n → Listed-to n
+  all-listed n e = subst Listed-to e (so .rows-are, (so .crossings-are, (so .table-is, so .replies-are)))
 
-  module _ {n room places : ℕ} (grant : Grant cs ts ds w n room places) (i : ℕ) (below : i < n) (in-array : n ≤ length stands) {rows crossings : ℕ} {table₀ table replies₀ replies : List ℕ} (long : length table₀ ≡ room) (wide : length replies₀ ≡ places) (so : SoFar i rows crossings table₀ table replies₀ replies) where
+-- ---- on an accepted plan: room for n stands is room for stand i
+
+module _ {cs : List ℤ} {T : Cells} {ds : List ℕ} (sound : Sound cs T ds) (w : ℕ) where
+  abbrev listing : Stand → Listed × List ℕ
+  listing = single-on cs T ds w
+
+  small : (s : Stand) → Small cs (listing s)
+  small = single-on-is-small sound w
+
+  few-corners : corner-count cs ≤ most-corners
+  few-corners = counts _ _ _ (sound .in-size) .corners-at-most
+
+  module _ {stands : List Stand} {i rows crossings : ℕ} {table₀ table replies₀ replies : List ℕ} (so : SoFar listing stands i rows crossings table₀ table replies₀ replies) {n : ℕ} (enough : RoomFor n cs (length table₀) (length replies₀)) (below : i < n) (in-array : n ≤ length stands) where
     taken : length (take i stands) ≡ i
     taken = length-take-le i stands (omega arith)
 
     pub next : Next cs i rows crossings table replies
     next =
-        let all-rows-fit = few-rows-in-all cs ts ds w grant (take i stands) in
-        let all-crossings-fit = few-crossings-in-all cs ts ds w grant (take i stands) in
+        let all-rows-fit = few-rows-in-all small (take i stands) in
+        let all-crossings-fit = few-crossings-in-all small (take i stands) in
         let rows-so : rows ≤ corner-count cs * i = subst (λ (k : ℕ). rows ≤ corner-count cs * k) taken (omega (arith, so .rows-are)) in
-        let same : length table ≡ room = table-keeps-its-length so ∙ long in
-        let same-places : length replies ≡ places = replies-keep-their-length so ∙ wide in
         let stands-fit : corner-count cs * suc i ≤ corner-count cs * n = mul-le-mul (omega arith) below in
-        let room-for-all : 3 * (corner-count cs * n) ≤ room = subst (λ (k : ℕ). k ≤ room) (mul-assoc 3 (corner-count cs) n) (grant .table-long) in
+        let room-for-all : 3 * (corner-count cs * n) ≤ length table₀ = subst (λ (k : ℕ). k ≤ length table₀) (mul-assoc 3 (corner-count cs) n) (enough .table-long) in
         record {
-          few-rows = le-trans rows-so (mul-le-mul (counts _ _ _ (grant .sound .in-size) .corners-at-most) (le-refl i));
+          few-rows = le-trans rows-so (mul-le-mul few-corners (le-refl i));
           few-crossings = subst (λ (k : ℕ). crossings ≤ most-corners * most-cells * k) taken (omega (arith, so .crossings-are));
-          room-left = omega (arith, mul-suc (corner-count cs) i);
-          places-left = omega (arith, grant .replies-long);
+          room-left = omega (arith, mul-suc (corner-count cs) i, table-keeps-its-length so);
+          places-left = omega (arith, enough .replies-long, replies-keep-their-length so);
         }
 
+    -- the table that is left to it
+    abbrev part : List ℕ
+    part = take (length table - 3 * rows) (drop (3 * rows) table)
+
+    part-has-room : 3 * corner-count cs ≤ length part
+    part-has-room = omega (arith, ap length (part-to-end table (3 * rows)), length-drop (3 * rows) table, next .room-left)
+
     -- after it
-    module _ (d : Stand) {ls : List ℕ} (lined : Lined ts ds w ls) where
+    module _ (d : Stand) where
       abbrev stand : Stand
       stand = getD stands i d
 
-      abbrev part : List ℕ
-      part = take (length table - 3 * rows) (drop (3 * rows) table)
+      abbrev here : Listed × List ℕ
+      here = listed-on cs T ds w stand part
+
+      one : AsSingle cs part (listing stand) here
+      one = listed-on-as-single sound w stand part part-has-room
 
       one-more-taken : take (i + 1) stands ≡ take i stands ++ (stand ∷ [])
       one-more-taken =
           let after : i + 1 ≡ suc i = omega arith in
           ap (λ (k : ℕ). take k stands) after ∙ take-suc stands i d (omega arith)
 
-      as-single : AsSingle cs part (single cs ts ds w stand) (over-lines cs ts ls stand part)
-      as-single =
-          let same : over-lines cs ts ls stand part ≡ listed cs ts ds w stand part = over-lines-is-listed cs ts ds w (grant .plan-accepted) (grant .setting-right) stand lined part in
-          let fits : 3 * corner-count cs ≤ length part = omega (arith, ap length (part-to-end table (3 * rows)), length-drop (3 * rows) table, next .room-left) in
-          subst (AsSingle cs part (single cs ts ds w stand)) (sym same) (alone cs ts ds w grant stand part fits)
-
-      pub few-here : {m k : ℕ} → m ≡ rows-of (over-lines cs ts ls stand part .0) → k ≡ crossings-of (over-lines cs ts ls stand part .0) → (m ≤ most-corners) × (k ≤ most-corners * most-cells)
+      pub few-here : {m k : ℕ} → m ≡ rows-of (here .0) → k ≡ crossings-of (here .0) → (m ≤ most-corners) × (k ≤ most-corners * most-cells)
       few-here {m} {k} e f =
-          let m-is : m ≡ rows-of (single cs ts ds w stand .0) = e ∙ ap rows-of (as-single .same-answer) in
-          let k-is : k ≡ crossings-of (single cs ts ds w stand .0) = f ∙ ap crossings-of (as-single .same-answer) in (
-            omega (arith, m-is, as-single .few-rows, counts _ _ _ (grant .sound .in-size) .corners-at-most),
-            omega (arith, k-is, as-single .few-crossings),
-          )
+          let m-is : m ≡ rows-of (listing stand .0) = e ∙ ap rows-of (one .same-answer) in
+          let k-is : k ≡ crossings-of (listing stand .0) = f ∙ ap crossings-of (one .same-answer) in
+          (omega (arith, m-is, one .small .few-rows, few-corners), omega (arith, k-is, one .small .few-crossings))
 
-      pub one-more : {m k : ℕ} {new new-replies : List ℕ} → (m ≡ rows-of (over-lines cs ts ls stand part .0)) × ((k ≡ crossings-of (over-lines cs ts ls stand part .0)) × ((new ≡ over-lines cs ts ls stand part .1) × (new-replies ≡ sets replies (3 * i) (three-of (over-lines cs ts ls stand part .0))))) → SoFar (i + 1) (rows + m) (crossings + k) table₀ (putMid (3 * rows) (length table - 3 * rows) table new) replies₀ new-replies
+      pub one-more : {m k : ℕ} {new new-replies : List ℕ} → (m ≡ rows-of (here .0)) × ((k ≡ crossings-of (here .0)) × ((new ≡ here .1) × (new-replies ≡ sets replies (3 * i) (three-of (here .0))))) → SoFar listing stands (i + 1) (rows + m) (crossings + k) table₀ (putMid (3 * rows) (length table - 3 * rows) table new) replies₀ new-replies
       one-more {m} {k} {new} {new-replies} h =
-          let one = as-single in
           let ss = take i stands in
-          let rows-here : 0 + length (all-rows cs ts ds w ss) ≡ 3 * rows = omega (arith, rows-are-three-numbers cs ts ds w grant ss, so .rows-are) in
-          let places-here : 0 + length (all-replies cs ts ds w ss) ≡ 3 * i = omega (arith, replies-are-three-numbers cs ts ds w grant ss, taken) in
-          let m-is : m ≡ rows-of (single cs ts ds w stand .0) = h .0 ∙ ap rows-of (one .same-answer) in
-          let k-is : k ≡ crossings-of (single cs ts ds w stand .0) = h .1 .0 ∙ ap crossings-of (one .same-answer) in
+          let rows-here : 0 + length (all-rows listing ss) ≡ 3 * rows = omega (arith, rows-are-three-numbers small ss, so .rows-are) in
+          let places-here : 0 + length (all-replies listing ss) ≡ 3 * i = omega (arith, replies-are-three-numbers listing ss, taken) in
+          let m-is : m ≡ rows-of (listing stand .0) = h .0 ∙ ap rows-of (one .same-answer) in
+          let k-is : k ≡ crossings-of (listing stand .0) = h .1 .0 ∙ ap crossings-of (one .same-answer) in
           record {
             rows-are =
-                omega (arith, so .rows-are, m-is, with-the-last (λ s. rows-of (single cs ts ds w s .0)) ss stand)
-                ∙ ap (rows-in-all cs ts ds w) (sym one-more-taken);
+                omega (arith, so .rows-are, m-is, with-the-last (λ s. rows-of (listing s .0)) ss stand)
+                ∙ ap (rows-in-all listing) (sym one-more-taken);
             crossings-are =
-                omega (arith, so .crossings-are, k-is, with-the-last (λ s. crossings-of (single cs ts ds w s .0)) ss stand)
-                ∙ ap (crossings-in-all cs ts ds w) (sym one-more-taken);
+                omega (arith, so .crossings-are, k-is, with-the-last (λ s. crossings-of (listing s .0)) ss stand)
+                ∙ ap (crossings-in-all listing) (sym one-more-taken);
             table-is =
-                part-put-back table (rows-in (single cs ts ds w stand)) (3 * rows) (omega (arith, next .room-left)) (h .1 .1 .0 ∙ one .same-rows)
-                ∙ ap (λ (t : List ℕ). sets t (3 * rows) (rows-in (single cs ts ds w stand))) (so .table-is)
-                ∙ ap (λ (a : ℕ). sets (sets table₀ 0 (all-rows cs ts ds w ss)) a (rows-in (single cs ts ds w stand))) (sym rows-here)
-                ∙ sets-append table₀ 0 (all-rows cs ts ds w ss) (rows-in (single cs ts ds w stand))
-                ∙ ap (sets table₀ 0) (sym (and-the-last (λ s. rows-in (single cs ts ds w s)) ss stand) ∙ ap (all-rows cs ts ds w) (sym one-more-taken));
+                part-put-back table (rows-in (listing stand)) (3 * rows) (omega (arith, next .room-left)) (h .1 .1 .0 ∙ one .same-rows)
+                ∙ ap (λ (t : List ℕ). sets t (3 * rows) (rows-in (listing stand))) (so .table-is)
+                ∙ ap (λ (a : ℕ). sets (sets table₀ 0 (all-rows listing ss)) a (rows-in (listing stand))) (sym rows-here)
+                ∙ sets-append table₀ 0 (all-rows listing ss) (rows-in (listing stand))
+                ∙ ap (sets table₀ 0) (sym (and-the-last (λ s. rows-in (listing s)) ss stand) ∙ ap (all-rows listing) (sym one-more-taken));
             replies-are =
                 h .1 .1 .1
                 ∙ ap (λ (a : Listed). sets replies (3 * i) (three-of a)) (one .same-answer)
-                ∙ ap (λ (t : List ℕ). sets t (3 * i) (three-of (single cs ts ds w stand .0))) (so .replies-are)
-                ∙ ap (λ (a : ℕ). sets (sets replies₀ 0 (all-replies cs ts ds w ss)) a (three-of (single cs ts ds w stand .0))) (sym places-here)
-                ∙ sets-append replies₀ 0 (all-replies cs ts ds w ss) (three-of (single cs ts ds w stand .0))
-                ∙ ap (sets replies₀ 0) (sym (and-the-last (λ s. three-of (single cs ts ds w s .0)) ss stand) ∙ ap (all-replies cs ts ds w) (sym one-more-taken));
+                ∙ ap (λ (t : List ℕ). sets t (3 * i) (three-of (listing stand .0))) (so .replies-are)
+                ∙ ap (λ (a : ℕ). sets (sets replies₀ 0 (all-replies listing ss)) a (three-of (listing stand .0))) (sym places-here)
+                ∙ sets-append replies₀ 0 (all-replies listing ss) (three-of (listing stand .0))
+                ∙ ap (sets replies₀ 0) (sym (and-the-last (λ s. three-of (listing s .0)) ss stand) ∙ ap (all-replies listing) (sym one-more-taken));
           }

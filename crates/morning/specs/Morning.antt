@@ -6,7 +6,7 @@ use lib.Seq.{sets}
 use lib.IntN.{ℤ}
 use Rattle.limits.specs.declared.Checked.{Checked}
 use Rattle.limits.specs.declared.Checked.the-variants as C
-use Rattle.plan.specs.Lists.{corner-count}
+use Rattle.cells.specs.Lists.{corner-count}
 use Rattle.grant.specs.Asked.{asked}
 use Rattle.stand.specs.declared.spot.Stand.{Stand}
 use Rattle.sight.specs.Listing.{listed}
@@ -38,34 +38,33 @@ unfoldable pub in-all : (Stand → ℕ) → List Stand → ℕ
 in-all f [] = 0
 in-all f (s ∷ ss) = f s + in-all f ss
 
-module _ (cs : List ℤ) (ts ds : List ℕ) (w : ℕ) where
-  -- the single listing of a stand, with a table of 3·corners numbers
-  unfoldable pub single : Stand → Listed × List ℕ
-  single s = listed cs ts ds w s (replicate (3 * corner-count cs) 0)
+-- of listings of each stand: rows and crossings of all stands
+abbrev pub rows-in-all : (Stand → Listed × List ℕ) → List Stand → ℕ
+rows-in-all listing = in-all (λ s. rows-of (listing s .0))
 
-  -- rows and crossings of all stands
-  abbrev pub rows-in-all : List Stand → ℕ
-  rows-in-all = in-all (λ s. rows-of (single s .0))
+abbrev pub crossings-in-all : (Stand → Listed × List ℕ) → List Stand → ℕ
+crossings-in-all listing = in-all (λ s. crossings-of (listing s .0))
 
-  abbrev pub crossings-in-all : List Stand → ℕ
-  crossings-in-all = in-all (λ s. crossings-of (single s .0))
+-- the rows of all stands, and three numbers a stand
+abbrev pub all-rows : (Stand → Listed × List ℕ) → List Stand → List ℕ
+all-rows listing = one-after-another (λ s. rows-in (listing s))
 
-  -- the rows of all stands, and three numbers a stand
-  abbrev pub all-rows : List Stand → List ℕ
-  all-rows = one-after-another (λ s. rows-in (single s))
+abbrev pub all-replies : (Stand → Listed × List ℕ) → List Stand → List ℕ
+all-replies listing = one-after-another (λ s. three-of (listing s .0))
 
-  abbrev pub all-replies : List Stand → List ℕ
-  all-replies = one-after-another (λ s. three-of (single s .0))
+-- the single listing of a stand, with a table of 3·corners numbers; the cells are in a list of kind k
+unfoldable pub single : ℕ → List ℤ → List ℕ → List ℕ → ℕ → Stand → Listed × List ℕ
+single k cs ts ds w s = listed k cs ts ds w s (replicate (3 * corner-count cs) 0)
 
 -- the answer, the table and the replies at exit: on a refusal they keep their contents, and beyond the numbers written they keep their values
-abbrev pub stands-from : List ℤ → List ℕ → List ℕ → ℕ → List Stand → List ℕ → List ℕ → Checked → Listed × (List ℕ × List ℕ)
-stands-from cs ts ds w ss table replies (C.Accepted p) = (
-  L.Rows (rows-in-all cs ts ds w ss) (crossings-in-all cs ts ds w ss),
-  (sets table 0 (all-rows cs ts ds w ss), sets replies 0 (all-replies cs ts ds w ss)),
+abbrev pub stands-from : (Stand → Listed × List ℕ) → List Stand → List ℕ → List ℕ → Checked → Listed × (List ℕ × List ℕ)
+stands-from listing ss table replies (C.Accepted p) = (
+  L.Rows (rows-in-all listing ss) (crossings-in-all listing ss),
+  (sets table 0 (all-rows listing ss), sets replies 0 (all-replies listing ss)),
 )
-stands-from cs ts ds w ss table replies (C.Refused r) = (L.Refused r, (table, replies))
+stands-from listing ss table replies (C.Refused r) = (L.Refused r, (table, replies))
 
 -- the first n of the stands
-unfoldable pub listed-stands : List ℤ → List ℕ → List ℕ → ℕ → List Stand → ℕ → List ℕ → List ℕ → Listed × (List ℕ × List ℕ)
-listed-stands cs ts ds w stands n table replies =
-    stands-from cs ts ds w (take n stands) table replies (asked cs ts ds w n (length table) (length replies))
+unfoldable pub listed-stands : ℕ → List ℤ → List ℕ → List ℕ → ℕ → List Stand → ℕ → List ℕ → List ℕ → Listed × (List ℕ × List ℕ)
+listed-stands k cs ts ds w stands n table replies =
+    stands-from (single k cs ts ds w) (take n stands) table replies (asked k cs ts ds w n (length table) (length replies))

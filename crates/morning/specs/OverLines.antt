@@ -1,34 +1,38 @@
--- One stand's listing over the drawn lines of a plan: the table of lines stands for its doors and setting.
+-- What the call comes to on a plan and under a setting that are accepted: each stand's listing over the drawn lines, and room for all.
 use mathlib.Core.List.{List}
-use Prim.Native.Nat.{ℕ, _-_}
-use lib.ListN.{length}
-use lib.Seq.{sets}
+use Prim.Native.Nat.{ℕ, _*_, _≤_}
+use lib.ListN.{length, replicate}
 use lib.IntN.{ℤ}
-use Rattle.plan.specs.Lists.{cell-count}
-use Rattle.plan.specs.Sound.{Sound}
+use Rattle.limits.specs.Limits.{most-stands}
+use Rattle.cells.specs.Lists.{Cells, corner-count}
+use Rattle.cells.specs.Sound.{Sound}
 use Rattle.stand.specs.Spot.{stood}
 use Rattle.stand.specs.declared.spot.Stand.{Stand}
-use Rattle.expand.specs.Sight.{numbers, row-count, crossings}
 use Rattle.lines.specs.Lined.{Lined}
-use Rattle.sight.specs.CellTree.{cell-tree}
-use Rattle.sight.specs.Listing.{view-of-spot}
-use Rattle.sight.specs.declared.view.View.{View}
-use Rattle.sight.specs.declared.view.View.the-variants as O
+use Rattle.sight.specs.Listing.{view-of-spot, listed-from}
 use Rattle.sight.specs.declared.list.Listed.{Listed}
-use Rattle.sight.specs.declared.list.Listed.the-variants as L
 
--- the lines of an accepted plan under some setting
-pub record Drawn (cs : List ℤ) (ts ls : List ℕ) : Type 0 where
+-- the doors and the setting of lines that are drawn of an accepted plan
+pub record Drawn (cs : List ℤ) (T : Cells) (ls : List ℕ) : Type 0 where
   pub doors : List ℕ
   pub setting : ℕ
-  pub sound : Sound cs ts doors
-  pub lined : Lined ts doors setting ls
+  pub sound : Sound cs T doors
+  pub lined : Lined T doors setting ls
 
-abbrev pub over-lines-from : List ℤ → List ℕ → List ℕ → List ℕ → View → Listed × List ℕ
-over-lines-from cs ts ls table (O.From x y c) =
-    let seen = cell-tree cs ls (record { x = x; y = y }) (cell-count ts - 1) c in
-    (L.Rows (row-count seen) (crossings seen), sets table 0 (numbers seen))
-over-lines-from cs ts ls table (O.Refused r) = (L.Refused r, table)
+-- the listing of a stand on a plan and under a setting that are accepted: what is left to ask is the stand and the table
+unfoldable pub listed-on : List ℤ → Cells → List ℕ → ℕ → Stand → List ℕ → Listed × List ℕ
+listed-on cs T ds w s table = listed-from cs T ds w table (view-of-spot cs T (length table) (stood cs s))
 
-unfoldable pub over-lines : List ℤ → List ℕ → List ℕ → Stand → List ℕ → Listed × List ℕ
-over-lines cs ts ls s table = over-lines-from cs ts ls table (view-of-spot cs ts (length table) (stood cs s))
+-- with a table of 3·corners numbers
+unfoldable pub single-on : List ℤ → Cells → List ℕ → ℕ → Stand → Listed × List ℕ
+single-on cs T ds w s = listed-on cs T ds w s (replicate (3 * corner-count cs) 0)
+
+-- over the lines drawn
+abbrev pub over-lines : {cs : List ℤ} {T : Cells} {ls : List ℕ} → Drawn cs T ls → Stand → List ℕ → Listed × List ℕ
+over-lines {cs} {T} d s table = listed-on cs T (d .doors) (d .setting) s table
+
+-- n stands are not too many, and each has room in a table of so many numbers and in so many places for the replies
+pub record RoomFor (n : ℕ) (cs : List ℤ) (room places : ℕ) : Type 0 where
+  pub few-stands : n ≤ most-stands
+  pub table-long : 3 * corner-count cs * n ≤ room
+  pub replies-long : 3 * n ≤ places

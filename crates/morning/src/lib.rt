@@ -1,21 +1,31 @@
 // A morning's stands together (document 02, A1): the plan is checked once and its lines are drawn once; then each stand is found and its walls are listed.
-ghost use Prim.Native.Nat.{_+_, _*_, _≤_};
+ghost use Prim.Native.Nat.{suc, _+_, _*_, _<_, _≤_};
+ghost use mathlib.Core.Bool.{true};
 ghost use mathlib.Core.List.{[], _∷_};
 ghost use mathlib.Core.Path.{_≡_};
 ghost use lib.ListN.{length, take};
 ghost use lib.Seq.{sets};
-ghost use Rattle.limits.specs.Limits.{most-cells};
-ghost use Rattle.grant.specs.Asked.{Granted};
-ghost use Rattle.morning.specs.OverLines.{Drawn, over-lines};
+ghost use Rattle.limits.specs.Limits.{most-corners, most-cells, most-stands, sized};
+ghost use Rattle.cells.specs.Lists.{tabled, corner-count, cell-count, face-count};
+ghost use Rattle.cells.specs.Cut.{cells-of};
+ghost use Rattle.cells.specs.Check.{framed};
+ghost use Rattle.cells.specs.Backed.{Backed};
+ghost use Rattle.cells.specs.Sound.{Sound};
+ghost use Rattle.checking.specs.Sizes.{sizes-of};
+ghost use Rattle.checking.specs.declared.Sizes.the-variants.{Of};
+ghost use Rattle.morning.specs.OverLines.{Drawn, over-lines, single-on, RoomFor};
 ghost use Rattle.morning.specs.Morning.{rows-of, crossings-of, three-of, rows-in-all, crossings-in-all, all-rows, all-replies, listed-stands};
+use checking::Sizes;
 use expand::Counts;
-use grant::asked;
+use grant::asked_in;
+use grant::measure_for;
+use limits::Checked;
+use limits::Plan;
 use limits::reply;
 use lines::lines_of;
-use plan::Checked;
-use plan::Plan;
 use sight::list::Listed;
-use sight::list::sides;
+use sight::list::list_over;
+use sight::seen::see;
 use sight::view::View;
 use sight::view::view_of_stand;
 use stand::spot::Stand;
@@ -31,24 +41,27 @@ fn put(replies: &mut [u64], at: usize, number: u64, rows: u64, crossings: u64)
 }
 
 // One stand, over the lines drawn: its rows go to the beginning of the table, its reply to the replies from `at` on. A refused stand has counts 0 and
-// writes no row.
+// writes no row. The corners are seen from each stand anew, in the room lent.
 fn list_stand(
     corners: &[i32],
-    cells: &[u16],
+    faces: &[u16],
+    firsts: &[u16],
     lines: &[u16],
     stand: Stand,
     table: &mut [u16],
     replies: &mut [u64],
     at: usize,
+    seen: &mut [i32],
 ) -> Counts
-    requires { ⌜ Drawn (now corners) (now cells) (now lines) ⌝ }
+    requires { ⌜ Drawn (now corners) (tabled (now faces) (now firsts)) (now lines) ⌝ }
     requires { ⌜ at + 3 ≤ length (now replies) ⌝ }
-    ensures { λ r. ⌜ r .rows ≡ rows-of (over-lines (now (corners .entry)) (now (cells .entry)) (now (lines .entry)) stand (now (table .entry)) .0) ⌝ }
-    ensures { λ r. ⌜ r .crossings ≡ crossings-of (over-lines (now (corners .entry)) (now (cells .entry)) (now (lines .entry)) stand (now (table .entry)) .0) ⌝ }
-    ensures { λ _. ⌜ now (table .exit) ≡ over-lines (now (corners .entry)) (now (cells .entry)) (now (lines .entry)) stand (now (table .entry)) .1 ⌝ }
-    ensures { λ _. ⌜ now (replies .exit) ≡ sets (now (replies .entry)) at (three-of (over-lines (now (corners .entry)) (now (cells .entry)) (now (lines .entry)) stand (now (table .entry)) .0)) ⌝ }
+    requires { ⌜ length (now seen) ≡ length (now corners) ⌝ }
+    ensures { λ r. ⌜ ((d : Drawn (now (corners .entry)) (tabled (now (faces .entry)) (now (firsts .entry))) (now (lines .entry))) → r .rows ≡ rows-of (over-lines d stand (now (table .entry)) .0)) ⌝ }
+    ensures { λ r. ⌜ ((d : Drawn (now (corners .entry)) (tabled (now (faces .entry)) (now (firsts .entry))) (now (lines .entry))) → r .crossings ≡ crossings-of (over-lines d stand (now (table .entry)) .0)) ⌝ }
+    ensures { λ _. ⌜ ((d : Drawn (now (corners .entry)) (tabled (now (faces .entry)) (now (firsts .entry))) (now (lines .entry))) → now (table .exit) ≡ over-lines d stand (now (table .entry)) .1) ⌝ }
+    ensures { λ _. ⌜ ((d : Drawn (now (corners .entry)) (tabled (now (faces .entry)) (now (firsts .entry))) (now (lines .entry))) → now (replies .exit) ≡ sets (now (replies .entry)) at (three-of (over-lines d stand (now (table .entry)) .0))) ⌝ }
 {
-    match view_of_stand(corners, cells, stand, table.len()) {
+    match view_of_stand(corners, faces, firsts, stand, table.len()) {
         View::Refused(r) => {
             put(replies, at, reply::number(r), 0, 0);
             Counts {
@@ -57,37 +70,38 @@ fn list_stand(
             }
         }
         View::From(x, y, c) => {
-            let m = cells.len() / 6;
-            let counts = sides(corners, lines, [x, y], table, c, m - 1);
+            see(corners, [x, y], seen);
+            let counts = list_over(seen, lines, faces, firsts, table, c);
             put(replies, at, 0, counts.rows as u64, counts.crossings as u64);
             counts
         }
     }
 }
 
-// Draws the lines of the plan in the room lent, and lists the stands one after another.
+// Draws the lines of an accepted plan in the room lent, and lists the stands one after another.
 fn list_each(
     corners: &[i32],
-    cells: &[u16],
+    faces: &[u16],
+    firsts: &[u16],
+    backs: &[u16],
     doors: &[u16],
     setting: u64,
     stands: [Stand; Plan::MOST_STANDS],
     count: usize,
     table: &mut [u16],
     replies: &mut [u64],
-    room: &mut [u16],
+    lines: &mut [u16],
+    seen: &mut [i32],
 ) -> Counts
-    requires { ⌜ Granted (now corners) (now cells) (now doors) setting count (length (now table)) (length (now replies)) ⌝ }
-    requires { ⌜ length (now room) ≡ 6 * most-cells ⌝ }
-    ensures { λ r. ⌜ r .rows ≡ rows-in-all (now (corners .entry)) (now (cells .entry)) (now (doors .entry)) setting (take count stands) ⌝ }
-    ensures { λ r. ⌜ r .crossings ≡ crossings-in-all (now (corners .entry)) (now (cells .entry)) (now (doors .entry)) setting (take count stands) ⌝ }
-    ensures { λ _. ⌜ now (table .exit) ≡ sets (now (table .entry)) 0 (all-rows (now (corners .entry)) (now (cells .entry)) (now (doors .entry)) setting (take count stands)) ⌝ }
-    ensures { λ _. ⌜ now (replies .exit) ≡ sets (now (replies .entry)) 0 (all-replies (now (corners .entry)) (now (cells .entry)) (now (doors .entry)) setting (take count stands)) ⌝ }
+    requires { ⌜ Sound (now corners) (tabled (now faces) (now firsts)) (now doors) × Backed (tabled (now faces) (now firsts)) (now backs) ⌝ }
+    requires { ⌜ RoomFor count (now corners) (length (now table)) (length (now replies)) ⌝ }
+    requires { ⌜ (length (now lines) ≡ 4 * face-count (tabled (now faces) (now firsts))) × (length (now seen) ≡ length (now corners)) ⌝ }
+    ensures { λ r. ⌜ r .rows ≡ rows-in-all (single-on (now (corners .entry)) (tabled (now (faces .entry)) (now (firsts .entry))) (now (doors .entry)) setting) (take count stands) ⌝ }
+    ensures { λ r. ⌜ r .crossings ≡ crossings-in-all (single-on (now (corners .entry)) (tabled (now (faces .entry)) (now (firsts .entry))) (now (doors .entry)) setting) (take count stands) ⌝ }
+    ensures { λ _. ⌜ now (table .exit) ≡ sets (now (table .entry)) 0 (all-rows (single-on (now (corners .entry)) (tabled (now (faces .entry)) (now (firsts .entry))) (now (doors .entry)) setting) (take count stands)) ⌝ }
+    ensures { λ _. ⌜ now (replies .exit) ≡ sets (now (replies .entry)) 0 (all-replies (single-on (now (corners .entry)) (tabled (now (faces .entry)) (now (firsts .entry))) (now (doors .entry)) setting) (take count stands)) ⌝ }
 {
-    let m = cells.len() / 6;
-    let n = 6 * m;
-    let lines = &mut room[..n];
-    lines_of(cells, doors, setting, lines);
+    lines_of(faces, firsts, backs, doors, setting, lines);
     let mut rows = 0;
     let mut crossings = 0;
     let mut i = 0;
@@ -96,12 +110,14 @@ fn list_each(
         let row = 3 * rows;
         let counts = list_stand(
             corners,
-            cells,
+            faces,
+            firsts,
             lines,
             stand,
             &mut table[row..],
             replies,
             3 * i,
+            seen,
         );
         rows += counts.rows;
         crossings += counts.crossings;
@@ -110,73 +126,242 @@ fn list_each(
     Counts { rows, crossings }
 }
 
-// What is granted is listed, over a table of lines of its own.
-fn list_granted(
+// Lists in the room lent: the tables of the plan, its lines, and the corners seen.
+fn list_in(
     corners: &[i32],
     cells: &[u16],
     doors: &[u16],
+    kind: u16,
     setting: u64,
     stands: [Stand; Plan::MOST_STANDS],
     count: usize,
     table: &mut [u16],
     replies: &mut [u64],
-) -> Counts
-    requires { ⌜ Granted (now corners) (now cells) (now doors) setting count (length (now table)) (length (now replies)) ⌝ }
-    ensures { λ r. ⌜ r .rows ≡ rows-in-all (now (corners .entry)) (now (cells .entry)) (now (doors .entry)) setting (take count stands) ⌝ }
-    ensures { λ r. ⌜ r .crossings ≡ crossings-in-all (now (corners .entry)) (now (cells .entry)) (now (doors .entry)) setting (take count stands) ⌝ }
-    ensures { λ _. ⌜ now (table .exit) ≡ sets (now (table .entry)) 0 (all-rows (now (corners .entry)) (now (cells .entry)) (now (doors .entry)) setting (take count stands)) ⌝ }
-    ensures { λ _. ⌜ now (replies .exit) ≡ sets (now (replies .entry)) 0 (all-replies (now (corners .entry)) (now (cells .entry)) (now (doors .entry)) setting (take count stands)) ⌝ }
-{
-    let mut scratch = [0u16; 6 * Plan::MOST_CELLS];
-    list_each(
-        corners,
-        cells,
-        doors,
-        setting,
-        stands,
-        count,
-        table,
-        replies,
-        &mut scratch,
-    )
-}
-
-// The first `count` of the stands, listed one after another: plan, setting, stands, table and replies; replies 1 to 7 and 11 in order, each with its
-// place, or the sums of rows and crossings.
-pub fn list_stands(
-    corners: &[i32],
-    cells: &[u16],
-    doors: &[u16],
-    setting: u64,
-    stands: [Stand; Plan::MOST_STANDS],
-    count: usize,
-    table: &mut [u16],
-    replies: &mut [u64],
+    faces: &mut [u16],
+    firsts: &mut [u16],
+    backs: &mut [u16],
+    lines: &mut [u16],
+    seen: &mut [i32],
 ) -> Listed
-    ensures { λ r. ⌜ (r, (now (table .exit), now (replies .exit))) ≡ listed-stands (now (corners .entry)) (now (cells .entry)) (now (doors .entry)) setting stands count (now (table .entry)) (now (replies .entry)) ⌝ }
+    requires { ⌜ (framed kind (now corners) (now cells) ≡ true) × (sized (corner-count (now corners)) (cell-count (cells-of kind (now cells))) (length (now doors)) ≡ true) ⌝ }
+    requires { ⌜ count ≤ most-stands ⌝ }
+    requires { ⌜ length (now faces) ≡ 2 * face-count (cells-of kind (now cells)) ⌝ }
+    requires { ⌜ length (now firsts) ≡ suc (cell-count (cells-of kind (now cells))) ⌝ }
+    requires { ⌜ length (now backs) ≡ face-count (cells-of kind (now cells)) ⌝ }
+    requires { ⌜ (length (now lines) ≡ 4 * face-count (cells-of kind (now cells))) × (length (now seen) ≡ length (now corners)) ⌝ }
+    ensures { λ r. ⌜ (r, (now (table .exit), now (replies .exit))) ≡ listed-stands kind (now (corners .entry)) (now (cells .entry)) (now (doors .entry)) setting stands count (now (table .entry)) (now (replies .entry)) ⌝ }
 {
-    match asked(
+    match asked_in(
         corners,
         cells,
         doors,
+        kind,
         setting,
         count,
         table.len(),
         replies.len(),
+        faces,
+        firsts,
+        backs,
     ) {
         Checked::Refused(r) => Listed::Refused(r),
         Checked::Accepted(_) => {
-            let counts = list_granted(
+            let counts = list_each(
                 corners,
-                cells,
+                faces,
+                firsts,
+                backs,
                 doors,
                 setting,
                 stands,
                 count,
                 table,
                 replies,
+                lines,
+                seen,
             );
             Listed::Rows(counts.rows, counts.crossings)
+        }
+    }
+}
+
+// Lists on m cells with n faces in as much of the room lent as they need.
+fn list_cut(
+    corners: &[i32],
+    cells: &[u16],
+    doors: &[u16],
+    kind: u16,
+    setting: u64,
+    stands: [Stand; Plan::MOST_STANDS],
+    count: usize,
+    table: &mut [u16],
+    replies: &mut [u64],
+    m: usize,
+    n: usize,
+    faces: &mut [u16],
+    firsts: &mut [u16],
+    backs: &mut [u16],
+    lines: &mut [u16],
+    seen: &mut [i32],
+) -> Listed
+    requires { ⌜ (sizes-of kind (now corners) (now cells) (now doors) ≡ Of m n) × (count ≤ most-stands) ⌝ }
+    requires { ⌜ (2 * n ≤ length (now faces)) × (m < length (now firsts)) × (n ≤ length (now backs)) × (4 * n ≤ length (now lines)) ⌝ }
+    requires { ⌜ 2 * most-corners ≤ length (now seen) ⌝ }
+    ensures { λ r. ⌜ (r, (now (table .exit), now (replies .exit))) ≡ listed-stands kind (now (corners .entry)) (now (cells .entry)) (now (doors .entry)) setting stands count (now (table .entry)) (now (replies .entry)) ⌝ }
+{
+    let twice = 2 * n;
+    let after = m + 1;
+    let fourfold = 4 * n;
+    let numbers = corners.len();
+    list_in(
+        corners,
+        cells,
+        doors,
+        kind,
+        setting,
+        stands,
+        count,
+        table,
+        replies,
+        &mut faces[..twice],
+        &mut firsts[..after],
+        &mut backs[..n],
+        &mut lines[..fourfold],
+        &mut seen[..numbers],
+    )
+}
+
+// Lends room for no more faces than triangles have: the larger tables need not be cleared for them.
+fn list_few(
+    corners: &[i32],
+    cells: &[u16],
+    doors: &[u16],
+    kind: u16,
+    setting: u64,
+    stands: [Stand; Plan::MOST_STANDS],
+    count: usize,
+    table: &mut [u16],
+    replies: &mut [u64],
+    m: usize,
+    n: usize,
+) -> Listed
+    requires { ⌜ (sizes-of kind (now corners) (now cells) (now doors) ≡ Of m n) × (count ≤ most-stands) ⌝ }
+    requires { ⌜ n ≤ 3 * most-cells ⌝ }
+    ensures { λ r. ⌜ (r, (now (table .exit), now (replies .exit))) ≡ listed-stands kind (now (corners .entry)) (now (cells .entry)) (now (doors .entry)) setting stands count (now (table .entry)) (now (replies .entry)) ⌝ }
+{
+    let mut faces = [0u16; 6 * Plan::MOST_CELLS];
+    let mut firsts = [0u16; 1 + Plan::MOST_CELLS];
+    let mut backs = [0u16; 3 * Plan::MOST_CELLS];
+    let mut lines = [0u16; 12 * Plan::MOST_CELLS];
+    let mut seen = [0i32; 2 * Plan::MOST_CORNERS];
+    list_cut(
+        corners,
+        cells,
+        doors,
+        kind,
+        setting,
+        stands,
+        count,
+        table,
+        replies,
+        m,
+        n,
+        &mut faces,
+        &mut firsts,
+        &mut backs,
+        &mut lines,
+        &mut seen,
+    )
+}
+
+// Lends room for every plan.
+fn list_many(
+    corners: &[i32],
+    cells: &[u16],
+    doors: &[u16],
+    kind: u16,
+    setting: u64,
+    stands: [Stand; Plan::MOST_STANDS],
+    count: usize,
+    table: &mut [u16],
+    replies: &mut [u64],
+    m: usize,
+    n: usize,
+) -> Listed
+    requires { ⌜ (sizes-of kind (now corners) (now cells) (now doors) ≡ Of m n) × (count ≤ most-stands) ⌝ }
+    ensures { λ r. ⌜ (r, (now (table .exit), now (replies .exit))) ≡ listed-stands kind (now (corners .entry)) (now (cells .entry)) (now (doors .entry)) setting stands count (now (table .entry)) (now (replies .entry)) ⌝ }
+{
+    let mut faces = [0u16; 16 * Plan::MOST_CELLS];
+    let mut firsts = [0u16; 1 + Plan::MOST_CELLS];
+    let mut backs = [0u16; 8 * Plan::MOST_CELLS];
+    let mut lines = [0u16; 32 * Plan::MOST_CELLS];
+    let mut seen = [0i32; 2 * Plan::MOST_CORNERS];
+    list_cut(
+        corners,
+        cells,
+        doors,
+        kind,
+        setting,
+        stands,
+        count,
+        table,
+        replies,
+        m,
+        n,
+        &mut faces,
+        &mut firsts,
+        &mut backs,
+        &mut lines,
+        &mut seen,
+    )
+}
+
+// The first `count` of the stands, listed one after another: plan, the kind of its list of cells, setting, stands, table and replies; replies 1 to 7 and
+// 11 in order, each with its place, or the sums of rows and crossings.
+pub fn list_stands(
+    corners: &[i32],
+    cells: &[u16],
+    doors: &[u16],
+    kind: u16,
+    setting: u64,
+    stands: [Stand; Plan::MOST_STANDS],
+    count: usize,
+    table: &mut [u16],
+    replies: &mut [u64],
+) -> Listed
+    ensures { λ r. ⌜ (r, (now (table .exit), now (replies .exit))) ≡ listed-stands kind (now (corners .entry)) (now (cells .entry)) (now (doors .entry)) setting stands count (now (table .entry)) (now (replies .entry)) ⌝ }
+{
+    match measure_for(corners, cells, doors, kind, count) {
+        Sizes::Refused(r) => Listed::Refused(r),
+        Sizes::Of(m, n) => {
+            if n <= 3 * Plan::MOST_CELLS {
+                return list_few(
+                    corners,
+                    cells,
+                    doors,
+                    kind,
+                    setting,
+                    stands,
+                    count,
+                    table,
+                    replies,
+                    m,
+                    n,
+                );
+            }
+            list_many(
+                corners,
+                cells,
+                doors,
+                kind,
+                setting,
+                stands,
+                count,
+                table,
+                replies,
+                m,
+                n,
+            )
         }
     }
 }

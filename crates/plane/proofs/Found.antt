@@ -173,24 +173,6 @@ pub along-v-inside-is-ahead : (r l v d : Point) → 𝟘 <ℤ dot v v → Betwee
 unfolding cross dot
 along-v-inside-is-ahead r l v d h₁ h₂ h₃ h₄ = prove (coordinates (r ∷ l ∷ v ∷ d ∷ [])) ((𝟘ᵉ ≺ dotᵉ (pt 2) (pt 2)) ∷ (𝟘ᵉ ≺ crossᵉ (pt 0) (pt 2)) ∷ (𝟘ᵉ ≺ crossᵉ (pt 0) (pt 3)) ∷ (crossᵉ (pt 3) (pt 2) ≈ 𝟘ᵉ) ∷ []) (𝟘ᵉ ≺ dotᵉ (pt 3) (pt 2)) (only (given 0 ⊠ given 2 ⊞ given 1 ⊠ given 3 ⊞ by (neg (dotᵉ (pt 0) (pt 2))) (given 4))) tt h₁ (h₂ .past-right) (h₃ .right) h₄
 
--- seen from strictly inside a triangle, its corners are not all left of a direction
-pub not-all-left : (a b c d : Point) → 𝟘 <ℤ cross a b → 𝟘 <ℤ cross b c → 𝟘 <ℤ cross c a → 𝟘 <ℤ cross a d → 𝟘 <ℤ cross b d → 𝟘 <ℤ cross c d → ⊥
-unfolding cross
-not-all-left a b c d h₁ h₂ h₃ h₄ h₅ h₆ = refute (coordinates (a ∷ b ∷ c ∷ d ∷ [])) ((𝟘ᵉ ≺ crossᵉ (pt 0) (pt 1)) ∷ (𝟘ᵉ ≺ crossᵉ (pt 1) (pt 2)) ∷ (𝟘ᵉ ≺ crossᵉ (pt 2) (pt 0)) ∷ (𝟘ᵉ ≺ crossᵉ (pt 0) (pt 3)) ∷ (𝟘ᵉ ≺ crossᵉ (pt 1) (pt 3)) ∷ (𝟘ᵉ ≺ crossᵉ (pt 2) (pt 3)) ∷ []) (given 1 ⊠ given 6 ⊞ given 2 ⊠ given 4 ⊞ given 3 ⊠ given 5) tt h₁ h₂ h₃ h₄ h₅ h₆
-
-pub not-all-right : (a b c d : Point) → 𝟘 <ℤ cross a b → 𝟘 <ℤ cross b c → 𝟘 <ℤ cross c a → cross a d <ℤ 𝟘 → cross b d <ℤ 𝟘 → cross c d <ℤ 𝟘 → ⊥
-unfolding cross
-not-all-right a b c d h₁ h₂ h₃ h₄ h₅ h₆ = refute (coordinates (a ∷ b ∷ c ∷ d ∷ [])) ((𝟘ᵉ ≺ crossᵉ (pt 0) (pt 1)) ∷ (𝟘ᵉ ≺ crossᵉ (pt 1) (pt 2)) ∷ (𝟘ᵉ ≺ crossᵉ (pt 2) (pt 0)) ∷ (crossᵉ (pt 0) (pt 3) ≺ 𝟘ᵉ) ∷ (crossᵉ (pt 1) (pt 3) ≺ 𝟘ᵉ) ∷ (crossᵉ (pt 2) (pt 3) ≺ 𝟘ᵉ) ∷ []) (given 1 ⊠ given 6 ⊞ given 2 ⊠ given 4 ⊞ given 3 ⊠ given 5) tt h₁ h₂ h₃ h₄ h₅ h₆
-
--- away from a corner of a triangle around the stand leads between the other two
-pub behind-a-corner-is-opposite : (a b c d : Point) → 𝟘 <ℤ cross a b → 𝟘 <ℤ cross c a → cross d a ≡ 𝟘 → dot d a <ℤ 𝟘 → Holds b c d
-unfolding cross dot
-behind-a-corner-is-opposite a b c d h₁ h₂ h₃ h₄ =
-    record {
-      right = prove (coordinates (a ∷ b ∷ c ∷ d ∷ [])) ((𝟘ᵉ ≺ crossᵉ (pt 0) (pt 1)) ∷ (crossᵉ (pt 3) (pt 0) ≈ 𝟘ᵉ) ∷ (dotᵉ (pt 3) (pt 0) ≺ 𝟘ᵉ) ∷ []) (𝟘ᵉ ≺ crossᵉ (pt 1) (pt 3)) (only (given 1 ⊠ given 3 ⊞ given 0 ⊠ square (var 0) ⊞ given 0 ⊠ square (var 1) ⊞ by (dotᵉ (pt 0) (pt 1)) (given 2))) tt h₁ h₃ h₄;
-      left = prove (coordinates (a ∷ b ∷ c ∷ d ∷ [])) ((𝟘ᵉ ≺ crossᵉ (pt 2) (pt 0)) ∷ (crossᵉ (pt 3) (pt 0) ≈ 𝟘ᵉ) ∷ (dotᵉ (pt 3) (pt 0) ≺ 𝟘ᵉ) ∷ []) (𝟘ᵉ ≺ crossᵉ (pt 3) (pt 2)) (only (given 1 ⊠ given 3 ⊞ given 0 ⊠ square (var 0) ⊞ given 0 ⊠ square (var 1) ⊞ by (neg (dotᵉ (pt 0) (pt 2))) (given 2))) tt h₂ h₃ h₄;
-    }
-
 pub along-is-ahead-or-behind : (a d : Point) → 𝟘 <ℤ dot a a → 𝟘 <ℤ dot d d → cross d a ≡ 𝟘 → dot d a ≡ 𝟘 → ⊥
 unfolding cross dot
 along-is-ahead-or-behind a d h₁ h₂ h₃ h₄ = refute (coordinates (a ∷ d ∷ [])) ((𝟘ᵉ ≺ dotᵉ (pt 0) (pt 0)) ∷ (𝟘ᵉ ≺ dotᵉ (pt 1) (pt 1)) ∷ (crossᵉ (pt 1) (pt 0) ≈ 𝟘ᵉ) ∷ (dotᵉ (pt 1) (pt 0) ≈ 𝟘ᵉ) ∷ []) (given 1 ⊠ given 2 ⊞ by (neg (crossᵉ (pt 0) (pt 1))) (given 3) ⊞ by (dotᵉ (pt 0) (pt 1)) (given 4)) tt h₁ h₂ h₃ h₄
@@ -270,7 +252,85 @@ a-seen-line-is-a-cone a b h₁ =
       left-to-b = prove (coordinates (a ∷ b ∷ [])) [] (𝟘ᵉ ≼ crossᵉ (pt 1) (pt 1)) (only (given 0)) tt;
     }
 
--- no corner of a triangle around the stand lies between the other two
-pub corner-is-not-opposite : (a b c : Point) → 𝟘 <ℤ cross a b → Holds b c a → ⊥
+pub turns-nowhere : (a : Point) → cross a a ≡ 𝟘
 unfolding cross
-corner-is-not-opposite a b c h₁ h₂ = refute (coordinates (a ∷ b ∷ c ∷ [])) ((𝟘ᵉ ≺ crossᵉ (pt 0) (pt 1)) ∷ (𝟘ᵉ ≺ crossᵉ (pt 1) (pt 0)) ∷ []) (given 1 ⊞ given 2) tt h₁ (h₂ .right)
+turns-nowhere a = solve (coordinates (a ∷ [])) (crossᵉ (pt 0) (pt 0)) 𝟘ᵉ tt
+
+-- what is on or left of v's ray does not have v on its left
+pub not-left-both-ways : (v d : Point) → 𝟘 <ℤ cross d v → 𝟘 ≤ℤ cross v d → ⊥
+unfolding cross
+not-left-both-ways v d h₁ h₂ = refute (coordinates (v ∷ d ∷ [])) ((𝟘ᵉ ≺ crossᵉ (pt 1) (pt 0)) ∷ (𝟘ᵉ ≼ crossᵉ (pt 0) (pt 1)) ∷ []) (given 1 ⊞ given 2) tt h₁ h₂
+
+pub no-zero-right-limit : (r v : Point) → 𝟘 <ℤ cross r v → 𝟘 <ℤ dot r r
+unfolding cross dot
+no-zero-right-limit r v h₁ = prove (coordinates (r ∷ v ∷ [])) ((𝟘ᵉ ≺ crossᵉ (pt 0) (pt 1)) ∷ []) (𝟘ᵉ ≺ dotᵉ (pt 0) (pt 0)) (only (square (dotᵉ (pt 0) (pt 1)) ⊞ given 1 ⊠ given 1 ⊞ given 0 ⊠ square (var 2) ⊞ given 0 ⊠ square (var 3))) tt h₁
+
+-- a corner beyond a line: the three corners turn the same way from each of them
+pub beyond-turns : (a b v : Point) → Beyond a b v → Beyond b v a
+unfolding cross
+beyond-turns a b v h₁ =
+    record {
+      beyond = prove (coordinates (a ∷ b ∷ v ∷ [])) ((𝟘ᵉ ≺ crossᵉ (pt 1) (pt 0) ⊕ crossᵉ (pt 0) (pt 2) ⊕ crossᵉ (pt 2) (pt 1)) ∷ []) (𝟘ᵉ ≺ crossᵉ (pt 2) (pt 1) ⊕ crossᵉ (pt 1) (pt 0) ⊕ crossᵉ (pt 0) (pt 2)) (only (given 0 ⊞ given 1)) tt (h₁ .beyond);
+    }
+
+pub not-beyond-both-ways : (a b v : Point) → Beyond a b v → Beyond a v b → ⊥
+unfolding cross
+not-beyond-both-ways a b v h₁ h₂ = refute (coordinates (a ∷ b ∷ v ∷ [])) ((𝟘ᵉ ≺ crossᵉ (pt 1) (pt 0) ⊕ crossᵉ (pt 0) (pt 2) ⊕ crossᵉ (pt 2) (pt 1)) ∷ (𝟘ᵉ ≺ crossᵉ (pt 2) (pt 0) ⊕ crossᵉ (pt 0) (pt 1) ⊕ crossᵉ (pt 1) (pt 2)) ∷ []) (given 1 ⊞ given 2) tt (h₁ .beyond) (h₂ .beyond)
+
+-- two sides of a convex cell, each strictly left of the other, share no direction, even where a right end counts: the diagonals from a to a′ and from b
+-- to b′ cross, and d would have one on its right and one on its left
+pub opposite-sides-share-nothing : (a b a′ b′ d : Point) → Beyond b a a′ → Beyond b a b′ → Beyond b′ a′ a → Beyond b′ a′ b → 𝟘 ≤ℤ cross a d → 𝟘 <ℤ cross d b → 𝟘 ≤ℤ cross a′ d → 𝟘 <ℤ cross d b′ → ⊥
+unfolding cross
+opposite-sides-share-nothing a b a′ b′ d h₁ h₂ h₃ h₄ h₅ h₆ h₇ h₈ = refute (coordinates (a ∷ b ∷ a′ ∷ b′ ∷ d ∷ [])) ((𝟘ᵉ ≺ crossᵉ (pt 0) (pt 1) ⊕ crossᵉ (pt 1) (pt 2) ⊕ crossᵉ (pt 2) (pt 0)) ∷ (𝟘ᵉ ≺ crossᵉ (pt 0) (pt 1) ⊕ crossᵉ (pt 1) (pt 3) ⊕ crossᵉ (pt 3) (pt 0)) ∷ (𝟘ᵉ ≺ crossᵉ (pt 2) (pt 3) ⊕ crossᵉ (pt 3) (pt 0) ⊕ crossᵉ (pt 0) (pt 2)) ∷ (𝟘ᵉ ≺ crossᵉ (pt 2) (pt 3) ⊕ crossᵉ (pt 3) (pt 1) ⊕ crossᵉ (pt 1) (pt 2)) ∷ (𝟘ᵉ ≼ crossᵉ (pt 0) (pt 4)) ∷ (𝟘ᵉ ≺ crossᵉ (pt 4) (pt 1)) ∷ (𝟘ᵉ ≼ crossᵉ (pt 2) (pt 4)) ∷ (𝟘ᵉ ≺ crossᵉ (pt 4) (pt 3)) ∷ []) (given 1 ⊠ given 8 ⊞ given 2 ⊠ given 7 ⊞ given 3 ⊠ given 6 ⊞ given 4 ⊠ given 5) tt (h₁ .beyond) (h₂ .beyond) (h₃ .beyond) (h₄ .beyond) h₅ h₆ h₇ h₈
+
+-- a cell entered by the line from a to b is left by a line with both ends beyond it strictly later
+pub left-later-by-a-line-beyond : (a b a′ b′ d : Point) → Beyond a b a′ → Beyond a b b′ → Holds a′ b′ d → Earlier d a b a′ b′
+unfolding cross
+left-later-by-a-line-beyond a b a′ b′ d h₁ h₂ h₃ =
+    record {
+      earlier = prove (coordinates (a ∷ b ∷ a′ ∷ b′ ∷ d ∷ [])) ((𝟘ᵉ ≺ crossᵉ (pt 1) (pt 0) ⊕ crossᵉ (pt 0) (pt 2) ⊕ crossᵉ (pt 2) (pt 1)) ∷ (𝟘ᵉ ≺ crossᵉ (pt 1) (pt 0) ⊕ crossᵉ (pt 0) (pt 3) ⊕ crossᵉ (pt 3) (pt 1)) ∷ (𝟘ᵉ ≺ crossᵉ (pt 2) (pt 4)) ∷ (𝟘ᵉ ≺ crossᵉ (pt 4) (pt 3)) ∷ []) (crossᵉ (pt 0) (pt 1) ⊗ (crossᵉ (pt 2) (pt 4) ⊕ crossᵉ (pt 4) (pt 3)) ≺ crossᵉ (pt 2) (pt 3) ⊗ (crossᵉ (pt 0) (pt 4) ⊕ crossᵉ (pt 4) (pt 1))) (only (given 0 ⊞ given 1 ⊠ given 4 ⊞ given 2 ⊠ given 3)) tt (h₁ .beyond) (h₂ .beyond) (h₃ .right) (h₃ .left);
+    }
+
+-- d on the left of all three
+pub order-right-of-a-direction-is-transitive : (u v w d : Point) → 𝟘 <ℤ cross u d → 𝟘 <ℤ cross v d → 𝟘 <ℤ cross w d → 𝟘 <ℤ cross u v → 𝟘 <ℤ cross v w → 𝟘 <ℤ cross u w
+unfolding cross
+order-right-of-a-direction-is-transitive u v w d h₁ h₂ h₃ h₄ h₅ = prove (coordinates (u ∷ v ∷ w ∷ d ∷ [])) ((𝟘ᵉ ≺ crossᵉ (pt 0) (pt 3)) ∷ (𝟘ᵉ ≺ crossᵉ (pt 1) (pt 3)) ∷ (𝟘ᵉ ≺ crossᵉ (pt 2) (pt 3)) ∷ (𝟘ᵉ ≺ crossᵉ (pt 0) (pt 1)) ∷ (𝟘ᵉ ≺ crossᵉ (pt 1) (pt 2)) ∷ []) (𝟘ᵉ ≺ crossᵉ (pt 0) (pt 2)) (only (given 0 ⊠ given 2 ⊞ given 1 ⊠ given 5 ⊞ given 3 ⊠ given 4)) tt h₁ h₂ h₃ h₄ h₅
+
+-- d on the right of the first two and not on the left of the third
+pub order-left-of-a-direction-is-transitive : (u v w d : Point) → cross u d <ℤ 𝟘 → cross v d <ℤ 𝟘 → cross w d ≤ℤ 𝟘 → 𝟘 <ℤ cross u v → 𝟘 <ℤ cross v w → 𝟘 <ℤ cross u w
+unfolding cross
+order-left-of-a-direction-is-transitive u v w d h₁ h₂ h₃ h₄ h₅ = prove (coordinates (u ∷ v ∷ w ∷ d ∷ [])) ((crossᵉ (pt 0) (pt 3) ≺ 𝟘ᵉ) ∷ (crossᵉ (pt 1) (pt 3) ≺ 𝟘ᵉ) ∷ (crossᵉ (pt 2) (pt 3) ≼ 𝟘ᵉ) ∷ (𝟘ᵉ ≺ crossᵉ (pt 0) (pt 1)) ∷ (𝟘ᵉ ≺ crossᵉ (pt 1) (pt 2)) ∷ []) (𝟘ᵉ ≺ crossᵉ (pt 0) (pt 2)) (only (given 0 ⊠ given 2 ⊞ given 1 ⊠ given 5 ⊞ given 3 ⊠ given 4)) tt h₁ h₂ h₃ h₄ h₅
+
+-- straight away from a corner has the next corner around the stand on its right, and the corner before on its left
+pub after-a-corner-behind : (a b d : Point) → 𝟘 <ℤ cross a b → cross d a ≡ 𝟘 → dot d a <ℤ 𝟘 → 𝟘 <ℤ cross b d
+unfolding cross dot
+after-a-corner-behind a b d h₁ h₂ h₃ = prove (coordinates (a ∷ b ∷ d ∷ [])) ((𝟘ᵉ ≺ crossᵉ (pt 0) (pt 1)) ∷ (crossᵉ (pt 2) (pt 0) ≈ 𝟘ᵉ) ∷ (dotᵉ (pt 2) (pt 0) ≺ 𝟘ᵉ) ∷ []) (𝟘ᵉ ≺ crossᵉ (pt 1) (pt 2)) (only (given 1 ⊠ given 3 ⊞ given 0 ⊠ square (var 0) ⊞ given 0 ⊠ square (var 1) ⊞ by (dotᵉ (pt 0) (pt 1)) (given 2))) tt h₁ h₂ h₃
+
+pub before-a-corner-behind : (a b d : Point) → 𝟘 <ℤ cross a b → cross d b ≡ 𝟘 → dot d b <ℤ 𝟘 → 𝟘 <ℤ cross d a
+unfolding cross dot
+before-a-corner-behind a b d h₁ h₂ h₃ = prove (coordinates (a ∷ b ∷ d ∷ [])) ((𝟘ᵉ ≺ crossᵉ (pt 0) (pt 1)) ∷ (crossᵉ (pt 2) (pt 1) ≈ 𝟘ᵉ) ∷ (dotᵉ (pt 2) (pt 1) ≺ 𝟘ᵉ) ∷ []) (𝟘ᵉ ≺ crossᵉ (pt 2) (pt 0)) (only (given 1 ⊠ given 3 ⊞ given 0 ⊠ square (var 2) ⊞ given 0 ⊠ square (var 3) ⊞ by (neg (dotᵉ (pt 0) (pt 1))) (given 2))) tt h₁ h₂ h₃
+
+-- corners on the line from a to b or beyond it, in their order around b
+pub beyond-is-transitive-around-an-end : (a b u v w : Point) → 𝟘 ≤ℤ (cross b a +ℤ cross a u +ℤ cross u b) → 𝟘 ≤ℤ (cross b a +ℤ cross a v +ℤ cross v b) → Beyond a b w → Beyond u b v → Beyond v b w → Beyond u b w
+unfolding cross
+beyond-is-transitive-around-an-end a b u v w h₁ h₂ h₃ h₄ h₅ =
+    record {
+      beyond = prove (coordinates (a ∷ b ∷ u ∷ v ∷ w ∷ [])) ((𝟘ᵉ ≼ crossᵉ (pt 1) (pt 0) ⊕ crossᵉ (pt 0) (pt 2) ⊕ crossᵉ (pt 2) (pt 1)) ∷ (𝟘ᵉ ≼ crossᵉ (pt 1) (pt 0) ⊕ crossᵉ (pt 0) (pt 3) ⊕ crossᵉ (pt 3) (pt 1)) ∷ (𝟘ᵉ ≺ crossᵉ (pt 1) (pt 0) ⊕ crossᵉ (pt 0) (pt 4) ⊕ crossᵉ (pt 4) (pt 1)) ∷ (𝟘ᵉ ≺ crossᵉ (pt 1) (pt 2) ⊕ crossᵉ (pt 2) (pt 3) ⊕ crossᵉ (pt 3) (pt 1)) ∷ (𝟘ᵉ ≺ crossᵉ (pt 1) (pt 3) ⊕ crossᵉ (pt 3) (pt 4) ⊕ crossᵉ (pt 4) (pt 1)) ∷ []) (𝟘ᵉ ≺ crossᵉ (pt 1) (pt 2) ⊕ crossᵉ (pt 2) (pt 4) ⊕ crossᵉ (pt 4) (pt 1)) (only (given 0 ⊠ given 2 ⊞ given 1 ⊠ given 5 ⊞ given 3 ⊠ given 4)) tt h₁ h₂ (h₃ .beyond) (h₄ .beyond) (h₅ .beyond);
+    }
+
+pub start-of-a-line-is-on-it : (a b : Point) → 𝟘 ≤ℤ (cross b a +ℤ cross a a +ℤ cross a b)
+unfolding cross
+start-of-a-line-is-on-it a b = prove (coordinates (a ∷ b ∷ [])) [] (𝟘ᵉ ≼ crossᵉ (pt 1) (pt 0) ⊕ crossᵉ (pt 0) (pt 0) ⊕ crossᵉ (pt 0) (pt 1)) (only (given 0)) tt
+
+-- four corners a, v, p and b of a convex cell in their order: where v and b are on or left of a ray and a is right of it, so p is left of it
+pub later-corner-is-left-of-a-left-ray : (a v p b t : Point) → Beyond v a p → Beyond v b p → Beyond a b p → Beyond a b v → 𝟘 <ℤ cross a t → 𝟘 ≤ℤ cross t v → 𝟘 ≤ℤ cross t b → 𝟘 <ℤ cross t p
+unfolding cross
+later-corner-is-left-of-a-left-ray a v p b t h₁ h₂ h₃ h₄ h₅ h₆ h₇ = prove (coordinates (a ∷ v ∷ p ∷ b ∷ t ∷ [])) ((𝟘ᵉ ≺ crossᵉ (pt 0) (pt 1) ⊕ crossᵉ (pt 1) (pt 2) ⊕ crossᵉ (pt 2) (pt 0)) ∷ (𝟘ᵉ ≺ crossᵉ (pt 3) (pt 1) ⊕ crossᵉ (pt 1) (pt 2) ⊕ crossᵉ (pt 2) (pt 3)) ∷ (𝟘ᵉ ≺ crossᵉ (pt 3) (pt 0) ⊕ crossᵉ (pt 0) (pt 2) ⊕ crossᵉ (pt 2) (pt 3)) ∷ (𝟘ᵉ ≺ crossᵉ (pt 3) (pt 0) ⊕ crossᵉ (pt 0) (pt 1) ⊕ crossᵉ (pt 1) (pt 3)) ∷ (𝟘ᵉ ≺ crossᵉ (pt 0) (pt 4)) ∷ (𝟘ᵉ ≼ crossᵉ (pt 4) (pt 1)) ∷ (𝟘ᵉ ≼ crossᵉ (pt 4) (pt 3)) ∷ []) (𝟘ᵉ ≺ crossᵉ (pt 4) (pt 2)) (only (given 0 ⊠ given 4 ⊞ given 1 ⊠ given 7 ⊞ given 2 ⊠ given 5 ⊞ given 3 ⊠ given 6)) tt (h₁ .beyond) (h₂ .beyond) (h₃ .beyond) (h₄ .beyond) h₅ h₆ h₇
+
+pub later-corner-is-left-of-a-right-ray : (a v p b t : Point) → Beyond v a p → Beyond v b p → Beyond a b p → Beyond a b v → 𝟘 ≤ℤ cross a t → 𝟘 <ℤ cross t v → 𝟘 <ℤ cross t b → 𝟘 <ℤ cross t p
+unfolding cross
+later-corner-is-left-of-a-right-ray a v p b t h₁ h₂ h₃ h₄ h₅ h₆ h₇ = prove (coordinates (a ∷ v ∷ p ∷ b ∷ t ∷ [])) ((𝟘ᵉ ≺ crossᵉ (pt 0) (pt 1) ⊕ crossᵉ (pt 1) (pt 2) ⊕ crossᵉ (pt 2) (pt 0)) ∷ (𝟘ᵉ ≺ crossᵉ (pt 3) (pt 1) ⊕ crossᵉ (pt 1) (pt 2) ⊕ crossᵉ (pt 2) (pt 3)) ∷ (𝟘ᵉ ≺ crossᵉ (pt 3) (pt 0) ⊕ crossᵉ (pt 0) (pt 2) ⊕ crossᵉ (pt 2) (pt 3)) ∷ (𝟘ᵉ ≺ crossᵉ (pt 3) (pt 0) ⊕ crossᵉ (pt 0) (pt 1) ⊕ crossᵉ (pt 1) (pt 3)) ∷ (𝟘ᵉ ≼ crossᵉ (pt 0) (pt 4)) ∷ (𝟘ᵉ ≺ crossᵉ (pt 4) (pt 1)) ∷ (𝟘ᵉ ≺ crossᵉ (pt 4) (pt 3)) ∷ []) (𝟘ᵉ ≺ crossᵉ (pt 4) (pt 2)) (only (given 0 ⊠ given 4 ⊞ given 1 ⊠ given 7 ⊞ given 2 ⊠ given 5 ⊞ given 3 ⊠ given 6)) tt (h₁ .beyond) (h₂ .beyond) (h₃ .beyond) (h₄ .beyond) h₅ h₆ h₇
+
+pub left-turned-is-not-left : (u v : Point) → 𝟘 ≤ℤ cross u v → cross v u ≤ℤ 𝟘
+unfolding cross
+left-turned-is-not-left u v h₁ = prove (coordinates (u ∷ v ∷ [])) ((𝟘ᵉ ≼ crossᵉ (pt 0) (pt 1)) ∷ []) (crossᵉ (pt 1) (pt 0) ≼ 𝟘ᵉ) (only (given 0 ⊞ given 1)) tt h₁

@@ -4,5 +4,5 @@ pub mod Quote
 pub mod Found
 -- laws of cones that go by cases on signs: the three cases of the hand-on, the split, the start in a triangle
 pub mod Cones
--- the containment test: which signs give each answer, and what inside says
+-- the containment test: what each sign of a side value answers
 pub mod Sides

@@ -37,12 +37,6 @@ pub record Meets (d c : Point) : Type 0 where
 pub record Direction (d : Point) : Type 0 where
   pub not-both-zero : d .x ≡ pos 0 → d .y ≡ pos 0 → ⊥
 
--- the stand lies strictly inside the triangle a, b, c
-pub record Around (a b c : Point) : Type 0 where
-  pub ab : pos 0 <ℤ cross a b
-  pub bc : pos 0 <ℤ cross b c
-  pub ca : pos 0 <ℤ cross c a
-
 -- u lies in the closed cone from a to b
 pub record Spanned (a b u : Point) : Type 0 where
   pub not-before : pos 0 ≤ℤ cross a u

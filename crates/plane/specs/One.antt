@@ -1,4 +1,4 @@
--- Exactly one of two or of three holds; at most one of three holds.
+-- Exactly one of two or of three holds.
 
 pub data OneOfTwo (A B : Type 0) : Type 0 where
   first : A → ¬ B → OneOfTwo A B
@@ -8,8 +8,3 @@ pub data OneOfThree (A B C : Type 0) : Type 0 where
   first : A → ¬ B → ¬ C → OneOfThree A B C
   second : ¬ A → B → ¬ C → OneOfThree A B C
   third : ¬ A → ¬ B → C → OneOfThree A B C
-
-pub record AtMostOne (A B C : Type 0) : Type 0 where
-  pub not-first-and-second : A → ¬ B
-  pub not-second-and-third : B → ¬ C
-  pub not-third-and-first : C → ¬ A

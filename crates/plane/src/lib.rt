@@ -1,6 +1,6 @@
 ghost use mathlib.Core.Path.{_≡_};
-ghost use Rattle.plane.specs.Side.{point, side-of, Near, AllNear};
-ghost use Rattle.plane.specs.Tests.{right-cell, containment};
+ghost use Rattle.plane.specs.Side.{side-of, AllNear};
+ghost use Rattle.plane.specs.Tests.{right-cell, by-value, beside-of};
 
 // The side value of three points (document 01, "Side value and plan check").
 pub fn side_value(p: [[i64; 2]; 3]) -> i64
@@ -28,42 +28,31 @@ pub fn is_right(cell: [[i64; 2]; 3]) -> bool
     0 < area
 }
 
-// Where a point lies against a right cell.
+// Where a point lies against a side, or against a right cell.
 pub enum Containment {
     Inside,
     Border,
     Outside,
 }
 
-// The containment test (document 01, "The stand").
-pub fn contains(cell: [[i64; 2]; 3], q: [i64; 2]) -> Containment
-    requires { ⌜ AllNear cell ⌝ }
-    requires { ⌜ Near (point q) ⌝ }
-    ensures { λ r. ⌜ r ≡ containment cell (point q) ⌝ }
+// Where a point lies by the side value of one side, or by the least side value of a cell's sides.
+pub fn placed(value: i64) -> Containment
+    ensures { λ r. ⌜ r ≡ by-value value ⌝ }
 {
-    let a = cell[0];
-    let b = cell[1];
-    let c = cell[2];
-    let ab = side_value([a, b, q]);
-    if ab < 0 {
+    if value < 0 {
         return Containment::Outside;
     }
-    let bc = side_value([b, c, q]);
-    if bc < 0 {
-        return Containment::Outside;
-    }
-    let ca = side_value([c, a, q]);
-    if ca < 0 {
-        return Containment::Outside;
-    }
-    if ab <= 0 {
-        return Containment::Border;
-    }
-    if bc <= 0 {
-        return Containment::Border;
-    }
-    if ca <= 0 {
+    if value <= 0 {
         return Containment::Border;
     }
     Containment::Inside
+}
+
+// The containment test of one side (document 01, "The stand"; document 02, A14): the side's two ends, and the point asked about.
+pub fn beside(p: [[i64; 2]; 3]) -> Containment
+    requires { ⌜ AllNear p ⌝ }
+    ensures { λ r. ⌜ r ≡ beside-of p ⌝ }
+{
+    let value = side_value(p);
+    placed(value)
 }

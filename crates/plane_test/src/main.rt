@@ -39,27 +39,27 @@ fn print_signed(v: i64) {
     }
 }
 
+fn print_beside(p: [[i64; 2]; 3])
+    requires { ⌜ AllNear p ⌝ }
+{
+    match plane::beside(p) {
+        Containment::Inside => io::write_all(STDOUT_FILENO, b" inside\n"),
+        Containment::Border => io::write_all(STDOUT_FILENO, b" border\n"),
+        Containment::Outside => io::write_all(STDOUT_FILENO, b" outside\n"),
+    }
+    ;
+}
+
 fn print_side(p: [[i64; 2]; 3])
     requires { ⌜ AllNear p ⌝ }
 {
     print_signed(plane::side_value(p));
     if plane::is_right(p) {
-        io::write_all(STDOUT_FILENO, b" right\n");
+        io::write_all(STDOUT_FILENO, b" right");
     } else {
-        io::write_all(STDOUT_FILENO, b" wrong\n");
+        io::write_all(STDOUT_FILENO, b" wrong");
     }
-}
-
-fn print_containment(cell: [[i64; 2]; 3], q: [i64; 2])
-    requires { ⌜ AllNear cell ⌝ }
-    requires { ⌜ Near (point q) ⌝ }
-{
-    match plane::contains(cell, q) {
-        Containment::Inside => io::write_all(STDOUT_FILENO, b"inside\n"),
-        Containment::Border => io::write_all(STDOUT_FILENO, b"border\n"),
-        Containment::Outside => io::write_all(STDOUT_FILENO, b"outside\n"),
-    }
-    ;
+    print_beside(p);
 }
 
 // Arrangement n of the largest coordinates of three points: the six signs are the bits of n.
@@ -71,32 +71,17 @@ fn far_side(n: u64) {
     ]);
 }
 
-// Arrangement n of the largest coordinates of a cell and a point.
-fn far_containment(n: u64) {
-    let cell = [
-        far_point(n % 4),
-        far_point(n / 4 % 4),
-        far_point(n / 16 % 4),
-    ];
-    print_containment(cell, far_point(n / 64 % 4));
-}
-
-// A small cell of each orientation against point n of the grid.
-fn small_containment(n: u64) {
-    let left = [small_point(0), small_point(4), small_point(20)];
-    print_containment(left, small_point(n));
-    let right = [small_point(0), small_point(23), small_point(4)];
-    print_containment(right, small_point(n));
+// A small side, in each of its directions, against point n of the grid.
+fn small_side(n: u64) {
+    print_side([small_point(0), small_point(18), small_point(n)]);
+    print_side([small_point(18), small_point(0), small_point(n)]);
 }
 
 fn main() {
     for n in 0..64 {
         far_side(n);
     }
-    for n in 0..256 {
-        far_containment(n);
-    }
     for n in 0..25 {
-        small_containment(n);
+        small_side(n);
     }
 }

@@ -10,7 +10,7 @@ use Rattle.records.specs.Record.{record-of, corner-record, cell-record, door-re
 use Rattle.records.proofs.Frames.{is-framed}
 use Rattle.records.proofs.Back.{all-bytes-back, complements-back}
 use Rattle.records.proofs.Records.{body-of, framed-is-three-records}
-use Rattle.planfile.specs.File.{file-of, corners-in, cells-in, doors-in}
+use Rattle.planfile.specs.File.{file-of, corners-in, cells-in, doors-in, kind-in}
 
 module _ (s : List ℕ) (all : AllBytes s) (h : framed s ≡ true) where
   corners-back : corner-record (corners-in s) ≡ record-of 1 (body-of s 0)
@@ -25,15 +25,15 @@ module _ (s : List ℕ) (all : AllBytes s) (h : framed s ≡ true) where
       ∙ ap (record-of 1) (all-bytes-back s all 4 6 (body-length s 0 / 4) (omega arith))
       ∙ ap (λ (n : ℕ). record-of 1 (take n (drop 6 s))) whole
 
-  cells-back : cell-record (cells-in s) ≡ record-of 2 (body-of s (second s))
+  cells-back : cell-record (kind-in s) (cells-in s) ≡ record-of (kind-in s) (body-of s (second s))
   unfolding cell-record cells-in
   cells-back =
       let f = is-framed s h in
       let y = f .cells .ends in
       let z = f .doors .ends in
       let whole : 2 * (body-length s (second s) / 2) ≡ body-length s (second s) = let m = f .cells .multiple in omega arith in
-      ap (record-of 2) (all-bytes-back s all 2 (second s + 6) (body-length s (second s) / 2) (omega arith))
-      ∙ ap (λ (n : ℕ). record-of 2 (take n (drop (second s + 6) s))) whole
+      ap (record-of (kind-in s)) (all-bytes-back s all 2 (second s + 6) (body-length s (second s) / 2) (omega arith))
+      ∙ ap (λ (n : ℕ). record-of (kind-in s) (take n (drop (second s + 6) s))) whole
 
   doors-back : door-record (doors-in s) ≡ record-of 3 (body-of s (third s))
   unfolding door-record doors-in
@@ -45,7 +45,7 @@ module _ (s : List ℕ) (all : AllBytes s) (h : framed s ≡ true) where
       ∙ ap (λ (n : ℕ). record-of 3 (take n (drop (third s + 6) s))) whole
 
   -- the one file of the lists of a framed file is that file
-  pub the-same-bytes : file-of (corners-in s) (cells-in s) (doors-in s) ≡ s
+  pub the-same-bytes : file-of (kind-in s) (corners-in s) (cells-in s) (doors-in s) ≡ s
   unfolding file-of
   the-same-bytes =
       ap₂ (λ (u v : List ℕ). u ++ v) corners-back (ap₂ (λ (u v : List ℕ). u ++ v) cells-back doors-back)

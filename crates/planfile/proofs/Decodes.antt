@@ -1,25 +1,31 @@
 -- The reader, way out by way out: the lists that are decoded, and the reply with the lists that are left.
 use mathlib.Core.Bool.{Bool, true, false}
 use mathlib.Core.List.{List, _++_, map}
-use mathlib.Core.Path.{_≡_, sym, ap, ap₂, _∙_}
+use mathlib.Core.Path.{_≡_, refl, sym, ap, ap₂, _∙_}
 use Prim.Native.Nat.{ℕ, _+_, _-_, _*_, _/_, _%_, _≤_}
 use native.Mathlib.Omega.{arith}
 use lib.ListN.{length, take, drop, length-map}
 use lib.Seq.{length-take-le, length-front, take-at}
 use lib.IntN.{ℤ}
 use Rattle.limits.specs.Limits.{sized}
-use Rattle.plan.specs.Check.{checked}
 use Rattle.limits.specs.declared.Refusal.{Refusal}
 use Rattle.limits.specs.declared.Refusal.the-variants.{Frame, Size}
 use Rattle.limits.specs.declared.Checked.{Checked}
 use Rattle.limits.specs.declared.Checked.the-variants.{Refused}
-use Rattle.plan.proofs.Checks.{multiples-are-framed, out-of-size}
+use Rattle.cells.specs.Check.{checked}
+use Rattle.checking.proofs.Measures.{whole-in-frame, no-whole-cells, not-in-size, all-counted, refused-likewise, counted-fit}
+use Rattle.draw.specs.Counted.{counted}
+use Rattle.draw.specs.declared.Counted.{Counted}
+use Rattle.draw.specs.declared.Counted.the-variants.{Whole, Broken}
 use Rattle.records.specs.Bytes.{numbers-at, signed}
 use Rattle.records.specs.Record.{framed}
 use Rattle.records.proofs.Spelled.{length-numbers-at}
-use Rattle.planfile.specs.File.{corners-in, cells-in, doors-in}
-use Rattle.planfile.specs.Calls.{given-room, has-room, lists-reply, read-reply, handed-over, read}
+use Rattle.planfile.specs.File.{corners-in, cells-in, doors-in, kind-in}
+use Rattle.planfile.specs.Calls.{given-room, has-room, lists-checked, file-checked, told, lists-left, read}
+use Rattle.planfile.specs.declared.ReadPlan.{ReadPlan}
+use Rattle.planfile.specs.declared.ReadPlan.the-variants.{Refused as ReadRefused}
 use Rattle.planfile.proofs.Accepts.{refused-stays}
+use Rattle.planfile.proofs.CellLists.{by-kind, few-numbers}
 use Rattle.planfile.proofs.Places.{Places}
 
 -- ---- a list decoded into the beginning of another
@@ -75,49 +81,65 @@ module _ {s : List ℕ} {b c : ℕ} (p : Places s b c) where
 -- ---- the replies
 
 -- what is not framed is refused, and what is framed goes by its lists
-pub unframed : (s : List ℕ) (n m k : ℕ) → framed s ≡ false → read-reply s n m k ≡ Refused Frame
-unfolding read-reply
+pub unframed : (s : List ℕ) (n m k : ℕ) → framed s ≡ false → file-checked s n m k ≡ Refused Frame
+unfolding file-checked
 unframed s n m k h = simp h
 
-pub by-its-lists : (s : List ℕ) (n m k : ℕ) → framed s ≡ true → read-reply s n m k ≡ lists-reply (corners-in s) (cells-in s) (doors-in s) n m k
-unfolding read-reply
+pub by-its-lists : (s : List ℕ) (n m k : ℕ) → framed s ≡ true → file-checked s n m k ≡ lists-checked (kind-in s) (corners-in s) (cells-in s) (doors-in s) n m k
+unfolding file-checked
 by-its-lists s n m k h = simp h
 
 module _ (s : List ℕ) (corners : List ℤ) (cells doors : List ℕ) where
   abbrev reply : Checked
-  reply = read-reply s (length corners) (length cells) (length doors)
+  reply = file-checked s (length corners) (length cells) (length doors)
 
   abbrev room : Bool
   room = has-room (corners-in s) (cells-in s) (doors-in s) (length corners) (length cells) (length doors)
 
-  refused : (r : Refusal) → reply ≡ Refused r → (Refused r, (corners, (cells, doors))) ≡ read s corners cells doors
-  refused r e = sym (ap (λ (q : Checked). handed-over q (corners-in s) (cells-in s) (doors-in s) corners cells doors) e)
+  -- a reply, told, with the lists that it leaves
+  replied : {q : Checked} → q ≡ reply → (told (kind-in s) (length (cells-in s)) q, lists-left q (corners-in s) (cells-in s) (doors-in s) corners cells doors) ≡ read s corners cells doors
+  replied e =
+      ap (λ (q : Checked). (told (kind-in s) (length (cells-in s)) q, lists-left q (corners-in s) (cells-in s) (doors-in s) corners cells doors)) e
 
-  pub not-framed : framed s ≡ false → (Refused Frame, (corners, (cells, doors))) ≡ read s corners cells doors
-  not-framed h = refused Frame (unframed s (length corners) (length cells) (length doors) h)
+  pub not-framed : framed s ≡ false → (ReadRefused Frame, (corners, (cells, doors))) ≡ read s corners cells doors
+  not-framed h = replied (sym (unframed s (length corners) (length cells) (length doors) h))
 
   module _ (fr : framed s ≡ true) where
-    its-lists : reply ≡ lists-reply (corners-in s) (cells-in s) (doors-in s) (length corners) (length cells) (length doors)
+    its-lists : reply ≡ lists-checked (kind-in s) (corners-in s) (cells-in s) (doors-in s) (length corners) (length cells) (length doors)
     its-lists = by-its-lists s (length corners) (length cells) (length doors) fr
 
-    pub wrong-size : {b c : ℕ} → Places s b c → sized ((b - 6) / 4 / 2) ((c - b - 6) / 2 / 6) ((length s - c - 6) / 2) ≡ false → (Refused Size, (corners, (cells, doors))) ≡ read s corners cells doors
-    wrong-size {b} {c} p h =
-        let n = corners-long p in
-        let m = cells-long p in
-        let k = doors-long p in
-        let even : length (corners-in s) % 2 ≡ 0 = omega arith in
-        let six : length (cells-in s) % 6 ≡ 0 = omega arith in
-        let sizes : sized (length (corners-in s) / 2) (length (cells-in s) / 6) (length (doors-in s)) ≡ false =
-        ap (λ (j : ℕ). sized (j / 2) (length (cells-in s) / 6) (length (doors-in s))) n
-        ∙ ap₂ (λ (i j : ℕ). sized ((b - 6) / 4 / 2) (i / 6) j) m k
-        ∙ h
-        in
-        let size : checked (corners-in s) (cells-in s) (doors-in s) ≡ Refused Size = sym (out-of-size (corners-in s) (cells-in s) (doors-in s) (multiples-are-framed (corners-in s) (cells-in s) even six) sizes) in
-        refused Size (its-lists ∙ ap (given-room room) size ∙ refused-stays room Size)
+    -- what the check refuses is refused, with room or without
+    refused : {r : Refusal} → Refused r ≡ checked (kind-in s) (corners-in s) (cells-in s) (doors-in s) → (ReadRefused r, (corners, (cells, doors))) ≡ read s corners cells doors
+    refused {r} e = replied (sym (its-lists ∙ ap (given-room room) (sym e) ∙ refused-stays room r))
 
-    pub lists-read : {cs : List ℤ} {ts ds : List ℕ} → cs ≡ corners-in s → ts ≡ cells-in s → ds ≡ doors-in s → {r : Checked × (List ℤ × (List ℕ × List ℕ))} → r ≡ handed-over (lists-reply cs ts ds (length corners) (length cells) (length doors)) cs ts ds corners cells doors → r ≡ read s corners cells doors
-    lists-read {cs} {ts} {ds} e f g {r} h =
-        h
-        ∙ ap (λ (l : List ℤ). handed-over (lists-reply l ts ds (length corners) (length cells) (length doors)) l ts ds corners cells doors) e
-        ∙ ap₂ (λ (l m : List ℕ). handed-over (lists-reply (corners-in s) l m (length corners) (length cells) (length doors)) (corners-in s) l m corners cells doors) f g
-        ∙ sym (ap (λ (q : Checked). handed-over q (corners-in s) (cells-in s) (doors-in s) corners cells doors) its-lists)
+    module _ {b c : ℕ} (p : Places s b c) {k : ℕ} (is-k : k ≡ kind-in s) {r : Counted} (is-r : r ≡ counted k (cells-in s)) where
+      its-counts : r ≡ counted (kind-in s) (cells-in s)
+      its-counts = is-r ∙ ap (λ (j : ℕ). counted j (cells-in s)) is-k
+
+      even-corners : length (corners-in s) % 2 ≡ 0
+      even-corners =
+          let e = p .eight in
+          omega (arith, corners-long p)
+
+      pub not-cut : r ≡ Broken → (ReadRefused Frame, (corners, (cells, doors))) ≡ read s corners cells doors
+      not-cut h =
+          refused (refused-likewise (kind-in s) (corners-in s) (cells-in s) (doors-in s) (no-whole-cells (kind-in s) (corners-in s) (cells-in s) (doors-in s) even-corners its-counts h) refl)
+
+      module _ {n f : ℕ} (w : r ≡ Whole n f) {q : Bool} (is-q : q ≡ sized ((b - 6) / 4 / 2) n ((length s - c - 6) / 2)) where
+        its-size : q ≡ sized (length (corners-in s) / 2) n (length (doors-in s))
+        its-size = is-q ∙ ap₂ (λ (i j : ℕ). sized (i / 2) n j) (sym (corners-long p)) (sym (doors-long p))
+
+        pub wrong-size : q ≡ false → (ReadRefused Size, (corners, (cells, doors))) ≡ read s corners cells doors
+        wrong-size h =
+            refused (refused-likewise (kind-in s) (corners-in s) (cells-in s) (doors-in s) (not-in-size (kind-in s) (corners-in s) (cells-in s) (doors-in s) even-corners its-counts w its-size h) refl)
+
+        -- a list of no more cells than a plan may have is not too long to be decoded
+        pub few-cells : q ≡ true → (c - b - 6) / 2 ≤ 17 * n
+        few-cells h =
+            let fit = counted-fit (kind-in s) (corners-in s) (cells-in s) (doors-in s) (all-counted (kind-in s) (corners-in s) (cells-in s) (doors-in s) even-corners its-counts w its-size h) refl in
+            omega (arith, fit .cells, cells-long p, few-numbers (by-kind (kind-in s) (cells-in s) (whole-in-frame (kind-in s) (corners-in s) (cells-in s) (fit .in-frame))))
+
+    pub lists-read : {k : ℕ} {cs : List ℤ} {ts ds : List ℕ} → k ≡ kind-in s → cs ≡ corners-in s → ts ≡ cells-in s → ds ≡ doors-in s → {m : ℕ} → m ≡ length (cells-in s) → {q : Checked} → q ≡ lists-checked k cs ts ds (length corners) (length cells) (length doors) → {l : List ℤ × (List ℕ × List ℕ)} → l ≡ lists-left q cs ts ds corners cells doors → {r : ReadPlan} → r ≡ told k m q → (r, l) ≡ read s corners cells doors
+    lists-read {k} {cs} {ts} {ds} is-k e f g {m} is-m {q} is-q {l} is-l {r} is-r =
+        let its = its-lists in
+        cc

@@ -1,3 +1,5 @@
+-- a list that is cut into whole cells: its kind, its length, its numbers
+pub mod CellLists
 -- what is known of lists that the check accepts, and of a reply that asks for room
 pub mod Accepts
 -- the writer, way out by way out
@@ -6,6 +8,8 @@ pub mod Writes
 pub mod Hands
 -- where the records of a framed file lie, and how long its lists are
 pub mod Places
+-- the cells of a file counted where they stand
+pub mod Counts
 -- the reader, way out by way out
 pub mod Decodes
 -- the numbers of an accepted plan have room in their fields

@@ -1,24 +1,25 @@
 -- The numbers of an accepted plan have room in their fields: a coordinate in four bytes, each other number in two.
 use mathlib.Core.List.{List}
 use mathlib.Core.Path.{_≡_, sym, subst}
-use Prim.Native.Nat.{ℕ, _+_, _-_, _*_, _/_, _%_, _^_, _<_, _≤_}
+use Prim.Native.Nat.{ℕ, _+_, _*_, _/_, _%_, _^_, _<_, _≤_}
 use native.Mathlib.Decide.{decLt, ℕ-discrete}
 use native.Mathlib.Omega.{arith}
 use lib.ListN.{length, getD, List·getD-eq-default}
 use lib.IntN.{ℤ, pos, negsuc, natAbs}
 use lib.Signed.{mag}
 use Rattle.limits.specs.Limits.{wall}
-use Rattle.plan.specs.Lists.{corner-count, cell-count, face-count, start, neighbour}
-use Rattle.plan.specs.Sound.{Sound}
-use Rattle.plan.proofs.Neighbours.{right-and-free}
-use Rattle.plan.proofs.Plans.{Counts, counts, corner-exists, door-exists}
+use Rattle.cells.specs.Lists.{Cells, corner-count, cell-count, face-count, start, neighbour}
+use Rattle.cells.specs.Sound.{Sound}
+use Rattle.cells.proofs.Neighbours.{right-and-free}
+use Rattle.cells.proofs.Plans.{Counts, counts, faces-at-most, corner-exists, door-exists}
+use Rattle.planfile.proofs.CellLists.{InTwoBytes}
 
 mag-small : (z : ℤ) → natAbs z ≤ 536870912 → mag z < 2 ^ 31
 mag-small (pos n) h = omega arith
 mag-small (negsuc n) h = omega arith
 
-module _ {cs : List ℤ} {ts ds : List ℕ} (sound : Sound cs ts ds) where
-  known : Counts (corner-count cs) (cell-count ts) (length ds)
+module _ {cs : List ℤ} {T : Cells} {ds : List ℕ} (sound : Sound cs T ds) where
+  known : Counts (corner-count cs) (cell-count T) (length ds)
   known = counts _ _ _ (sound .in-size)
 
   pub coordinate-in-width : (i : ℕ) → mag (getD cs i (pos 0)) < 2 ^ 31
@@ -35,32 +36,32 @@ module _ {cs : List ℤ} {ts ds : List ℕ} (sound : Sound cs ts ds) where
           subst (λ (j : ℕ). mag (getD cs j (pos 0)) < 2 ^ 31) at
           (mag-small (getD cs (2 * (i / 2) + 1) (pos 0)) (sound .corners .near (i / 2) (let e = sound .whole-corners in omega arith) .y-near .size))
 
-  corner-in-width : (f : ℕ) → f < face-count ts → start ts f < 2 ^ 16
-  corner-in-width f h = let k = known in omega (arith, corner-exists sound f h)
+  corner-in-width : (f : ℕ) → f < face-count T → start T f < 2 ^ 16
+  corner-in-width f h = let k = known in omega (arith, corner-exists (sound .numbered) (sound .cells) f h)
 
-  neighbour-in-width : (f : ℕ) → f < face-count ts → neighbour ts f < 2 ^ 16
-  neighbour-in-width f h = by-wall (ℕ-discrete (neighbour ts f) wall)
+  neighbour-in-width : (f : ℕ) → f < face-count T → neighbour T f < 2 ^ 16
+  neighbour-in-width f h = by-wall (ℕ-discrete (neighbour T f) wall)
     where
-      by-wall : Dec (neighbour ts f ≡ wall) → neighbour ts f < 2 ^ 16
+      by-wall : Dec (neighbour T f ≡ wall) → neighbour T f < 2 ^ 16
       by-wall (yes e) = omega arith
-      by-wall (no free) = let k = known in omega (arith, right-and-free ts f (sound .neighbours .right f h) free .0)
+      by-wall (no free) = let k = known in omega (arith, right-and-free T f (sound .neighbours .right f h) free .0)
 
-  pub cell-in-width : (j : ℕ) → getD ts j 0 < 2 ^ 16
+  pub face-in-width : InTwoBytes (T .faces)
   unfolding start neighbour
-  cell-in-width j = there (decLt j (length ts)) (decLt (j % 6) 3)
+  face-in-width i = there (decLt i (length (T .faces))) (decLt (i % 2) 1)
     where
-      there : Dec (j < length ts) → Dec (j % 6 < 3) → getD ts j 0 < 2 ^ 16
-      there (no n) d = subst (λ (m : ℕ). m < 2 ^ 16) (sym (List·getD-eq-default ts 0 {n = j} (omega arith))) (omega arith)
+      there : Dec (i < length (T .faces)) → Dec (i % 2 < 1) → getD (T .faces) i 0 < 2 ^ 16
+      there (no n) d = subst (λ (m : ℕ). m < 2 ^ 16) (sym (List·getD-eq-default (T .faces) 0 {n = i} (omega arith))) (omega arith)
       there (yes y) (yes x) =
-          let at : 6 * ((3 * (j / 6) + j % 6) / 3) + (3 * (j / 6) + j % 6) % 3 ≡ j = omega arith in
-          subst (λ (i : ℕ). getD ts i 0 < 2 ^ 16) at (corner-in-width (3 * (j / 6) + j % 6) (let e = sound .whole-cells in omega arith))
+          let at : 2 * (i / 2) ≡ i = omega arith in
+          subst (λ (j : ℕ). getD (T .faces) j 0 < 2 ^ 16) at (corner-in-width (i / 2) (let e = sound .numbered .whole-faces in omega arith))
       there (yes y) (no x) =
-          let at : 6 * ((3 * (j / 6) + (j % 6 - 3)) / 3) + 3 + (3 * (j / 6) + (j % 6 - 3)) % 3 ≡ j = omega arith in
-          subst (λ (i : ℕ). getD ts i 0 < 2 ^ 16) at (neighbour-in-width (3 * (j / 6) + (j % 6 - 3)) (let e = sound .whole-cells in omega arith))
+          let at : 2 * (i / 2) + 1 ≡ i = omega arith in
+          subst (λ (j : ℕ). getD (T .faces) j 0 < 2 ^ 16) at (neighbour-in-width (i / 2) (let e = sound .numbered .whole-faces in omega arith))
 
-  pub door-in-width : (i : ℕ) → getD ds i 0 < 2 ^ 16
+  pub door-in-width : InTwoBytes ds
   door-in-width i = there (decLt i (length ds))
     where
       there : Dec (i < length ds) → getD ds i 0 < 2 ^ 16
       there (no n) = subst (λ (m : ℕ). m < 2 ^ 16) (sym (List·getD-eq-default ds 0 {n = i} (omega arith))) (omega arith)
-      there (yes y) = let k = known in omega (arith, door-exists sound i y)
+      there (yes y) = let k = known in omega (arith, door-exists sound i y, faces-at-most (sound .numbered))

@@ -2,3 +2,5 @@
 pub mod File
 -- the replies of reader and writer, and what they leave in the lent memory
 pub mod Calls
+-- the reader's answer in document 01's numbers
+pub mod Reply

@@ -8,9 +8,10 @@ use lib.ListN.{length}
 use lib.IntN.{ℤ}
 use Rattle.limits.specs.Limits.{most-corners}
 use Rattle.limits.specs.declared.Refusal.the-variants as R
-use Rattle.plan.proofs.Plans.{counts}
+use Rattle.cells.specs.Cut.{cells-of}
+use Rattle.cells.proofs.Plans.{counts}
 use Rattle.records.specs.Record.{framed}
-use Rattle.planfile.specs.File.{corners-in, cells-in, doors-in}
+use Rattle.planfile.specs.File.{kind-in, corners-in, cells-in, doors-in}
 use Rattle.stand.specs.declared.spot.Stand.{Stand}
 use Rattle.stand.proofs.Located.{found-cell-holds-the-stand}
 use Rattle.sight.specs.Listing.{viewed, listing-row-count, listed-from, listed}
@@ -23,16 +24,16 @@ use Rattle.sight.proofs.Views.{view-says}
 use Rattle.printing.specs.Print.{file-listed}
 use Rattle.printing.proofs.Files.{framed-is-listed, unframed-is-refused}
 
-pub few-rows : (cs : List ℤ) (ts ds : List ℕ) (w : ℕ) (s : Stand) (table : List ℕ) {n k : ℕ} → listed cs ts ds w s table .0 ≡ L.Rows n k → (n ≤ most-corners) × (3 * n ≤ length table)
+pub few-rows : (kind : ℕ) (cs : List ℤ) (ts ds : List ℕ) (w : ℕ) (s : Stand) (table : List ℕ) {n k : ℕ} → listed kind cs ts ds w s table .0 ≡ L.Rows n k → (n ≤ most-corners) × (3 * n ≤ length table)
 unfolding listed
-few-rows cs ts ds w s table {n} {k} e = by-view (viewed cs ts ds w s (length table)) refl e
+few-rows kind cs ts ds w s table {n} {k} e = by-view (viewed kind cs ts ds w s (length table)) refl e
   where
-    by-view : (v : View) → viewed cs ts ds w s (length table) ≡ v → listed-from cs ts ds w table v .0 ≡ L.Rows n k → (n ≤ most-corners) × (3 * n ≤ length table)
+    by-view : (v : View) → viewed kind cs ts ds w s (length table) ≡ v → listed-from cs (cells-of kind ts) ds w table v .0 ≡ L.Rows n k → (n ≤ most-corners) × (3 * n ≤ length table)
     by-view (O.From x y c) h p =
-        let says = view-says cs ts ds w s (length table) h in
-        let most = rows-never-outnumber-corners (says .sound) w (record { x = x; y = y }) c (found-cell-holds-the-stand cs ts (record { x = x; y = y }) (says .stand-cell)) in
+        let says = view-says kind cs ts ds w s (length table) h in
+        let most = rows-never-outnumber-corners (says .sound) w (record { x = x; y = y }) c (found-cell-holds-the-stand cs (says .sound .numbered) (record { x = x; y = y }) (says .stand-cell)) in
         let size = counts _ _ _ (says .sound .in-size) in
-        let same : listing-row-count cs ts ds w (record { x = x; y = y }) c ≡ n = cc in
+        let same : listing-row-count cs (cells-of kind ts) ds w (record { x = x; y = y }) c ≡ n = cc in
         (omega (arith, size .corners-at-most), omega (arith, says .has-room))
     by-view (O.Refused r) h p = let z : _≡_ {A = ℕ} 0 1 = cc in absurd (omega arith)
 
@@ -44,7 +45,7 @@ few-rows-of-a-file file w s table {reply} done {n} {k} e = by-frame (framed file
     said h = ap (λ (q : Listed × List ℕ). q .0) (done ∙ h)
 
     by-frame : (b : Bool) → framed file ≡ b → (n ≤ most-corners) × (3 * n ≤ length table)
-    by-frame true fr = few-rows (corners-in file) (cells-in file) (doors-in file) w s table (sym (said (framed-is-listed file w s table fr)) ∙ e)
+    by-frame true fr = few-rows (kind-in file) (corners-in file) (cells-in file) (doors-in file) w s table (sym (said (framed-is-listed file w s table fr)) ∙ e)
     by-frame false fr =
         let none : L.Refused R.Frame ≡ L.Rows n k = sym (said (unframed-is-refused file w s table fr)) ∙ e in
         let z : _≡_ {A = ℕ} 0 1 = cc in

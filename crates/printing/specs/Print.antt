@@ -10,7 +10,7 @@ use Rattle.limits.specs.Limits.{most-corners}
 use Rattle.limits.specs.declared.Refusal.the-variants as R
 use Rattle.records.specs.Bytes.{number-at}
 use Rattle.records.specs.Record.{framed}
-use Rattle.planfile.specs.File.{corners-in, cells-in, doors-in}
+use Rattle.planfile.specs.File.{kind-in, corners-in, cells-in, doors-in}
 use Rattle.records.specs.Bits.{bits-at}
 use Rattle.stand.specs.declared.spot.Stand.{Stand}
 use Rattle.stand.specs.declared.spot.Stand.the-variants.{Point, Offset}
@@ -45,7 +45,7 @@ double-at s at = ofBits binary64 (bits-at s at)
 unfoldable pub file-listed : List ℕ → ℕ → Stand → List ℕ → Listed × List ℕ
 file-listed file w s table =
     elim (framed file) [
-      | true ↦ listed (corners-in file) (cells-in file) (doors-in file) w s table
+      | true ↦ listed (kind-in file) (corners-in file) (cells-in file) (doors-in file) w s table
       | false ↦ (L.Refused R.Frame, table)
     ]
 

@@ -7,11 +7,12 @@ ghost use Rattle.limits.specs.Limits.{most-corners, most-cells, most-doors};
 ghost use Rattle.printing.specs.Print.{most-text, begins as Print·begins, file-listed, lines, blank-table, printed, answered, Within};
 ghost use Rattle.printing.specs.Reply.{printed-reply, print-replies};
 ghost use Rattle.text.specs.Wrote.{Wrote};
-use manopluea::Checked;
 use manopluea::Listed;
 use manopluea::Plan;
+use manopluea::ReadPlan;
 use manopluea::Refusal;
 use manopluea::Stand;
+use manopluea::Terms;
 use records::bits;
 use records::bytes;
 
@@ -52,19 +53,19 @@ fn list_read(
     stand: Stand,
     table: &mut [u16],
 ) -> Listed
-    requires { ⌜ (2 * most-corners ≤ length (now corners)) × ((6 * most-cells ≤ length (now cells)) × (most-doors ≤ length (now doors))) ⌝ }
+    requires { ⌜ (2 * most-corners ≤ length (now corners)) × ((17 * most-cells ≤ length (now cells)) × (most-doors ≤ length (now doors))) ⌝ }
     ensures { λ r. ⌜ (r, now (table .exit)) ≡ file-listed (now (file .entry)) setting stand (now (table .entry)) ⌝ }
 {
     match manopluea::read(file, corners, cells, doors) {
-        Checked::Refused(r) => Listed::Refused(r),
-        Checked::Accepted(plan) => {
+        ReadPlan::Refused(r) => Listed::Refused(r),
+        ReadPlan::Accepted(plan, kind, m) => {
             let n = 2 * plan.corners;
-            let m = 6 * plan.cells;
             let k = plan.doors;
             manopluea::list(
                 &corners[..n],
                 &cells[..m],
                 &doors[..k],
+                Terms { kind },
                 setting,
                 stand,
                 table,
@@ -78,7 +79,7 @@ fn list_file(file: &[u8], setting: u64, stand: Stand, table: &mut [u16]) -> List
     ensures { λ r. ⌜ (r, now (table .exit)) ≡ file-listed (now (file .entry)) setting stand (now (table .entry)) ⌝ }
 {
     let mut corners = [0i32; 2 * Plan::MOST_CORNERS];
-    let mut cells = [0u16; 6 * Plan::MOST_CELLS];
+    let mut cells = [0u16; 17 * Plan::MOST_CELLS];
     let mut doors = [0u16; Plan::MOST_DOORS];
     list_read(
         file,

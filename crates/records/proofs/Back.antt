@@ -15,13 +15,14 @@ use Rattle.records.proofs.Signs.{signed-is, complement-is}
 
 -- ---- what is spelled in bytes is bytes
 
+-- numbers below a bound, one list behind the other
+pub append-below : {w : ℕ} (s t : List ℕ) → ((i : ℕ) → getD s i 0 < w) → ((i : ℕ) → getD t i 0 < w) → (i : ℕ) → getD (s ++ t) i 0 < w
+append-below [] t a b i = b i
+append-below (x ∷ s) t a b zero = a 0
+append-below (x ∷ s) t a b (suc i) = append-below s t (λ j. a (suc j)) b i
+
 pub append-is-bytes : {s t : List ℕ} → AllBytes s → AllBytes t → AllBytes (s ++ t)
-append-is-bytes {s} {t} a b = record { byte = go s (a .byte) }
-  where
-    go : (s : List ℕ) → ((i : ℕ) → getD s i 0 < 256) → (i : ℕ) → getD (s ++ t) i 0 < 256
-    go [] h i = b .byte i
-    go (x ∷ s) h zero = h 0
-    go (x ∷ s) h (suc i) = go s (λ j. h (suc j)) i
+append-is-bytes {s} {t} a b = record { byte = append-below s t (a .byte) (b .byte) }
 
 number-is-bytes : (k n : ℕ) → AllBytes (bytes k n)
 unfolding bytes

@@ -1,16 +1,17 @@
 -- A framed file is exactly its three records, one after the other.
 use mathlib.Core.Bool.{true}
 use mathlib.Core.List.{List, [], _++_, append-assoc, append-nil}
-use mathlib.Core.Path.{_≡_, refl, sym, ap, ap₂, _∙_}
+use mathlib.Core.Path.{_≡_, refl, sym, ap, ap₂, _∙_, subst}
 use Prim.Native.Nat.{ℕ, _+_, _%_, _^_, _<_, _≤_}
 use native.Mathlib.Omega.{arith}
 use borrow.Author.Tests.{eq-eqb}
 use lib.ListN.{length, getD, take, drop, length-append, length-drop}
 use lib.Seq.{drop-drop, take-add, take-all, length-take-le}
 use Rattle.records.specs.Bytes.{bytes, number-at, all-bytes, numbers-at, AllBytes}
-use Rattle.records.specs.Record.{record-of, body-length, end-of, second, third, is-record, framed}
+use Rattle.records.specs.Record.{record-of, body-length, kind-at, end-of, second, third, is-record, is-cells, framed}
 use Rattle.records.proofs.Spelled.{length-bytes, length-record}
-use Rattle.records.proofs.Frames.{Body, is-framed}
+use Rattle.records.proofs.Frames.{of-another-kind, of-triangles, of-polygons, Body, OfKind, is-framed}
+use Rattle.records.proofs.Frames.OfKind.{triangles, polygons}
 use Rattle.records.proofs.There.{above, above-two, above-four, number-there, numbers-there}
 use Rattle.records.proofs.Back.{bytes-back}
 
@@ -26,7 +27,7 @@ module _ {s : List ℕ} (xs : List ℕ) (kind : ℕ) (body ys : List ℕ) (at : 
       ap (λ (l : List ℕ). number-at 4 l at) apart
       ∙ number-there xs (bytes 2 kind ++ (body ++ ys)) 4 (length body) at is-at (above-four (length body) h)
 
-  pub kind-read : kind < 2 ^ 16 → number-at 2 s (at + 4) ≡ kind
+  pub kind-read : kind < 2 ^ 16 → kind-at s at ≡ kind
   kind-read h =
       let longer : length (xs ++ bytes 4 (length body)) ≡ at + 4 = length-append xs (bytes 4 (length body)) ∙ ap₂ _+_ is-at (length-bytes 4 (length body)) in
       ap (λ (l : List ℕ). number-at 2 l (at + 4)) (apart ∙ sym (append-assoc xs (bytes 4 (length body)) (bytes 2 kind ++ (body ++ ys))))
@@ -44,7 +45,7 @@ module _ {s : List ℕ} (xs : List ℕ) (kind : ℕ) (body ys : List ℕ) (at : 
   pub is-a-record : (size : ℕ) → length body < 2 ^ 32 → kind < 2 ^ 16 → length body % size ≡ 0 → is-record s at kind size ≡ true
   unfolding is-record
   is-a-record size h l m =
-      let a : number-at 2 s (at + 4) ≡ kind = kind-read l in
+      let a : kind-at s at ≡ kind = kind-read l in
       let b : body-length s at % size ≡ 0 = ap (λ (n : ℕ). n % size) (length-read h) ∙ m in
       simp (eq-eqb _ _ a, eq-eqb _ _ b)
 
@@ -54,44 +55,54 @@ module _ {s : List ℕ} (xs : List ℕ) (kind : ℕ) (body ys : List ℕ) (at : 
 
 -- ---- three records are framed
 
-module _ (a b c : List ℕ) where
+module _ (k : ℕ) (a b c : List ℕ) where
   abbrev pub three : List ℕ
-  three = record-of 1 a ++ (record-of 2 b ++ record-of 3 c)
+  three = record-of 1 a ++ (record-of k b ++ record-of 3 c)
 
-  pub as-third : three ≡ (record-of 1 a ++ record-of 2 b) ++ (record-of 3 c ++ [])
-  as-third = sym (append-assoc (record-of 1 a) (record-of 2 b) (record-of 3 c)) ∙ ap (λ (l : List ℕ). (record-of 1 a ++ record-of 2 b) ++ l) (sym (append-nil (record-of 3 c)))
+  pub as-third : three ≡ (record-of 1 a ++ record-of k b) ++ (record-of 3 c ++ [])
+  as-third = sym (append-assoc (record-of 1 a) (record-of k b) (record-of 3 c)) ∙ ap (λ (l : List ℕ). (record-of 1 a ++ record-of k b) ++ l) (sym (append-nil (record-of 3 c)))
 
   module _ (short-a : length a < 2 ^ 32) (short-b : length b < 2 ^ 32) (short-c : length c < 2 ^ 32) where
     second-is : second three ≡ 6 + length a
-    second-is = end-read [] 1 a (record-of 2 b ++ record-of 3 c) 0 refl refl short-a ∙ omega arith
+    second-is = end-read [] 1 a (record-of k b ++ record-of 3 c) 0 refl refl short-a ∙ omega arith
 
     pub at-second : length (record-of 1 a) ≡ second three
     at-second = length-record 1 a ∙ sym second-is
 
     third-is : third three ≡ second three + 6 + length b
-    third-is = end-read (record-of 1 a) 2 b (record-of 3 c) (second three) refl at-second short-b
+    third-is = end-read (record-of 1 a) k b (record-of 3 c) (second three) refl at-second short-b
 
-    pub at-third : length (record-of 1 a ++ record-of 2 b) ≡ third three
-    at-third = length-append (record-of 1 a) (record-of 2 b) ∙ ap₂ _+_ at-second (length-record 2 b) ∙ omega (arith, third-is)
+    pub at-third : length (record-of 1 a ++ record-of k b) ≡ third three
+    at-third = length-append (record-of 1 a) (record-of k b) ∙ ap₂ _+_ at-second (length-record k b) ∙ omega (arith, third-is)
 
     end-is : end-of three (third three) ≡ length three
     end-is =
-        let e : end-of three (third three) ≡ third three + 6 + length c = end-read (record-of 1 a ++ record-of 2 b) 3 c [] (third three) as-third at-third short-c in
+        let e : end-of three (third three) ≡ third three + 6 + length c = end-read (record-of 1 a ++ record-of k b) 3 c [] (third three) as-third at-third short-c in
         let x = length-record 1 a in
-        let y = length-record 2 b in
+        let y = length-record k b in
         let z = length-record 3 c in
-        let l : length three ≡ length (record-of 1 a) + (length (record-of 2 b) + length (record-of 3 c)) = simp length-append in
+        let l : length three ≡ length (record-of 1 a) + (length (record-of k b) + length (record-of 3 c)) = simp length-append in
         let u = second-is in
         let v = third-is in
         omega arith
 
-    pub three-records-are-framed : length a % 8 ≡ 0 → length b % 12 ≡ 0 → length c % 2 ≡ 0 → framed three ≡ true
+    cells-are-read : OfKind k (length b) → is-cells three (second three) ≡ true
+    cells-are-read (triangles e m) =
+        let one = is-a-record (record-of 1 a) k b (record-of 3 c) (second three) refl at-second 12 short-b (omega arith) m in
+        sym (of-triangles three (second three) (sym (subst (λ (j : ℕ). is-record three (second three) j 12 ≡ true) e one)) refl)
+    cells-are-read (polygons e m) =
+        let kind = kind-read (record-of 1 a) k b (record-of 3 c) (second three) refl at-second (omega arith) in
+        let one = is-a-record (record-of 1 a) k b (record-of 3 c) (second three) refl at-second 2 short-b (omega arith) m in
+        sym
+        (of-polygons three (second three) (of-another-kind three (second three) 2 12 (sym kind) (λ w. omega arith)) refl
+        (sym (subst (λ (j : ℕ). is-record three (second three) j 2 ≡ true) e one)))
+
+    pub three-records-are-framed : length a % 8 ≡ 0 → OfKind k (length b) → length c % 2 ≡ 0 → framed three ≡ true
     unfolding framed
-    three-records-are-framed i j k =
-        let first : is-record three 0 1 8 ≡ true = is-a-record [] 1 a (record-of 2 b ++ record-of 3 c) 0 refl refl 8 short-a (omega arith) i in
-        let middle : is-record three (second three) 2 12 ≡ true = is-a-record (record-of 1 a) 2 b (record-of 3 c) (second three) refl at-second 12 short-b (omega arith) j in
-        let last : is-record three (third three) 3 2 ≡ true = is-a-record (record-of 1 a ++ record-of 2 b) 3 c [] (third three) as-third at-third 2 short-c (omega arith) k in
-        simp (eq-eqb _ _ end-is, first, middle, last)
+    three-records-are-framed i j l =
+        let first : is-record three 0 1 8 ≡ true = is-a-record [] 1 a (record-of k b ++ record-of 3 c) 0 refl refl 8 short-a (omega arith) i in
+        let last : is-record three (third three) 3 2 ≡ true = is-a-record (record-of 1 a ++ record-of k b) 3 c [] (third three) as-third at-third 2 short-c (omega arith) l in
+        simp (eq-eqb _ _ end-is, first, cells-are-read j, last)
 
 -- ---- and a framed file is three records
 
@@ -119,7 +130,7 @@ module _ (s : List ℕ) (all : AllBytes s) where
       ∙ pieces s 4 (2 + n) at
       ∙ ap (λ (j : ℕ). take j (drop at s)) whole
 
-  pub framed-is-three-records : framed s ≡ true → s ≡ three (body-of s 0) (body-of s (second s)) (body-of s (third s))
+  pub framed-is-three-records : framed s ≡ true → s ≡ three (kind-at s (second s)) (body-of s 0) (body-of s (second s)) (body-of s (third s))
   framed-is-three-records h =
       let f = is-framed s h in
       let x = f .corners .ends in

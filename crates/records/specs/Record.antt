@@ -1,5 +1,5 @@
--- Records (document 01, "The plan file"): the three kinds of a plan file, and the frame of a file.
-use mathlib.Core.Bool.{Bool, _&&_}
+-- Records (document 01, "The plan file"; document 02, A14): the kinds of a plan file, and the frame of a file.
+use mathlib.Core.Bool.{Bool, _&&_, _||_}
 use mathlib.Core.List.{List, _++_, map}
 use Prim.Native.Nat.{ℕ, _+_, _%_}
 use lib.Dec.{eqb}
@@ -17,9 +17,9 @@ record-of kind body = bytes 4 (length body) ++ (bytes 2 kind ++ body)
 unfoldable pub corner-record : List ℤ → List ℕ
 corner-record cs = record-of 1 (all-bytes 4 (map complement cs))
 
--- cells: 12 bytes each, three two-byte corner numbers, then three two-byte neighbours
-unfoldable pub cell-record : List ℕ → List ℕ
-cell-record ts = record-of 2 (all-bytes 2 ts)
+-- cells, of kind 2 or 12: two-byte numbers
+unfoldable pub cell-record : ℕ → List ℕ → List ℕ
+cell-record k ts = record-of k (all-bytes 2 ts)
 
 -- doors: 2 bytes each, a face number
 unfoldable pub door-record : List ℕ → List ℕ
@@ -30,6 +30,10 @@ door-record ds = record-of 3 (all-bytes 2 ds)
 -- the length of the body of the record that begins at `at`
 abbrev pub body-length : List ℕ → ℕ → ℕ
 body-length s at = number-at 4 s at
+
+-- the kind of the record that begins at `at`
+abbrev pub kind-at : List ℕ → ℕ → ℕ
+kind-at s at = number-at 2 s (at + 4)
 
 -- where the record that begins at `at` ends
 unfoldable pub end-of : List ℕ → ℕ → ℕ
@@ -44,8 +48,12 @@ third s = end-of s (second s)
 
 -- the record that begins at `at` is of this kind, and its body is a multiple of `size`
 unfoldable pub is-record : List ℕ → ℕ → ℕ → ℕ → Bool
-is-record s at kind size = eqb (number-at 2 s (at + 4)) kind && eqb (body-length s at % size) 0
+is-record s at kind size = eqb (kind-at s at) kind && eqb (body-length s at % size) 0
+
+-- it is a list of cells: of kind 2, 12 bytes each, or of kind 12, whole numbers of two bytes
+unfoldable pub is-cells : List ℕ → ℕ → Bool
+is-cells s at = is-record s at 2 12 || is-record s at 12 2
 
 -- the file is the three records in their order, and nothing after them: then no byte past its end is read
 unfoldable pub framed : List ℕ → Bool
-framed s = eqb (end-of s (third s)) (length s) && is-record s 0 1 8 && is-record s (second s) 2 12 && is-record s (third s) 3 2
+framed s = eqb (end-of s (third s)) (length s) && is-record s 0 1 8 && is-cells s (second s) && is-record s (third s) 3 2

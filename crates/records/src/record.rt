@@ -5,7 +5,7 @@ ghost use Prim.Native.Nat.{_+_, _*_, _^_, _<_, _≤_};
 ghost use lib.ListN.{length};
 ghost use lib.Seq.{sets};
 ghost use Rattle.records.specs.Bytes.{bytes, all-bytes};
-ghost use Rattle.records.specs.Record.{record-of, corner-record, end-of, is-record, framed};
+ghost use Rattle.records.specs.Record.{record-of, corner-record, kind-at, end-of, is-record, is-cells, framed};
 use crate::bytes;
 use crate::list;
 
@@ -44,16 +44,35 @@ pub fn end(s: &[u8], at: usize) -> usize
     at + 6 + bytes::four(s, at)
 }
 
+// The kind of the record that begins at `at`.
+pub fn kind(s: &[u8], at: usize) -> u16
+    requires { ⌜ at + 6 ≤ length (now s) ⌝ }
+    ensures { λ r. ⌜ r ≡ kind-at (now (s .entry)) at ⌝ }
+{
+    bytes::two(s, at + 4) as u16
+}
+
 // Is the record that begins at `at` of this kind, and its body a multiple of `size`?
-fn is_of(s: &[u8], at: usize, kind: usize, size: usize) -> bool
+fn is_of(s: &[u8], at: usize, wanted: u16, size: usize) -> bool
     requires { ⌜ at + 6 ≤ length (now s) ⌝ }
     requires { ⌜ 0 < size ⌝ }
-    ensures { λ r. ⌜ r ≡ is-record (now (s .entry)) at kind size ⌝ }
+    ensures { λ r. ⌜ r ≡ is-record (now (s .entry)) at wanted size ⌝ }
 {
-    if bytes::two(s, at + 4) != kind {
+    if kind(s, at) != wanted {
         return false;
     }
     bytes::four(s, at) % size == 0
+}
+
+// Is the record that begins at `at` a list of cells, of either kind?
+fn is_cells(s: &[u8], at: usize) -> bool
+    requires { ⌜ at + 6 ≤ length (now s) ⌝ }
+    ensures { λ r. ⌜ r ≡ is-cells (now (s .entry)) at ⌝ }
+{
+    if is_of(s, at, 2, 12) {
+        return true;
+    }
+    is_of(s, at, 12, 2)
 }
 
 // Is the file the three records in their order, and nothing after them?
@@ -78,7 +97,7 @@ pub fn is_framed(s: &[u8]) -> bool
     if !is_of(s, 0, 1, 8) {
         return false;
     }
-    if !is_of(s, second, 2, 12) {
+    if !is_cells(s, second) {
         return false;
     }
     is_of(s, third, 3, 2)

@@ -1,5 +1,5 @@
 -- Laws of the door setting: a door that is shut or opened, the others, wrong settings, and where sight ends.
-use mathlib.Core.Bool.{Bool, true, false, not, _&&_, _||_, and-false}
+use mathlib.Core.Bool.{Bool, true, false, not, _&&_, _||_, and-false, or-true}
 use mathlib.Core.List.{List}
 use mathlib.Core.Logic.{_↔_}
 use mathlib.Core.Path.{_≡_, refl, sym, ap, _∙_, subst, fun-ext}
@@ -12,20 +12,15 @@ use borrow.Author.Tests.{eq-eqb, ne-eqb, lt-ltb, le-ltb, eqb-true, eqb-false, lt
 use lib.Arith.{bin-ind}
 use lib.Bits.{bitAnd, bitOr, and-high, and-le-l, and-step, or-add-and, or-lt}
 use lib.Dec.{eqb, ltb, lit<}
-use lib.IntN.{ℤ}
 use lib.ListN.{length, getD}
 use lib.Pow.{pow-pos, pow-mono, pow-lt, shl-exact, shr-shr}
 use Rattle.limits.specs.Limits.{wall}
-use Rattle.plan.specs.Least.{least}
-use Rattle.plan.specs.Lists.{neighbour, back}
-use Rattle.plan.specs.Check.{names, checked}
-use Rattle.limits.specs.declared.Plan.{Plan}
-use Rattle.limits.specs.declared.Checked.the-variants.{Accepted}
+use Rattle.cells.specs.Least.{least}
+use Rattle.cells.specs.Lists.{Cells, neighbour, back}
+use Rattle.cells.specs.Check.{names}
 use Rattle.setting.specs.Setting.{shut, with-shut, with-open, wrong-setting, bars, ends}
-use Rattle.plan.proofs.Accepted.{accepted-doors}
-use Rattle.plan.proofs.Least.{not-both, none-holds, least-is-none}
-use Rattle.plan.proofs.Neighbours.{or-true}
-use Rattle.plan.proofs.Doors.{names-the-face, names-the-back, names-neither}
+use Rattle.cells.proofs.Least.{not-both, none-holds, least-is-none}
+use Rattle.cells.proofs.Doors.{names-the-face, names-the-back, names-neither}
 
 -- ---- bit by bit
 
@@ -294,81 +289,81 @@ module _ (ds : List ℕ) (w f g e : ℕ) where
   unfolding bars
   a-door-elsewhere-bars-nothing h = simp (h, and-false (shut w e))
 
-module _ (ts ds : List ℕ) (w f : ℕ) where
-  pub sight-ends-at-a-wall : neighbour ts f ≡ wall → ends ts ds w f ≡ true
+module _ (T : Cells) (ds : List ℕ) (w f : ℕ) where
+  pub sight-ends-at-a-wall : neighbour T f ≡ wall → ends T ds w f ≡ true
   unfolding ends
   sight-ends-at-a-wall h = simp (eq-eqb _ _ h)
 
-  pub sight-ends-at-a-shut-door : (e : ℕ) → e < length ds → shut w e ≡ true → names ds f (back ts f) e ≡ true → ends ts ds w f ≡ true
+  pub sight-ends-at-a-shut-door : (e : ℕ) → e < length ds → shut w e ≡ true → names ds f (back T f) e ≡ true → ends T ds w f ≡ true
   unfolding ends bars
-  sight-ends-at-a-shut-door e h s n = by-place (decLt (least (bars ds w f (back ts f)) (length ds) 0) (length ds))
+  sight-ends-at-a-shut-door e h s n = by-place (decLt (least (bars ds w f (back T f)) (length ds) 0) (length ds))
     where
-      by-place : Dec (least (bars ds w f (back ts f)) (length ds) 0 < length ds) → ends ts ds w f ≡ true
-      by-place (yes l) = simp (lt-ltb _ _ l, or-true (eqb (neighbour ts f) wall))
-      by-place (no l) = absurd (not-both (simp (s, n)) (none-holds (bars ds w f (back ts f)) (length ds) (omega arith) e h))
+      by-place : Dec (least (bars ds w f (back T f)) (length ds) 0 < length ds) → ends T ds w f ≡ true
+      by-place (yes l) = simp (lt-ltb _ _ l, or-true (eqb (neighbour T f) wall))
+      by-place (no l) = absurd (not-both (simp (s, n)) (none-holds (bars ds w f (back T f)) (length ds) (omega arith) e h))
 
-  pub sight-passes-elsewhere : (neighbour ts f ≡ wall → ⊥) → ((e : ℕ) → e < length ds → bars ds w f (back ts f) e ≡ false) → ends ts ds w f ≡ false
+  pub sight-passes-elsewhere : (neighbour T f ≡ wall → ⊥) → ((e : ℕ) → e < length ds → bars ds w f (back T f) e ≡ false) → ends T ds w f ≡ false
   unfolding ends
   sight-passes-elsewhere free none =
-      let all : length ds ≤ least (bars ds w f (back ts f)) (length ds) 0 =
-      omega (arith, least-is-none (bars ds w f (back ts f)) (length ds) 0 (λ e h l. none e (omega arith)))
+      let all : length ds ≤ least (bars ds w f (back T f)) (length ds) 0 =
+      omega (arith, least-is-none (bars ds w f (back T f)) (length ds) 0 (λ e h l. none e (omega arith)))
       in
       simp (ne-eqb _ _ free, le-ltb _ _ all)
 
 -- only the doors that name a face count there
-pub sight-by-the-doors-named : (ts ds : List ℕ) (v w f : ℕ) → ((e : ℕ) → names ds f (back ts f) e ≡ true → shut v e ≡ shut w e) → ends ts ds v f ≡ ends ts ds w f
+pub sight-by-the-doors-named : (T : Cells) (ds : List ℕ) (v w f : ℕ) → ((e : ℕ) → names ds f (back T f) e ≡ true → shut v e ≡ shut w e) → ends T ds v f ≡ ends T ds w f
 unfolding ends bars
-sight-by-the-doors-named ts ds v w f same =
-    ap (λ (t : ℕ → Bool). eqb (neighbour ts f) wall || ltb (least t (length ds) 0) (length ds)) (fun-ext (λ e. by-name e (names ds f (back ts f) e) refl))
+sight-by-the-doors-named T ds v w f same =
+    ap (λ (t : ℕ → Bool). eqb (neighbour T f) wall || ltb (least t (length ds) 0) (length ds)) (fun-ext (λ e. by-name e (names ds f (back T f) e) refl))
   where
-    by-name : (e : ℕ) (b : Bool) → names ds f (back ts f) e ≡ b → bars ds v f (back ts f) e ≡ bars ds w f (back ts f) e
-    by-name e true p = ap (λ (a : Bool). a && names ds f (back ts f) e) (same e p)
-    by-name e false p = a-door-elsewhere-bars-nothing ds v f (back ts f) e p ∙ sym (a-door-elsewhere-bars-nothing ds w f (back ts f) e p)
+    by-name : (e : ℕ) (b : Bool) → names ds f (back T f) e ≡ b → bars ds v f (back T f) e ≡ bars ds w f (back T f) e
+    by-name e true p = ap (λ (a : Bool). a && names ds f (back T f) e) (same e p)
+    by-name e false p = a-door-elsewhere-bars-nothing ds v f (back T f) e p ∙ sym (a-door-elsewhere-bars-nothing ds w f (back T f) e p)
 
-module _ (ts ds : List ℕ) (w i : ℕ) where
+module _ (T : Cells) (ds : List ℕ) (w i : ℕ) where
   -- ---- at the door's two faces
 
-  pub shutting-ends-sight-at-the-face : i < length ds → ends ts ds (with-shut w i) (getD ds i 0) ≡ true
+  pub shutting-ends-sight-at-the-face : i < length ds → ends T ds (with-shut w i) (getD ds i 0) ≡ true
   shutting-ends-sight-at-the-face h =
-      sight-ends-at-a-shut-door ts ds (with-shut w i) (getD ds i 0) i h (shutting-shuts-the-door w i) (names-the-face _ _ _ _ refl)
+      sight-ends-at-a-shut-door T ds (with-shut w i) (getD ds i 0) i h (shutting-shuts-the-door w i) (names-the-face _ _ _ _ refl)
 
-  pub shutting-ends-sight-at-the-back : i < length ds → back ts (back ts (getD ds i 0)) ≡ getD ds i 0 → ends ts ds (with-shut w i) (back ts (getD ds i 0)) ≡ true
+  pub shutting-ends-sight-at-the-back : i < length ds → back T (back T (getD ds i 0)) ≡ getD ds i 0 → ends T ds (with-shut w i) (back T (getD ds i 0)) ≡ true
   shutting-ends-sight-at-the-back h again =
-      sight-ends-at-a-shut-door ts ds (with-shut w i) (back ts (getD ds i 0)) i h (shutting-shuts-the-door w i) (names-the-back _ _ _ _ (sym again))
+      sight-ends-at-a-shut-door T ds (with-shut w i) (back T (getD ds i 0)) i h (shutting-shuts-the-door w i) (names-the-back _ _ _ _ (sym again))
 
   -- ---- at every other face
 
-  module _ (f : ℕ) (not-the-face : f ≡ getD ds i 0 → ⊥) (not-the-back : f ≡ back ts (getD ds i 0) → ⊥) (again : (neighbour ts f ≡ wall → ⊥) → back ts (back ts f) ≡ f) where
+  module _ (f : ℕ) (not-the-face : f ≡ getD ds i 0 → ⊥) (not-the-back : f ≡ back T (getD ds i 0) → ⊥) (again : (neighbour T f ≡ wall → ⊥) → back T (back T f) ≡ f) where
     -- the setting's other doors decide
-    other-doors : (v : ℕ) → ((j : ℕ) → (j ≡ i → ⊥) → shut v j ≡ shut w j) → ends ts ds v f ≡ ends ts ds w f
-    other-doors v others = by-wall (ℕ-discrete (neighbour ts f) wall)
+    other-doors : (v : ℕ) → ((j : ℕ) → (j ≡ i → ⊥) → shut v j ≡ shut w j) → ends T ds v f ≡ ends T ds w f
+    other-doors v others = by-wall (ℕ-discrete (neighbour T f) wall)
       where
-        by-door : (neighbour ts f ≡ wall → ⊥) → (e : ℕ) → names ds f (back ts f) e ≡ true → Dec (e ≡ i) → shut v e ≡ shut w e
+        by-door : (neighbour T f ≡ wall → ⊥) → (e : ℕ) → names ds f (back T f) e ≡ true → Dec (e ≡ i) → shut v e ≡ shut w e
         by-door free e n (yes same) =
-            absurd (not-both (subst (λ (j : ℕ). names ds f (back ts f) j ≡ true) same n)
-            (names-neither _ _ _ _ (λ h. not-the-face (sym h)) (λ h. not-the-back (sym (ap (back ts) h ∙ again free)))))
+            absurd (not-both (subst (λ (j : ℕ). names ds f (back T f) j ≡ true) same n)
+            (names-neither _ _ _ _ (λ h. not-the-face (sym h)) (λ h. not-the-back (sym (ap (back T) h ∙ again free)))))
         by-door free e n (no other) = others e other
 
-        by-wall : Dec (neighbour ts f ≡ wall) → ends ts ds v f ≡ ends ts ds w f
-        by-wall (yes h) = sight-ends-at-a-wall ts ds v f h ∙ sym (sight-ends-at-a-wall ts ds w f h)
-        by-wall (no free) = sight-by-the-doors-named ts ds v w f (λ e n. by-door free e n (ℕ-discrete e i))
+        by-wall : Dec (neighbour T f ≡ wall) → ends T ds v f ≡ ends T ds w f
+        by-wall (yes h) = sight-ends-at-a-wall T ds v f h ∙ sym (sight-ends-at-a-wall T ds w f h)
+        by-wall (no free) = sight-by-the-doors-named T ds v w f (λ e n. by-door free e n (ℕ-discrete e i))
 
-    pub shutting-changes-no-other-face : ends ts ds (with-shut w i) f ≡ ends ts ds w f
+    pub shutting-changes-no-other-face : ends T ds (with-shut w i) f ≡ ends T ds w f
     shutting-changes-no-other-face = other-doors (with-shut w i) (shutting-leaves-the-others w i)
 
-    pub opening-changes-no-other-face : ends ts ds (with-open w i) f ≡ ends ts ds w f
+    pub opening-changes-no-other-face : ends T ds (with-open w i) f ≡ ends T ds w f
     opening-changes-no-other-face = other-doors (with-open w i) (opening-leaves-the-others w i)
 
   -- sight passes a face that is not wall once the only door that names it is open
-  pub opening-frees-the-face : (f : ℕ) → (neighbour ts f ≡ wall → ⊥) → ((e : ℕ) → e < length ds → (e ≡ i → ⊥) → names ds f (back ts f) e ≡ false) → ends ts ds (with-open w i) f ≡ false
-  opening-frees-the-face f free only = sight-passes-elsewhere ts ds (with-open w i) f free (λ e h. by-door e h (ℕ-discrete e i))
+  pub opening-frees-the-face : (f : ℕ) → (neighbour T f ≡ wall → ⊥) → ((e : ℕ) → e < length ds → (e ≡ i → ⊥) → names ds f (back T f) e ≡ false) → ends T ds (with-open w i) f ≡ false
+  opening-frees-the-face f free only = sight-passes-elsewhere T ds (with-open w i) f free (λ e h. by-door e h (ℕ-discrete e i))
     where
-      by-door : (e : ℕ) → e < length ds → Dec (e ≡ i) → bars ds (with-open w i) f (back ts f) e ≡ false
-      by-door e h (yes same) = an-open-door-bars-nothing ds (with-open w i) f (back ts f) e (ap (shut (with-open w i)) same ∙ opening-opens-the-door w i)
-      by-door e h (no other) = a-door-elsewhere-bars-nothing ds (with-open w i) f (back ts f) e (only e h other)
+      by-door : (e : ℕ) → e < length ds → Dec (e ≡ i) → bars ds (with-open w i) f (back T f) e ≡ false
+      by-door e h (yes same) = an-open-door-bars-nothing ds (with-open w i) f (back T f) e (ap (shut (with-open w i)) same ∙ opening-opens-the-door w i)
+      by-door e h (no other) = a-door-elsewhere-bars-nothing ds (with-open w i) f (back T f) e (only e h other)
 
 -- ---- of an accepted plan
 
 -- its door count, replied, tells whether a setting is wrong
-pub wrong-for-the-plan : (cs : List ℤ) (ts ds : List ℕ) (w : ℕ) {p : Plan} → checked cs ts ds ≡ Accepted p → {b : Bool} → b ≡ wrong-setting w (p .doors) → wrong-setting w (length ds) ≡ b
-wrong-for-the-plan cs ts ds w accepted e = ap (wrong-setting w) (sym (accepted-doors cs ts ds accepted)) ∙ sym e
+pub wrong-for-the-plan : (ds : List ℕ) (w : ℕ) {n : ℕ} → n ≡ length ds → {b : Bool} → b ≡ wrong-setting w n → wrong-setting w (length ds) ≡ b
+wrong-for-the-plan ds w is-n e = ap (wrong-setting w) (sym is-n) ∙ sym e

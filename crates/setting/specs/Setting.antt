@@ -5,9 +5,9 @@ use Prim.Native.Nat.{ℕ, _+_, _-_, _/_, _%_, _^_}
 use lib.Dec.{eqb, ltb}
 use lib.ListN.{length}
 use Rattle.limits.specs.Limits.{wall}
-use Rattle.plan.specs.Least.{least}
-use Rattle.plan.specs.Lists.{neighbour, back}
-use Rattle.plan.specs.Check.{names}
+use Rattle.cells.specs.Least.{least}
+use Rattle.cells.specs.Lists.{Cells, neighbour, back}
+use Rattle.cells.specs.Check.{names}
 
 -- door i is shut: bit i of the setting is one
 unfoldable pub shut : ℕ → ℕ → Bool
@@ -30,5 +30,5 @@ unfoldable pub bars : List ℕ → ℕ → ℕ → ℕ → ℕ → Bool
 bars ds w f g e = shut w e && names ds f g e
 
 -- sight ends at face f: its neighbour is wall, or a door that is shut names f or the face on its other side
-unfoldable pub ends : List ℕ → List ℕ → ℕ → ℕ → Bool
-ends ts ds w f = eqb (neighbour ts f) wall || ltb (least (bars ds w f (back ts f)) (length ds) 0) (length ds)
+unfoldable pub ends : Cells → List ℕ → ℕ → ℕ → Bool
+ends T ds w f = eqb (neighbour T f) wall || ltb (least (bars ds w f (back T f)) (length ds) 0) (length ds)

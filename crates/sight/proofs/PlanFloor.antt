@@ -1,8 +1,8 @@
 -- The floor of an accepted plan under any setting, seen from any point, has the geometry that the laws of sight ask for.
 use mathlib.Core.Bool.{Bool, true, false, _||_}
 use mathlib.Core.List.{List}
-use mathlib.Core.Path.{_≡_, refl, sym, _∙_, ap, subst}
-use Prim.Native.Nat.{ℕ, _+_, _*_, _/_, _<_}
+use mathlib.Core.Path.{_≡_, refl, sym, ap, subst}
+use Prim.Native.Nat.{ℕ, _-_}
 use native.Mathlib.Omega.{arith}
 use borrow.Author.Tests.{eq-eqb}
 use lib.Dec.{ltb}
@@ -14,27 +14,26 @@ use Rattle.plane.specs.Side.{Point, side}
 use Rattle.plane.specs.Cone.{cross, Between}
 use Rattle.plane.proofs.Found.{side-from-the-stand, side-positive-is-beyond}
 use Rattle.limits.specs.Limits.{wall}
-use Rattle.plan.specs.Least.{least}
-use Rattle.plan.specs.Lists.{cell-count, face-count, corner-at, next, start, neighbour, back}
+use Rattle.cells.specs.Least.{least}
+use Rattle.cells.specs.Lists.{Cells, corner-at, cell-count, face-count, first, side-count, home, neighbour, back}
+use Rattle.cells.specs.Sound.{Sound}
+use Rattle.cells.proofs.Least.{not-both}
+use Rattle.cells.proofs.Faces.{SideOf, side-exists, home-exists, next-below, next-stays-in-the-cell}
+use Rattle.cells.proofs.Plans.{convex, back-exists, back-starts-at-the-finish, back-finishes-at-the-start}
 use Rattle.setting.specs.Setting.{ends, bars}
-use Rattle.plan.specs.Sound.{Sound}
-use Rattle.plan.proofs.Least.{not-both}
-use Rattle.plan.proofs.Faces.{next-below, next-stays-in-the-cell, next-of-next-of-next, Mate, mates, after-first, after-second, after-third}
-use Rattle.plan.proofs.Faces.Mate.{itself, after, last}
-use Rattle.plan.proofs.Plans.{back-exists, back-starts-at-the-finish, back-finishes-at-the-start, apex-lies-beyond}
 use Rattle.stand.proofs.Located.{InCell, the-cell-goes-around-the-stand}
-use Rattle.expand.specs.Sight.{Place}
-use Rattle.expand.specs.Sight.Place.{between, right-of-r, left-of-l}
-use Rattle.expand.specs.Floor.{placed}
-use Rattle.sight.specs.Listing.{plan-floor, seen, finish}
-use Rattle.sight.proofs.Geometry.{Geometry}
-use Rattle.sight.proofs.Listing.{Start}
+use Rattle.fan.specs.Sight.{Place}
+use Rattle.fan.specs.Sight.Place.{between, right-of-r, left-of-l}
+use Rattle.fan.proofs.Geometry.{Geometry}
+use Rattle.fan.proofs.Start.{Start}
+use Rattle.sight.specs.Listing.{placed, plan-floor, seen}
+use Rattle.sight.proofs.Round as Round
 
 -- sight goes on only where the neighbour is no wall
-pub free-is-no-wall : (ts ds : List ℕ) (w f : ℕ) → ends ts ds w f ≡ false → neighbour ts f ≡ wall → ⊥
+pub free-is-no-wall : (T : Cells) (ds : List ℕ) (w f : ℕ) → ends T ds w f ≡ false → neighbour T f ≡ wall → ⊥
 unfolding ends
-free-is-no-wall ts ds w f e h =
-    not-both (subst (λ (b : Bool). (b || ltb (least (bars ds w f (back ts f)) (length ds) 0) (length ds)) ≡ true) (sym (eq-eqb _ _ h)) refl) e
+free-is-no-wall T ds w f e h =
+    not-both (subst (λ (b : Bool). (b || ltb (least (bars ds w f (back T f)) (length ds) 0) (length ds)) ≡ true) (sym (eq-eqb _ _ h)) refl) e
 
 module _ (cs : List ℤ) (q : Point) (v r l : ℕ) where
   turned : (a b : ℕ) → side q (corner-at cs a) (corner-at cs b) ≡ cross (seen cs q a) (seen cs q b)
@@ -77,47 +76,35 @@ module _ (cs : List ℤ) (q : Point) (v r l : ℕ) where
       take : Decided left-of-l → cross (seen cs q v) (seen cs q l) ≤ℤ 𝟘
       take (on-the-left h) = h
 
-module _ {cs : List ℤ} {ts ds : List ℕ} (sound : Sound cs ts ds) (w : ℕ) (q : Point) where
-  pub plan-geometry : Geometry (plan-floor cs ts ds w q) (face-count ts) (cell-count ts) (seen cs q) (start ts) (finish ts) (λ f. f / 3)
+module _ {cs : List ℤ} {T : Cells} {ds : List ℕ} (sound : Sound cs T ds) (w : ℕ) (q : Point) where
+  pub plan-geometry : Geometry (plan-floor cs T ds w q) (face-count T) (cell-count T) (seen cs q) (home T)
   plan-geometry =
+      let N = sound .numbered in
       record {
-        back-is-a-face = λ f h e. back-exists sound f h (free-is-no-wall ts ds w f e);
-        right-is-a-face = λ g h. next-below g _ h;
-        left-is-a-face = λ g h. next-below (next g) _ (next-below g _ h);
-        cell-exists = λ g h. omega arith;
-        right-in-the-cell = λ g h. next-stays-in-the-cell g;
-        left-in-the-cell = λ g h. next-stays-in-the-cell (next g) ∙ next-stays-in-the-cell g;
-        right-starts = λ g h. refl;
-        right-finishes = λ g h. refl;
-        left-starts = λ g h. refl;
-        left-finishes = λ g h. ap (start ts) (next-of-next-of-next g);
-        no-fourth-side = fourth;
-        back-starts = λ f h e. back-starts-at-the-finish sound f h (free-is-no-wall ts ds w f e);
-        back-finishes = λ f h e. back-finishes-at-the-start sound f h (free-is-no-wall ts ds w f e);
-        apex-beyond = λ f h e. side-positive-is-beyond _ _ _ q (apex-lies-beyond sound f h (free-is-no-wall ts ds w f e));
+        back-is-a-face = λ f h e. back-exists sound f h (free-is-no-wall T ds w f e);
+        next-is-a-face = λ g h. next-below N g h;
+        cell-exists = λ g h. home-exists N g h;
+        next-in-the-cell = λ g h. next-stays-in-the-cell N g h;
+        next-starts = λ g h. refl;
+        three-sides = λ g h. omega (arith, N .at-least (home T g) (home-exists N g h));
+        as-many-sides = λ g h. ap (λ (c : ℕ). side-count T c - 2) (next-stays-in-the-cell N g h);
+        never-itself = λ g h. Round.never-itself N (plan-floor cs T ds w q) (λ f. refl) (λ f. refl) g h;
+        comes-round = λ g h. Round.comes-round N (plan-floor cs T ds w q) (λ f. refl) (λ f. refl) g h;
+        convex = λ g e h k same a b. side-positive-is-beyond _ _ _ q (convex N (sound .cells) g e h k same a b);
+        back-starts = λ f h e. back-starts-at-the-finish sound f h (free-is-no-wall T ds w f e);
+        back-finishes = λ f h e. back-finishes-at-the-start sound f h (free-is-no-wall T ds w f e);
         is-between = placed-between cs q;
         is-right = placed-right cs q;
         is-left = placed-left cs q;
       }
-    where
-      fourth : (g h : ℕ) → g < face-count ts → h < face-count ts → g / 3 ≡ h / 3 → (h ≡ g → ⊥) → (h ≡ next g → ⊥) → (h ≡ next (next g) → ⊥) → ⊥
-      fourth g h i j same a b c = by-mate (mates g h same)
-        where
-          by-mate : Mate g h → ⊥
-          by-mate (itself e) = a e
-          by-mate (after e) = b e
-          by-mate (last e) = c e
 
   -- the sides of a cell follow each other around a stand strictly inside it
-  pub start-in-the-cell : (c : ℕ) → InCell cs ts q c → Start (face-count ts) (seen cs q) (start ts) (finish ts) (3 * c) (3 * c + 1) (3 * c + 2)
+  pub start-in-the-cell : (c : ℕ) → InCell cs T q c → Start (plan-floor cs T ds w q) (face-count T) (seen cs q) (first T c)
   start-in-the-cell c stands =
+      let N = sound .numbered in
       let h = stands .cell-exists in
+      let here : SideOf T c (first T c) = record { not-before = omega arith; not-after = omega (arith, N .at-least c h) } in
       record {
-        side₀ = omega arith;
-        side₁ = omega arith;
-        side₂ = omega arith;
-        turn₀ = ap (start ts) (after-first c);
-        turn₁ = ap (start ts) (after-second c);
-        turn₂ = ap (start ts) (after-third c);
-        around = the-cell-goes-around-the-stand cs ts q c (stands .strictly-inside);
+        is-a-face = side-exists N h here;
+        turns = λ e i. the-cell-goes-around-the-stand cs T q c (stands .strictly-inside) e (Round.among-is-a-side N (plan-floor cs T ds w q) (λ f. refl) h here i);
       }

@@ -1,12 +1,8 @@
--- what is seen through the three sides of a cell, over the table of lines
-pub mod CellTree
--- the listing: its floor, rows, numbers and counts; replies 1 to 11; the reply and the table at exit
+-- the floor of a plan, what is seen from a stand, and the listing: replies 1 to 11, or rows and crossings
 pub mod Listing
--- rows as the numbers of a table
-pub mod Written
--- the answer of listing and door change in document 01\'s numbers
+-- the corners seen from a stand, as the code has them
+pub mod Seen
+-- the sides of the stand's cell over the code's tables
+pub mod CellTree
+-- the answer of listing and door change in document 01's numbers
 pub mod Reply
--- the walk from cell to cell, without cones; when a row holds a direction
-pub mod Walk
--- places of a list, and the one element that has a property
-pub mod Once

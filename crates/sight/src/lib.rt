@@ -1,3 +1,4 @@
 // Sight: the listing over the expansion (document 01, "Expansion").
 pub mod list;
+pub mod seen;
 pub mod view;

@@ -1,25 +1,34 @@
-// The listing: the stand's cell hands on its sides 0, 1, 2.
-ghost use Prim.Native.Nat.{_+_, _*_, _^_, _<_, _≤_};
+// The listing: the stand's cell hands on its sides in their order.
+ghost use Prim.Native.Nat.{suc, _+_, _*_, _^_, _<_, _≤_};
+ghost use mathlib.Core.Bool.{true};
 ghost use mathlib.Core.Path.{_≡_};
 ghost use lib.ListN.{length};
 ghost use lib.Seq.{sets};
 ghost use Rattle.plane.specs.Side.{point, Near};
-ghost use Rattle.limits.specs.Limits.{most-cells};
-ghost use Rattle.plan.specs.Lists.{corner-count};
-ghost use Rattle.plan.specs.Sound.{Sound};
+ghost use Rattle.cells.specs.Lists.{tabled, corner-count, cell-count, face-count};
+ghost use Rattle.limits.specs.Limits.{most-corners, most-cells, sized};
+ghost use Rattle.cells.specs.Cut.{cells-of};
+ghost use Rattle.cells.specs.Check.{framed};
+ghost use Rattle.checking.specs.Sizes.{sizes-of};
+ghost use Rattle.checking.specs.declared.Sizes.the-variants.{Of};
+ghost use Rattle.cells.specs.Backed.{Backed};
+ghost use Rattle.cells.specs.Sound.{Numbered, Sound};
 ghost use Rattle.stand.specs.Find.{located};
-ghost use Rattle.stand.specs.declared.find.Found.the-variants.{Cell};
-ghost use Rattle.expand.specs.Sight.{numbers, row-count, crossings, Whole};
+ghost use Rattle.stand.specs.declared.locate.Found.the-variants.{Cell};
+ghost use Rattle.fan.specs.Sight.{numbers, row-count, crossings, Whole};
 ghost use Rattle.expand.specs.Floor.{Lines};
-ghost use Rattle.sight.specs.CellTree.{cell-tree};
+ghost use Rattle.sight.specs.CellTree.{cell-tree, stand-tree, Starts};
 ghost use Rattle.sight.specs.Listing.{listing-row-count, listing-crossings, listing-numbers, listed};
+use crate::seen::see;
 use crate::view::View;
-use crate::view::view_from;
+use crate::view::view_in;
+use checking::Sizes;
+use checking::measure;
 use expand::Counts;
 use expand::cross;
+use limits::Plan;
+use limits::Refusal;
 use lines::lines_of;
-use plan::Plan;
-use plan::Refusal;
 use stand::spot::Stand;
 
 pub enum Listed {
@@ -27,112 +36,283 @@ pub enum Listed {
     Refused(Refusal),
 }
 
-// Follows the three sides of cell c, each with its two ends as limits; `unentered` is how many cells are not yet entered.
+// Follows side f of the stand's cell and the `more` sides after it, each with its two ends as limits; `unentered` is how many cells are not yet entered.
 pub fn sides(
-    corners: &[i32],
+    seen: &[i32],
     lines: &[u16],
-    q: [i64; 2],
+    faces: &[u16],
     table: &mut [u16],
-    c: usize,
+    f: usize,
+    more: usize,
+    at: usize,
     unentered: usize,
 ) -> Counts
-    requires { ⌜ Lines (now corners) (now lines) × Near (point q) ⌝ }
-    requires { ⌜ 6 * c + 5 < length (now lines) ⌝ }
-    requires { ⌜ Whole (cell-tree (now corners) (now lines) (point q) unentered c) ⌝ }
-    requires { ⌜ 3 * row-count (cell-tree (now corners) (now lines) (point q) unentered c) ≤ length (now table) ⌝ }
-    requires { ⌜ crossings (cell-tree (now corners) (now lines) (point q) unentered c) < 2 ^ 63 ⌝ }
-    ensures { λ r. ⌜ r .rows ≡ row-count (cell-tree (now (corners .entry)) (now (lines .entry)) (point q) unentered c) ⌝ }
-    ensures { λ r. ⌜ r .crossings ≡ crossings (cell-tree (now (corners .entry)) (now (lines .entry)) (point q) unentered c) ⌝ }
-    ensures { λ r. ⌜ now (table .exit) ≡ sets (now (table .entry)) 0 (numbers (cell-tree (now (corners .entry)) (now (lines .entry)) (point q) unentered c)) ⌝ }
+    requires { ⌜ Lines (now seen) (now lines) × Starts (now seen) (now lines) (now faces) ⌝ }
+    requires { ⌜ 4 * (f + more) + 3 < length (now lines) ⌝ }
+    requires { ⌜ Whole (cell-tree (now seen) (now lines) (now faces) unentered more f) ⌝ }
+    requires { ⌜ at + 3 * row-count (cell-tree (now seen) (now lines) (now faces) unentered more f) ≤ length (now table) ⌝ }
+    requires { ⌜ crossings (cell-tree (now seen) (now lines) (now faces) unentered more f) < 2 ^ 63 ⌝ }
+    ensures { λ r. ⌜ r .rows ≡ row-count (cell-tree (now (seen .entry)) (now (lines .entry)) (now (faces .entry)) unentered more f) ⌝ }
+    ensures { λ r. ⌜ r .crossings ≡ crossings (cell-tree (now (seen .entry)) (now (lines .entry)) (now (faces .entry)) unentered more f) ⌝ }
+    ensures { λ r. ⌜ now (table .exit) ≡ sets (now (table .entry)) at (numbers (cell-tree (now (seen .entry)) (now (lines .entry)) (now (faces .entry)) unentered more f)) ⌝ }
 {
-    let f = 3 * c;
-    let a = lines[2 * f];
-    let b = lines[2 * f + 2];
-    let d = lines[2 * f + 4];
-    let first = cross(corners, lines, q, table, f, a, b, 0, unentered);
-    let second = cross(
-        corners,
-        lines,
-        q,
-        table,
-        f + 1,
-        b,
-        d,
-        3 * first.rows,
-        unentered,
-    );
-    let rows = first.rows + second.rows;
-    let passed = first.crossings + second.crossings;
-    let third = cross(corners, lines, q, table, f + 2, d, a, 3 * rows, unentered);
+    let r = faces[2 * f];
+    let l = lines[4 * f];
+    let first = cross(seen, lines, table, f, r, l, at, unentered);
+    if more == 0 {
+        return first;
+    }
+    let after = at + 3 * first.rows;
+    let second = sides(seen, lines, faces, table, f + 1, more - 1, after, unentered);
     Counts {
-        rows: rows + third.rows,
-        crossings: passed + third.crossings,
+        rows: first.rows + second.rows,
+        crossings: first.crossings + second.crossings,
     }
 }
 
-// Draws the lines of the plan under its setting in the room lent, and follows the sides of the stand's cell.
-fn list_lines(
-    corners: &[i32],
-    cells: &[u16],
-    doors: &[u16],
-    setting: u64,
-    q: [i64; 2],
+// Follows the sides of the stand's cell c over the tables of an accepted plan.
+pub fn list_over(
+    seen: &[i32],
+    lines: &[u16],
+    faces: &[u16],
+    firsts: &[u16],
     table: &mut [u16],
     c: usize,
-    room: &mut [u16],
 ) -> Counts
-    requires { ⌜ Sound (now corners) (now cells) (now doors) ⌝ }
-    requires { ⌜ Near (point q) × (located (now corners) (now cells) (point q) ≡ Cell c) ⌝ }
-    requires { ⌜ 3 * corner-count (now corners) ≤ length (now table) ⌝ }
-    requires { ⌜ length (now room) ≡ 6 * most-cells ⌝ }
-    ensures { λ r. ⌜ r .rows ≡ listing-row-count (now (corners .entry)) (now (cells .entry)) (now (doors .entry)) setting (point q) c ⌝ }
-    ensures { λ r. ⌜ r .crossings ≡ listing-crossings (now (corners .entry)) (now (cells .entry)) (now (doors .entry)) setting (point q) c ⌝ }
-    ensures { λ r. ⌜ now (table .exit) ≡ sets (now (table .entry)) 0 (listing-numbers (now (corners .entry)) (now (cells .entry)) (now (doors .entry)) setting (point q) c) ⌝ }
+    requires { ⌜ Lines (now seen) (now lines) × Starts (now seen) (now lines) (now faces) × Numbered (tabled (now faces) (now firsts)) ⌝ }
+    requires { ⌜ (c < cell-count (tabled (now faces) (now firsts))) × (length (now lines) ≡ 4 * face-count (tabled (now faces) (now firsts))) ⌝ }
+    requires { ⌜ Whole (stand-tree (now seen) (now lines) (tabled (now faces) (now firsts)) c) ⌝ }
+    requires { ⌜ 3 * row-count (stand-tree (now seen) (now lines) (tabled (now faces) (now firsts)) c) ≤ length (now table) ⌝ }
+    requires { ⌜ crossings (stand-tree (now seen) (now lines) (tabled (now faces) (now firsts)) c) < 2 ^ 63 ⌝ }
+    ensures { λ r. ⌜ r .rows ≡ row-count (stand-tree (now (seen .entry)) (now (lines .entry)) (tabled (now (faces .entry)) (now (firsts .entry))) c) ⌝ }
+    ensures { λ r. ⌜ r .crossings ≡ crossings (stand-tree (now (seen .entry)) (now (lines .entry)) (tabled (now (faces .entry)) (now (firsts .entry))) c) ⌝ }
+    ensures { λ r. ⌜ now (table .exit) ≡ sets (now (table .entry)) 0 (numbers (stand-tree (now (seen .entry)) (now (lines .entry)) (tabled (now (faces .entry)) (now (firsts .entry))) c)) ⌝ }
 {
-    let m = cells.len() / 6;
-    let n = 6 * m;
-    let lines = &mut room[..n];
-    lines_of(cells, doors, setting, lines);
-    sides(corners, lines, q, table, c, m - 1)
+    let f = firsts[c] as usize;
+    let end = firsts[c + 1] as usize;
+    let cells = firsts.len() - 1;
+    sides(seen, lines, faces, table, f, end - f - 1, 0, cells - 1)
 }
 
-// Lists from a stand in whole millimetres, strictly inside cell c of an accepted plan.
+// Draws the lines of an accepted plan under its setting and the corners seen from q in the room lent, and follows the sides of the stand's cell c.
 pub fn list_from(
     corners: &[i32],
-    cells: &[u16],
+    faces: &[u16],
+    firsts: &[u16],
+    backs: &[u16],
     doors: &[u16],
     setting: u64,
     q: [i64; 2],
     table: &mut [u16],
     c: usize,
+    lines: &mut [u16],
+    seen: &mut [i32],
 ) -> Counts
-    requires { ⌜ Sound (now corners) (now cells) (now doors) ⌝ }
-    requires { ⌜ Near (point q) × (located (now corners) (now cells) (point q) ≡ Cell c) ⌝ }
+    requires { ⌜ Sound (now corners) (tabled (now faces) (now firsts)) (now doors) × Backed (tabled (now faces) (now firsts)) (now backs) ⌝ }
+    requires { ⌜ Near (point q) × (located (now corners) (tabled (now faces) (now firsts)) (point q) ≡ Cell c) ⌝ }
     requires { ⌜ 3 * corner-count (now corners) ≤ length (now table) ⌝ }
-    ensures { λ r. ⌜ r .rows ≡ listing-row-count (now (corners .entry)) (now (cells .entry)) (now (doors .entry)) setting (point q) c ⌝ }
-    ensures { λ r. ⌜ r .crossings ≡ listing-crossings (now (corners .entry)) (now (cells .entry)) (now (doors .entry)) setting (point q) c ⌝ }
-    ensures { λ r. ⌜ now (table .exit) ≡ sets (now (table .entry)) 0 (listing-numbers (now (corners .entry)) (now (cells .entry)) (now (doors .entry)) setting (point q) c) ⌝ }
+    requires { ⌜ (length (now lines) ≡ 4 * face-count (tabled (now faces) (now firsts))) × (length (now seen) ≡ length (now corners)) ⌝ }
+    ensures { λ r. ⌜ r .rows ≡ listing-row-count (now (corners .entry)) (tabled (now (faces .entry)) (now (firsts .entry))) (now (doors .entry)) setting (point q) c ⌝ }
+    ensures { λ r. ⌜ r .crossings ≡ listing-crossings (now (corners .entry)) (tabled (now (faces .entry)) (now (firsts .entry))) (now (doors .entry)) setting (point q) c ⌝ }
+    ensures { λ r. ⌜ now (table .exit) ≡ sets (now (table .entry)) 0 (listing-numbers (now (corners .entry)) (tabled (now (faces .entry)) (now (firsts .entry))) (now (doors .entry)) setting (point q) c) ⌝ }
 {
-    let mut scratch = [0u16; 6 * Plan::MOST_CELLS];
-    list_lines(corners, cells, doors, setting, q, table, c, &mut scratch)
+    lines_of(faces, firsts, backs, doors, setting, lines);
+    see(corners, q, seen);
+    list_over(seen, lines, faces, firsts, table, c)
 }
 
-// The listing: plan, setting, stand and table; replies 1 to 11 in order, each with its place, or row count and crossings.
+// Lists in the room lent: the tables of the plan, its lines, and the corners seen.
+fn list_in(
+    corners: &[i32],
+    cells: &[u16],
+    doors: &[u16],
+    kind: u16,
+    setting: u64,
+    stand: Stand,
+    table: &mut [u16],
+    faces: &mut [u16],
+    firsts: &mut [u16],
+    backs: &mut [u16],
+    lines: &mut [u16],
+    seen: &mut [i32],
+) -> Listed
+    requires { ⌜ (framed kind (now corners) (now cells) ≡ true) × (sized (corner-count (now corners)) (cell-count (cells-of kind (now cells))) (length (now doors)) ≡ true) ⌝ }
+    requires { ⌜ length (now faces) ≡ 2 * face-count (cells-of kind (now cells)) ⌝ }
+    requires { ⌜ length (now firsts) ≡ suc (cell-count (cells-of kind (now cells))) ⌝ }
+    requires { ⌜ length (now backs) ≡ face-count (cells-of kind (now cells)) ⌝ }
+    requires { ⌜ (length (now lines) ≡ 4 * face-count (cells-of kind (now cells))) × (length (now seen) ≡ length (now corners)) ⌝ }
+    ensures { λ r. ⌜ (r, now (table .exit)) ≡ listed kind (now (corners .entry)) (now (cells .entry)) (now (doors .entry)) setting stand (now (table .entry)) ⌝ }
+{
+    match view_in(
+        corners,
+        cells,
+        doors,
+        kind,
+        setting,
+        stand,
+        table.len(),
+        faces,
+        firsts,
+        backs,
+    ) {
+        View::Refused(r) => Listed::Refused(r),
+        View::From(x, y, c) => {
+            let counts = list_from(
+                corners,
+                faces,
+                firsts,
+                backs,
+                doors,
+                setting,
+                [x, y],
+                table,
+                c,
+                lines,
+                seen,
+            );
+            Listed::Rows(counts.rows, counts.crossings)
+        }
+    }
+}
+
+// Lists m cells with n faces in as much of the room lent as they need.
+fn list_cut(
+    corners: &[i32],
+    cells: &[u16],
+    doors: &[u16],
+    kind: u16,
+    setting: u64,
+    stand: Stand,
+    table: &mut [u16],
+    m: usize,
+    n: usize,
+    faces: &mut [u16],
+    firsts: &mut [u16],
+    backs: &mut [u16],
+    lines: &mut [u16],
+    seen: &mut [i32],
+) -> Listed
+    requires { ⌜ sizes-of kind (now corners) (now cells) (now doors) ≡ Of m n ⌝ }
+    requires { ⌜ (2 * n ≤ length (now faces)) × (m < length (now firsts)) × (n ≤ length (now backs)) × (4 * n ≤ length (now lines)) ⌝ }
+    requires { ⌜ 2 * most-corners ≤ length (now seen) ⌝ }
+    ensures { λ r. ⌜ (r, now (table .exit)) ≡ listed kind (now (corners .entry)) (now (cells .entry)) (now (doors .entry)) setting stand (now (table .entry)) ⌝ }
+{
+    let twice = 2 * n;
+    let after = m + 1;
+    let fourfold = 4 * n;
+    let numbers = corners.len();
+    list_in(
+        corners,
+        cells,
+        doors,
+        kind,
+        setting,
+        stand,
+        table,
+        &mut faces[..twice],
+        &mut firsts[..after],
+        &mut backs[..n],
+        &mut lines[..fourfold],
+        &mut seen[..numbers],
+    )
+}
+
+// Lends room for no more faces than triangles have: the larger tables need not be cleared for them.
+fn list_few(
+    corners: &[i32],
+    cells: &[u16],
+    doors: &[u16],
+    kind: u16,
+    setting: u64,
+    stand: Stand,
+    table: &mut [u16],
+    m: usize,
+    n: usize,
+) -> Listed
+    requires { ⌜ sizes-of kind (now corners) (now cells) (now doors) ≡ Of m n ⌝ }
+    requires { ⌜ n ≤ 3 * most-cells ⌝ }
+    ensures { λ r. ⌜ (r, now (table .exit)) ≡ listed kind (now (corners .entry)) (now (cells .entry)) (now (doors .entry)) setting stand (now (table .entry)) ⌝ }
+{
+    let mut faces = [0u16; 6 * Plan::MOST_CELLS];
+    let mut firsts = [0u16; 1 + Plan::MOST_CELLS];
+    let mut backs = [0u16; 3 * Plan::MOST_CELLS];
+    let mut lines = [0u16; 12 * Plan::MOST_CELLS];
+    let mut seen = [0i32; 2 * Plan::MOST_CORNERS];
+    list_cut(
+        corners,
+        cells,
+        doors,
+        kind,
+        setting,
+        stand,
+        table,
+        m,
+        n,
+        &mut faces,
+        &mut firsts,
+        &mut backs,
+        &mut lines,
+        &mut seen,
+    )
+}
+
+// Lends room for every plan.
+fn list_many(
+    corners: &[i32],
+    cells: &[u16],
+    doors: &[u16],
+    kind: u16,
+    setting: u64,
+    stand: Stand,
+    table: &mut [u16],
+    m: usize,
+    n: usize,
+) -> Listed
+    requires { ⌜ sizes-of kind (now corners) (now cells) (now doors) ≡ Of m n ⌝ }
+    ensures { λ r. ⌜ (r, now (table .exit)) ≡ listed kind (now (corners .entry)) (now (cells .entry)) (now (doors .entry)) setting stand (now (table .entry)) ⌝ }
+{
+    let mut faces = [0u16; 16 * Plan::MOST_CELLS];
+    let mut firsts = [0u16; 1 + Plan::MOST_CELLS];
+    let mut backs = [0u16; 8 * Plan::MOST_CELLS];
+    let mut lines = [0u16; 32 * Plan::MOST_CELLS];
+    let mut seen = [0i32; 2 * Plan::MOST_CORNERS];
+    list_cut(
+        corners,
+        cells,
+        doors,
+        kind,
+        setting,
+        stand,
+        table,
+        m,
+        n,
+        &mut faces,
+        &mut firsts,
+        &mut backs,
+        &mut lines,
+        &mut seen,
+    )
+}
+
+// The listing: plan, the kind of its list of cells, setting, stand and table; replies 1 to 11 in order, each with its place, or row count and crossings.
 pub fn list(
     corners: &[i32],
     cells: &[u16],
     doors: &[u16],
+    kind: u16,
     setting: u64,
     stand: Stand,
     table: &mut [u16],
 ) -> Listed
-    ensures { λ r. ⌜ (r, now (table .exit)) ≡ listed (now (corners .entry)) (now (cells .entry)) (now (doors .entry)) setting stand (now (table .entry)) ⌝ }
+    ensures { λ r. ⌜ (r, now (table .exit)) ≡ listed kind (now (corners .entry)) (now (cells .entry)) (now (doors .entry)) setting stand (now (table .entry)) ⌝ }
 {
-    match view_from(corners, cells, doors, setting, stand, table.len()) {
-        View::Refused(r) => Listed::Refused(r),
-        View::From(x, y, c) => {
-            let counts = list_from(corners, cells, doors, setting, [x, y], table, c);
-            Listed::Rows(counts.rows, counts.crossings)
+    match measure(corners, cells, doors, kind) {
+        Sizes::Refused(r) => Listed::Refused(r),
+        Sizes::Of(m, n) => {
+            if n <= 3 * Plan::MOST_CELLS {
+                return list_few(corners, cells, doors, kind, setting, stand, table, m, n);
+            }
+            list_many(corners, cells, doors, kind, setting, stand, table, m, n)
         }
     }
 }

@@ -1,12 +1,21 @@
 // Replies 1 to 11 in their order, or the stand and its cell.
+ghost use mathlib.Core.Bool.{true};
 ghost use mathlib.Core.Path.{_≡_};
-ghost use Rattle.plan.specs.Sound.{CornersNear, CornersExist};
+ghost use Prim.Native.Nat.{suc, _*_};
+ghost use lib.ListN.{length};
+ghost use Rattle.limits.specs.Limits.{sized};
+ghost use Rattle.cells.specs.Lists.{tabled, corner-count, cell-count, face-count};
+ghost use Rattle.cells.specs.Cut.{cells-of};
+ghost use Rattle.cells.specs.Check.{framed};
+ghost use Rattle.cells.specs.Backed.{Backed};
+ghost use Rattle.cells.specs.Sound.{CornersNear, CornersExist, Numbered, Sound};
 ghost use Rattle.stand.specs.Spot.{stood};
-ghost use Rattle.sight.specs.Listing.{viewed, view-of-spot};
-use plan::Checked;
-use plan::Refusal;
-use stand::find::Found;
-use stand::find::locate;
+ghost use Rattle.sight.specs.Listing.{view-of-spot, viewed};
+use checking::check_into;
+use limits::Checked;
+use limits::Refusal;
+use stand::locate::Found;
+use stand::locate::locate;
 use stand::spot::Spot;
 use stand::spot::Stand;
 use stand::spot::stand_spot;
@@ -17,14 +26,20 @@ pub enum View {
 }
 
 // On an accepted plan and setting.
-pub fn view_of_stand(corners: &[i32], cells: &[u16], stand: Stand, room: usize) -> View
-    requires { ⌜ CornersNear (now corners) × CornersExist (now corners) (now cells) ⌝ }
-    ensures { λ r. ⌜ r ≡ view-of-spot (now (corners .entry)) (now (cells .entry)) room (stood (now (corners .entry)) stand) ⌝ }
+pub fn view_of_stand(
+    corners: &[i32],
+    faces: &[u16],
+    firsts: &[u16],
+    stand: Stand,
+    room: usize,
+) -> View
+    requires { ⌜ CornersNear (now corners) × CornersExist (now corners) (tabled (now faces) (now firsts)) × Numbered (tabled (now faces) (now firsts)) ⌝ }
+    ensures { λ r. ⌜ r ≡ view-of-spot (now (corners .entry)) (tabled (now (faces .entry)) (now (firsts .entry))) room (stood (now (corners .entry)) stand) ⌝ }
 {
     let Spot::At(x, y) = stand_spot(corners, stand) else {
         return View::Refused(Refusal::Stand);
     };
-    match locate(corners, cells, [x, y]) {
+    match locate(corners, faces, firsts, [x, y]) {
         Found::Refused(r) => View::Refused(r),
         Found::Cell(c) => {
             if room < 3 * (corners.len() / 2) {
@@ -35,25 +50,36 @@ pub fn view_of_stand(corners: &[i32], cells: &[u16], stand: Stand, room: usize) 
     }
 }
 
-// The plan is checked anew.
-pub fn view_from(
+// On lists that are framed and sized, with room for their tables, which are drawn into it. Of an accepted plan the faces on the other side are noted.
+pub fn view_in(
     corners: &[i32],
     cells: &[u16],
     doors: &[u16],
+    kind: u16,
     setting: u64,
     stand: Stand,
     room: usize,
+    faces: &mut [u16],
+    firsts: &mut [u16],
+    backs: &mut [u16],
 ) -> View
-    ensures { λ r. ⌜ r ≡ viewed (now (corners .entry)) (now (cells .entry)) (now (doors .entry)) setting stand room ⌝ }
+    requires { ⌜ (framed kind (now corners) (now cells) ≡ true) × (sized (corner-count (now corners)) (cell-count (cells-of kind (now cells))) (length (now doors)) ≡ true) ⌝ }
+    requires { ⌜ length (now faces) ≡ 2 * face-count (cells-of kind (now cells)) ⌝ }
+    requires { ⌜ length (now firsts) ≡ suc (cell-count (cells-of kind (now cells))) ⌝ }
+    requires { ⌜ length (now backs) ≡ face-count (cells-of kind (now cells)) ⌝ }
+    ensures { λ r. ⌜ r ≡ viewed kind (now (corners .entry)) (now (cells .entry)) (now (doors .entry)) setting stand room ⌝ }
+    ensures { λ r. ⌜ now (faces .exit) ≡ cells-of kind (now (cells .entry)) .faces ⌝ }
+    ensures { λ r. ⌜ now (firsts .exit) ≡ cells-of kind (now (cells .entry)) .firsts ⌝ }
+    ensures { λ r. ⌜ (Sound (now (corners .entry)) (cells-of kind (now (cells .entry))) (now (doors .entry)) → Backed (cells-of kind (now (cells .entry))) (now (backs .exit))) ⌝ }
 {
-    match plan::check(corners, cells, doors) {
+    match check_into(corners, cells, doors, kind, faces, firsts, backs) {
         Checked::Refused(r) => View::Refused(r),
         Checked::Accepted(plan) => {
             let k = plan.doors;
             if setting::is_wrong(setting, k) {
                 return View::Refused(Refusal::Setting);
             }
-            view_of_stand(corners, cells, stand, room)
+            view_of_stand(corners, faces, firsts, stand, room)
         }
     }
 }

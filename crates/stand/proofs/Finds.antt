@@ -1,71 +1,94 @@
--- Finding the stand's cell, by what was read of the plan and of the stand.
+-- Finding the stand's cell: the search through the cells, and its replies.
+use mathlib.Core.Bool.{Bool, true, false}
 use mathlib.Core.List.{List, [], _∷_}
-use mathlib.Core.Path.{_≡_, ap, ap₂, sym, _∙_, subst}
-use Prim.Native.Nat.{ℕ, _+_, _*_, _<_, _≤_}
+use mathlib.Core.Path.{_≡_, refl, ap, ap₂, sym, _∙_, subst}
+use Prim.Native.Nat.{ℕ, _+_, _<_, _≤_}
+use native.Mathlib.Decide.{decLt}
 use native.Mathlib.Omega.{arith}
 use borrow.Author.Tests.{lt-ltb, le-ltb}
 use lib.IntN.{ℤ}
 use mir.Syntax.{w64}
 use mir.Val.{toZ, ofZ}
 use Rattle.exact.proofs.Bounds.{coordinate}
-use Rattle.plane.specs.Side.{Point, point, Near, AllNear}
-use Rattle.plane.specs.Tests.{containment}
+use Rattle.plane.specs.Side.{Point, point, Near}
 use Rattle.plane.specs.declared.Containment.{Containment}
-use Rattle.plan.specs.Lists.{corner-count, cell-count, face-count, corner-at, start}
-use Rattle.plan.specs.Sound.{CornersNear, CornersExist}
-use Rattle.plan.specs.Check.{checked}
-use Rattle.limits.specs.declared.Plan.{Plan}
-use Rattle.limits.specs.declared.Refusal.{Refusal}
-use Rattle.limits.specs.declared.Refusal.the-variants.{Line, Outside, Stand as Stand′}
-use Rattle.limits.specs.declared.Checked.the-variants as C
-use Rattle.plan.proofs.Accepted.{accepted-is-sound}
-use Rattle.plan.proofs.Plans.{corners-exist}
-use Rattle.stand.specs.Spot.{stood}
-use Rattle.stand.specs.declared.spot.Stand.{Stand}
-use Rattle.stand.specs.declared.spot.Spot.the-variants as S
-use Rattle.stand.specs.declared.find.Found.{Found}
-use Rattle.stand.proofs.Spots.{stand-is-near}
-use Rattle.stand.specs.Find.{against, first-inside, first-border, located, with-spot, with-plan, found}
-use Rattle.stand.specs.declared.find.Found.the-variants.{Cell, Refused}
+use Rattle.plane.specs.declared.Containment.the-variants as W
+use Rattle.cells.specs.Lists.{Cells, cell-count}
+use Rattle.cells.proofs.Least.{not-both, none-holds, least-is-none, Seeks, seek-begins, seek-goes-on, seek-found, seek-ends}
+use Rattle.limits.specs.declared.Refusal.the-variants.{Line, Outside}
+use Rattle.stand.specs.Find.{against, is-inside, is-border, first-inside, first-border, located}
+use Rattle.stand.specs.declared.locate.Found.the-variants.{Cell, Refused}
 
--- ---- against one cell
+-- ---- the search
 
-pub corner-there : {cs : List ℤ} {ts : List ℕ} → CornersExist cs ts → (f : ℕ) {a : ℕ} → f < face-count ts → a ≡ start ts f → a < corner-count cs
-corner-there {cs} exist f h e = subst (λ (i : ℕ). i < corner-count cs) (sym e) (exist .exists f h)
+-- no cell before c holds q strictly inside; `border` tells whether one of them has it on its border
+pub record Searched (cs : List ℤ) (T : Cells) (q : Point) (c : ℕ) (border : Bool) : Type 0 where
+  pub none-inside : Seeks (λ (i : ℕ). is-inside (against cs T q i)) (cell-count T) c
+  pub on-a-border : border ≡ true → (k : ℕ) × (k < cell-count T) × (is-border (against cs T q k) ≡ true)
+  pub on-no-border : border ≡ false → (k : ℕ) → k < c → is-border (against cs T q k) ≡ false
 
-module _ (cs : List ℤ) (ts : List ℕ) (c : ℕ) {a b d : ℕ} (p q r : List ℤ) (is-a : a ≡ start ts (3 * c)) (is-b : b ≡ start ts (3 * c + 1)) (is-d : d ≡ start ts (3 * c + 2)) (is-p : point p ≡ corner-at cs a) (is-q : point q ≡ corner-at cs b) (is-r : point r ≡ corner-at cs d) where
-  pub cell-near : c < cell-count ts → CornersNear cs → CornersExist cs ts → AllNear (p ∷ q ∷ r ∷ [])
-  cell-near h near exist =
-      record {
-        near₀ = subst Near (sym is-p) (near .near a (corner-there exist (3 * c) (omega arith) is-a));
-        near₁ = subst Near (sym is-q) (near .near b (corner-there exist (3 * c + 1) (omega arith) is-b));
-        near₂ = subst Near (sym is-r) (near .near d (corner-there exist (3 * c + 2) (omega arith) is-d));
-      }
+pub search-begins : {cs : List ℤ} {T : Cells} {q : Point} → Searched cs T q 0 false
+search-begins =
+    record {
+      none-inside = seek-begins _ _;
+      on-a-border = λ e. absurd (not-both e refl);
+      on-no-border = λ e k l. absurd (omega arith);
+    }
 
-  pub against-the-cell : (s : Point) {t : Containment} → t ≡ containment (p ∷ q ∷ r ∷ []) s → t ≡ against cs ts s c
-  unfolding against
-  against-the-cell s {t} e = rw (← is-a, ← is-b, ← is-d, ← is-p, ← is-q, ← is-r) e
-
--- ---- the replies
-
-module _ (cs : List ℤ) (ts : List ℕ) (q : Point) {c : ℕ} (is-c : c ≡ first-inside cs ts q) where
-  pub in-a-cell : c < cell-count ts → Cell c ≡ located cs ts q
-  unfolding located
-  in-a-cell h = let k : first-inside cs ts q < cell-count ts = rw is-c at h in simp (lt-ltb _ _ k, is-c)
-
-  module _ (none : cell-count ts ≤ c) {b : ℕ} (is-b : b ≡ first-border cs ts q) where
-    none-inside : cell-count ts ≤ first-inside cs ts q
-    none-inside = rw is-c at none
-
-    pub on-a-border : b < cell-count ts → Refused Line ≡ located cs ts q
+module _ {cs : List ℤ} {T : Cells} {q : Point} {c : ℕ} {border : Bool} (s : Searched cs T q c border) where
+  -- cell c, by the code's answer for it
+  module _ (h : c < cell-count T) {w : Containment} (is-w : w ≡ against cs T q c) where
+    pub held-strictly : w ≡ W.Inside → Cell c ≡ located cs T q
     unfolding located
-    on-a-border h = let k : first-border cs ts q < cell-count ts = rw is-b at h in simp (le-ltb _ _ none-inside, lt-ltb _ _ k)
+    held-strictly e =
+        let is-c : c ≡ first-inside cs T q = seek-found (s .none-inside) h (ap is-inside (sym is-w ∙ e)) in
+        let k : first-inside cs T q < cell-count T = rw is-c at h in
+        simp (lt-ltb _ _ k, is-c)
 
-    pub outside-all : cell-count ts ≤ b → Refused Outside ≡ located cs ts q
+    pub met-on-its-border : w ≡ W.Border → Searched cs T q (c + 1) true
+    met-on-its-border e =
+        record {
+          none-inside = seek-goes-on (s .none-inside) h (ap is-inside (sym is-w ∙ e));
+          on-a-border = λ b. (c, h, ap is-border (sym is-w ∙ e));
+          on-no-border = λ b. absurd (not-both refl b);
+        }
+
+    pub passed-by : w ≡ W.Outside → Searched cs T q (c + 1) border
+    passed-by e =
+        record {
+          none-inside = seek-goes-on (s .none-inside) h (ap is-inside (sym is-w ∙ e));
+          on-a-border = s .on-a-border;
+          on-no-border = λ b k l. by-order b k l (decLt k c);
+        }
+      where
+        by-order : border ≡ false → (k : ℕ) → k < c + 1 → Dec (k < c) → is-border (against cs T q k) ≡ false
+        by-order b k l (yes m) = s .on-no-border b k m
+        by-order b k l (no m) =
+            let same : c ≡ k = omega arith in
+            subst (λ (i : ℕ). is-border (against cs T q i) ≡ false) same (ap is-border (sym is-w ∙ e))
+
+  module _ (h : cell-count T ≤ c) where
+    in-no-cell : cell-count T ≤ first-inside cs T q
+    in-no-cell = let is-c : c ≡ first-inside cs T q = seek-ends (s .none-inside) h in rw is-c at h
+
+    pub is-on-a-line : border ≡ true → Refused Line ≡ located cs T q
     unfolding located
-    outside-all h = let k : cell-count ts ≤ first-border cs ts q = rw is-b at h in simp (le-ltb _ _ none-inside, le-ltb _ _ k)
+    is-on-a-line b = simp (le-ltb _ _ in-no-cell, lt-ltb _ _ (below (decLt (first-border cs T q) (cell-count T))))
+      where
+        below : Dec (first-border cs T q < cell-count T) → first-border cs T q < cell-count T
+        below (yes k) = k
+        below (no k) =
+            let one = s .on-a-border b in
+            absurd (not-both (one .2) (none-holds (λ (i : ℕ). is-border (against cs T q i)) (cell-count T) (omega arith) (one .0) (one .1)))
 
--- ---- the whole finding
+    pub is-outside : border ≡ false → Refused Outside ≡ located cs T q
+    unfolding located
+    is-outside b =
+        let none = least-is-none (λ (i : ℕ). is-border (against cs T q i)) (cell-count T) 0 (λ k l m. s .on-no-border b k (omega arith)) in
+        let k : cell-count T ≤ first-border cs T q = omega (arith, none) in
+        simp (le-ltb _ _ in-no-cell, le-ltb _ _ k)
+
+-- ---- a stand as the code reads it
 
 module _ {u v : ℤ} (near : Near (record { x = u; y = v })) where
   pub as-read : point (toZ w64 (ofZ w64 u) ∷ toZ w64 (ofZ w64 v) ∷ []) ≡ record { x = u; y = v }
@@ -73,27 +96,3 @@ module _ {u v : ℤ} (near : Near (record { x = u; y = v })) where
 
   pub near-as-read : Near (point (toZ w64 (ofZ w64 u) ∷ toZ w64 (ofZ w64 v) ∷ []))
   near-as-read = subst Near (sym as-read) near
-
-module _ (cs : List ℤ) (ts ds : List ℕ) (s : Stand) where
-  pub plan-refused : {r : Refusal} → checked cs ts ds ≡ C.Refused r → Refused r ≡ found cs ts ds s
-  unfolding found
-  plan-refused e = ap (with-plan cs ts s) (sym e)
-
-  module _ {p : Plan} (accepted : checked cs ts ds ≡ C.Accepted p) where
-    pub accepted-corners-near : CornersNear cs
-    accepted-corners-near = accepted-is-sound cs ts ds p accepted .0 .corners
-
-    pub accepted-corners-exist : CornersExist cs ts
-    accepted-corners-exist = corners-exist (accepted-is-sound cs ts ds p accepted .0)
-
-    pub stand-refused : stood cs s ≡ S.Refused → Refused Stand′ ≡ found cs ts ds s
-    unfolding found
-    stand-refused e = ap (with-spot cs ts) (sym e) ∙ ap (with-plan cs ts s) (sym accepted)
-
-    module _ {u v : ℤ} (stands : stood cs s ≡ S.At u v) where
-      pub stand-near : Near (point (toZ w64 (ofZ w64 u) ∷ toZ w64 (ofZ w64 v) ∷ []))
-      stand-near = near-as-read (stand-is-near cs s stands)
-
-      pub stand-located : {r : Found} → r ≡ located cs ts (point (toZ w64 (ofZ w64 u) ∷ toZ w64 (ofZ w64 v) ∷ [])) → r ≡ found cs ts ds s
-      unfolding found
-      stand-located e = e ∙ ap (located cs ts) (as-read (stand-is-near cs s stands)) ∙ ap (with-spot cs ts) (sym stands) ∙ ap (with-plan cs ts s) (sym accepted)

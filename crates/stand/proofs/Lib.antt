@@ -1,5 +1,9 @@
 -- points and offsets, by what the code read; an accepted stand is within the limits
 pub mod Spots
+-- where a point lies against a cell, by the side values of its sides
+pub mod Against
+-- the loop over the sides of a cell
+mod Sides
 -- finding, way out by way out: what was found, and the reply
 pub mod Finds
 -- what each answer says of the stand and the cells; the cell found goes around the stand

@@ -15,9 +15,9 @@ use Rattle.exact.specs.Within.{Within}
 use Rattle.exact.proofs.Bounds.{coordinate}
 use Rattle.exact.proofs.Truth.{neither-true}
 use Rattle.plane.specs.Side.{Point, limit, Near}
-use Rattle.plan.specs.Lists.{corner-count, corner-at}
-use Rattle.plan.specs.Check.{outside}
-use Rattle.plan.proofs.Checks.{not-outside}
+use Rattle.cells.specs.Lists.{corner-count, corner-at}
+use Rattle.cells.specs.Check.{outside}
+use Rattle.cells.proofs.Checks.{not-outside}
 use Rattle.number.specs.Whole.{whole}
 use Rattle.number.specs.declared.Millimetres.{Millimetres}
 use Rattle.number.specs.declared.Millimetres.the-variants as M

@@ -1,8 +1,8 @@
 -- Finding's answer in document 01's numbers ("Reply numbers").
 use mathlib.Core.List.{[], _∷_}
 use Rattle.limits.specs.Reply.{Reply, done, refused}
-use Rattle.stand.specs.declared.find.Found.{Found}
-use Rattle.stand.specs.declared.find.Found.the-variants.{Cell, Refused}
+use Rattle.stand.specs.declared.locate.Found.{Found}
+use Rattle.stand.specs.declared.locate.Found.the-variants.{Cell, Refused}
 
 -- the stand's cell
 abbrev pub found-reply : Found → Reply

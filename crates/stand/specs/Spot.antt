@@ -4,8 +4,8 @@ use mathlib.Core.List.{List}
 use lib.Dec.{ltb}
 use lib.IntN.{ℤ, _+ℤ_}
 use lib.Ieee.{Float}
-use Rattle.plan.specs.Lists.{corner-count, corner-at}
-use Rattle.plan.specs.Check.{outside}
+use Rattle.cells.specs.Lists.{corner-count, corner-at}
+use Rattle.cells.specs.Check.{outside}
 use Rattle.number.specs.Whole.{whole}
 use Rattle.number.specs.declared.Millimetres.{Millimetres}
 use Rattle.number.specs.declared.Millimetres.the-variants as M

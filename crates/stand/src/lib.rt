@@ -1,3 +1,3 @@
 // Stands: whole millimetres, offsets, and the stand's cell (document 01, "The stand").
-pub mod find;
+pub mod locate;
 pub mod spot;

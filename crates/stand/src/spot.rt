@@ -1,12 +1,12 @@
 // A stand as the tablet gives it, and the whole millimetres that it is.
 ghost use mathlib.Core.Path.{_≡_};
 ghost use Rattle.stand.specs.declared.spot.Stand.the-variants.{Offset};
-ghost use Rattle.plan.specs.Sound.{CornersNear};
+ghost use Rattle.cells.specs.Sound.{CornersNear};
 ghost use Rattle.stand.specs.Spot.{whole-point, within-limits, stood};
+use cells::corner;
+use limits::Plan;
 use number::Millimetres;
 use number::whole_millimetres;
-use plan::Plan;
-use plan::corner;
 
 // A stand is a point, or an offset from a corner, each with two doubles in millimetres.
 pub enum Stand {

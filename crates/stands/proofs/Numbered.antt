@@ -16,7 +16,7 @@ use Rattle.number.proofs.Examples.{minus-zero-reads-as-zero}
 use Rattle.number.specs.Whole.{whole}
 use Rattle.number.specs.declared.Millimetres.{Millimetres}
 use Rattle.number.specs.declared.Millimetres.the-variants as M
-use Rattle.plan.specs.Lists.{corner-count}
+use Rattle.cells.specs.Lists.{corner-count}
 use Rattle.stand.proofs.Spots.{no-such-corner}
 use Rattle.stand.specs.Spot.{stood}
 use Rattle.stand.specs.declared.spot.Spot.the-variants.{Refused}

@@ -9,14 +9,19 @@ impl fmt::Display for Trial {
             Trial::Lists(scene, asked) => {
                 writeln!(f, "corners {:?}", scene.plan.corners)?;
                 writeln!(f, "cells {:?}", scene.plan.cells)?;
+                writeln!(f, "kind {}", scene.plan.kind)?;
                 writeln!(f, "doors {:?}", scene.plan.doors)?;
                 writeln!(f, "setting {:#x}", scene.setting)?;
-                if matches!(asked, Asked::ListStands { .. }) {
+                if matches!(asked, Asked::ListStands { .. } | Asked::EitherKind { .. }) {
                     writeln!(f, "stands {:?}", scene.stands)?;
-                } else {
+                }
+                if !matches!(asked, Asked::ListStands { .. }) {
                     writeln!(f, "stand {:?}", scene.stand)?;
                 }
-                if matches!(asked, Asked::Change { .. } | Asked::Demand3) {
+                if matches!(
+                    asked,
+                    Asked::Change { .. } | Asked::EitherKind { .. } | Asked::Demand3
+                ) {
                     writeln!(f, "door {}", scene.door)?;
                 }
                 write!(f, "asked {asked:?}")

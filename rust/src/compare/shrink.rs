@@ -1,9 +1,9 @@
 //! Making a failing trial smaller while it still fails.
 
 use super::{Asked, AskedOfBytes, Trial};
-use crate::calls::{Stand, POINT};
-use crate::generate::{query_record, Given, Room, Scene};
-use crate::paper::{self, WALL};
+use crate::calls::{Plan, Stand, POINT, POLYGONS};
+use crate::generate::{in_other_kind, query_record, Given, Room, Scene};
+use crate::paper::{self, cut_cells, Cell, SIDES, WALL};
 
 /// A trial that fails is run again so often at most.
 const MOST_RUNS: usize = 40_000;
@@ -70,6 +70,10 @@ fn simpler_asked(asked: &Asked) -> Vec<Asked> {
             }
             simpler
         }
+        &Asked::EitherKind { shut, given } if given != Given::True => {
+            let given = Given::True;
+            vec![Asked::EitherKind { shut, given }]
+        }
         Asked::Demand2 { directions } if directions.len() > 1 => directions
             .iter()
             .map(|&d| Asked::Demand2 {
@@ -108,8 +112,14 @@ enum Step {
     DropCells(usize, usize),
     DropDoors(usize, usize),
     DropStands(usize, usize),
+    /// Leave out numbers behind the last whole cell, from one place to another.
+    DropRest(usize, usize),
     /// Leave out a corner that is in no cell.
     DropCorner(usize),
+    /// Leave a corner of a cell out of it.
+    NarrowCell(usize, usize),
+    /// Put triangles in the kind that document 01 has.
+    TakeOldKind,
     ClearBit(u32),
     /// Move the whole scene by these numbers, or divide it by one.
     MoveBack([i64; 2]),
@@ -138,8 +148,14 @@ fn steps(scene: &Scene) -> Vec<Step> {
     let mut steps: Vec<Step> = blocks(scene.stands.len() / 3)
         .map(|(from, to)| Step::DropStands(from, to))
         .collect();
-    steps.extend(blocks(plan.cells.len() / 6).map(|(from, to)| Step::DropCells(from, to)));
+    let (cells, rest) = cut_cells(plan.kind, &plan.cells);
+    steps.extend(blocks(cells.len()).map(|(from, to)| Step::DropCells(from, to)));
+    steps.extend(blocks(rest.len()).map(|(from, to)| Step::DropRest(from, to)));
     steps.extend(blocks(plan.doors.len()).map(|(from, to)| Step::DropDoors(from, to)));
+    steps.extend(corners_of_larger(&cells));
+    if plan.kind == POLYGONS && in_other_kind(plan).is_some() {
+        steps.push(Step::TakeOldKind);
+    }
     steps.extend(unused_corners(scene).map(Step::DropCorner));
     steps.extend(
         (0..64)
@@ -171,7 +187,12 @@ fn take_step(scene: &Scene, step: Step) -> Scene {
         Step::DropCells(from, to) => drop_cells(&mut smaller, from, to),
         Step::DropDoors(from, to) => drop_doors(&mut smaller, from, to),
         Step::DropStands(from, to) => drop(smaller.stands.drain(3 * from..3 * to)),
+        Step::DropRest(from, to) => drop_rest(&mut smaller.plan, from, to),
         Step::DropCorner(corner) => drop_corner(&mut smaller, corner),
+        Step::NarrowCell(cell, corner) => narrow_cell(&mut smaller, cell, corner),
+        Step::TakeOldKind => {
+            smaller.plan = in_other_kind(&scene.plan).unwrap_or(smaller.plan);
+        }
         Step::ClearBit(bit) => smaller.setting &= !(1 << bit),
         Step::MoveBack(by) => map_scene(&mut smaller, |n, axis| n - by[axis]),
         Step::Divide(by) => map_scene(&mut smaller, |n, _| n / by),
@@ -205,37 +226,103 @@ fn blocks(count: usize) -> impl Iterator<Item = (usize, usize)> {
 
 /// Lines to the cells that go become walls, and doors on those lines go too.
 fn drop_cells(scene: &mut Scene, from: usize, to: usize) {
-    let gone = |cell: u16| (from..to).contains(&usize::from(cell));
+    let gone = |cell| (from..to).contains(&cell);
+    wall_off(scene, |cell, _, there| gone(cell) || gone(there));
+    let firsts = firsts(&scene.plan);
+    move_doors(&mut scene.plan, firsts[to], firsts[to] - firsts[from]);
     let by = (to - from) as u16;
-    let doors = scene.plan.doors.iter().enumerate().rev();
-    let lost: Vec<usize> = doors
-        .filter(|(_, &face)| {
-            let at = 6 * usize::from(face / 3) + 3 + usize::from(face % 3);
-            gone(face / 3) || scene.plan.cells.get(at).is_some_and(|&there| gone(there))
+    change_cells(&mut scene.plan, |cells| {
+        cells.drain(from..to);
+        for there in cells.iter_mut().flat_map(|cell| cell.neighbours.to_mut()) {
+            if *there != WALL && usize::from(*there) >= to {
+                *there -= by;
+            }
+        }
+    });
+}
+
+/// The lines of a cell at one of its corners become walls, and the corner goes.
+fn narrow_cell(scene: &mut Scene, cell: usize, corner: usize) {
+    let (cells, _) = cut_cells(scene.plan.kind, &scene.plan.cells);
+    let at = cells[cell].corners[corner];
+    wall_off(scene, |here, ends, there| {
+        ends.contains(&at) && (here == cell || there == cell)
+    });
+    let face = firsts(&scene.plan)[cell] + corner;
+    move_doors(&mut scene.plan, face + 1, 1);
+    change_cells(&mut scene.plan, |cells| {
+        cells[cell].corners.to_mut().remove(corner);
+        cells[cell].neighbours.to_mut().remove(corner);
+    });
+}
+
+/// Makes walls of lines, told by the cell of a side, its ends and its neighbour,
+/// and drops the doors there.
+fn wall_off(scene: &mut Scene, is_meant: impl Fn(usize, [u16; 2], usize) -> bool) {
+    let mut walled = Vec::new();
+    change_cells(&mut scene.plan, |cells| {
+        for (number, cell) in cells.iter_mut().enumerate() {
+            for side in 0..cell.corners.len() {
+                let there = usize::from(cell.neighbours[side]);
+                let wall = is_meant(number, cell.ends(side), there);
+                walled.push(wall);
+                if wall {
+                    cell.neighbours.to_mut()[side] = WALL;
+                }
+            }
+        }
+    });
+    for door in (0..scene.plan.doors.len()).rev() {
+        if walled.get(usize::from(scene.plan.doors[door])) == Some(&true) {
+            drop_doors(scene, door, door + 1);
+        }
+    }
+}
+
+/// Changes the whole cells of the list.
+fn change_cells(plan: &mut Plan, change: impl FnOnce(&mut Vec<Cell<'_>>)) {
+    let (mut cells, rest) = cut_cells(plan.kind, &plan.cells);
+    change(&mut cells);
+    let numbers = cells.iter().flat_map(|cell| cell.numbers(plan.kind));
+    plan.cells = numbers.chain(rest.iter().copied()).collect();
+}
+
+/// The first face of each whole cell, and the count of faces.
+fn firsts(plan: &Plan) -> Vec<usize> {
+    let (cells, _) = cut_cells(plan.kind, &plan.cells);
+    let mut firsts = vec![0];
+    for cell in cells {
+        firsts.push(firsts[firsts.len() - 1] + cell.corners.len());
+    }
+    firsts
+}
+
+/// Doors from a face on are moved to lower faces.
+fn move_doors(plan: &mut Plan, from: usize, by: usize) {
+    for face in &mut plan.doors {
+        if usize::from(*face) >= from {
+            *face -= by as u16;
+        }
+    }
+}
+
+fn drop_rest(plan: &mut Plan, from: usize, to: usize) {
+    let (_, rest) = cut_cells(plan.kind, &plan.cells);
+    let whole = plan.cells.len() - rest.len();
+    plan.cells.drain(whole + from..whole + to);
+}
+
+/// The corners of cells that have more than they must.
+fn corners_of_larger(cells: &[Cell<'_>]) -> Vec<Step> {
+    let larger = |(_, cell): &(usize, &Cell<'_>)| cell.corners.len() > *SIDES.start();
+    cells
+        .iter()
+        .enumerate()
+        .filter(larger)
+        .flat_map(|(number, cell)| {
+            (0..cell.corners.len()).map(move |corner| Step::NarrowCell(number, corner))
         })
-        .map(|(door, _)| door)
-        .collect();
-    for door in lost {
-        drop_doors(scene, door, door + 1);
-    }
-    for face in &mut scene.plan.doors {
-        if usize::from(*face / 3) >= to {
-            *face -= 3 * by;
-        }
-    }
-    scene.plan.cells.drain(6 * from..6 * to);
-    for neighbour in scene
-        .plan
-        .cells
-        .chunks_mut(6)
-        .flat_map(|c| c.iter_mut().skip(3))
-    {
-        if gone(*neighbour) {
-            *neighbour = WALL;
-        } else if *neighbour != WALL && usize::from(*neighbour) >= to {
-            *neighbour -= by;
-        }
-    }
+        .collect()
 }
 
 /// The doors go, and their bits of the setting.
@@ -251,7 +338,8 @@ fn drop_doors(scene: &mut Scene, from: usize, to: usize) {
 
 fn unused_corners(scene: &Scene) -> impl Iterator<Item = usize> {
     let mut used = vec![false; scene.plan.corners.len() / 2];
-    for corner in scene.plan.cells.chunks(6).flat_map(|c| c.iter().take(3)) {
+    let (cells, _) = cut_cells(scene.plan.kind, &scene.plan.cells);
+    for corner in cells.iter().flat_map(|cell| cell.corners.iter()) {
         if let Some(used) = used.get_mut(usize::from(*corner)) {
             *used = true;
         }
@@ -262,14 +350,10 @@ fn unused_corners(scene: &Scene) -> impl Iterator<Item = usize> {
 fn drop_corner(scene: &mut Scene, corner: usize) {
     let moved = |old: u16| old - u16::from(usize::from(old) > corner);
     scene.plan.corners.drain(2 * corner..2 * corner + 2);
-    for number in scene
-        .plan
-        .cells
-        .chunks_mut(6)
-        .flat_map(|c| c.iter_mut().take(3))
-    {
-        *number = moved(*number);
-    }
+    change_cells(&mut scene.plan, |cells| {
+        let numbers = cells.iter_mut().flat_map(|cell| cell.corners.to_mut());
+        numbers.for_each(|number| *number = moved(*number));
+    });
     each_stand(scene, |stand| match stand {
         Stand::Point(..) => stand,
         Stand::Offset(from, dx, dy) => Stand::Offset(moved(from), dx, dy),

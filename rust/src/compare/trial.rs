@@ -3,7 +3,7 @@
 
 use super::{Call, Tally};
 use crate::calls::{Calls, DoorChange, Plan, Refusal, Reply, Stand};
-use crate::generate::{Given, Room, Scene};
+use crate::generate::{in_other_kind, Given, Room, Scene};
 use crate::paper::{self, Direction, Floor, Listing, Paper, Row, View};
 use std::fmt::Debug;
 
@@ -30,6 +30,11 @@ pub enum Asked {
     },
     /// What is written and read again is what was written.
     RoundTrip,
+    /// A plan of triangles has the same replies, rows and counts in either kind.
+    EitherKind {
+        shut: bool,
+        given: Given,
+    },
     /// Every direction is held by one row, and walks to its face.
     Demand2 {
         directions: Vec<Direction>,
@@ -95,24 +100,24 @@ fn run_scene(scene: &Scene, asked: &Asked, both: Both<'_>, tally: &mut Tally) ->
     match asked {
         Asked::Check => {
             let reply = both.ask(|calls| calls.check(lists))?;
-            tally.count(Call::Check, reply.number);
+            tally.count(Call::Check, lists.kind, reply.number);
         }
         Asked::Write { bytes } => {
             let room = bytes.length(paper::encode(lists).len());
             let (reply, _) = both.ask(|calls| write(calls, &scene.plan, room))?;
-            tally.count(Call::Write, reply.number);
+            tally.count(Call::Write, lists.kind, reply.number);
         }
         Asked::Find => {
             let reply = both.ask(|calls| calls.find(lists, scene.stand))?;
-            tally.count(Call::Find, reply.number);
+            tally.count(Call::Find, lists.kind, reply.number);
         }
         Asked::List { table } => {
             let (reply, _) = both.ask(|calls| list(calls, scene, scene.setting, *table))?;
-            tally.count(Call::List, reply.number);
+            tally.count(Call::List, lists.kind, reply.number);
         }
         Asked::ListStands { room } => {
             let morning = both.ask(|calls| list_stands(calls, scene, *room))?;
-            tally.count(Call::ListStands, morning.reply.number);
+            tally.count(Call::ListStands, lists.kind, morning.reply.number);
             if morning.reply.number == 0 {
                 let morning = same(morning, single_calls(both.right, scene, *room))?;
                 let (own, _) = morning.replies.as_chunks();
@@ -123,9 +128,10 @@ fn run_scene(scene: &Scene, asked: &Asked, both: Both<'_>, tally: &mut Tally) ->
         Asked::Change { shut, given, table } => {
             let given = given.numbers(&true_numbers(scene));
             let (reply, _) = both.ask(|calls| change(calls, scene, &given, *shut, *table))?;
-            tally.count(Call::Change, reply.number);
+            tally.count(Call::Change, lists.kind, reply.number);
         }
         Asked::RoundTrip => round_trip(&scene.plan, both)?,
+        &Asked::EitherKind { shut, given } => either_kind(scene, shut, given, both, tally)?,
         Asked::Demand2 { directions } => demand_2(scene, directions, both, tally)?,
         Asked::Demand3 => demand_3(scene, both, tally)?,
     }
@@ -137,11 +143,12 @@ fn run_bytes(bytes: &[u8], asked: &AskedOfBytes, both: Both<'_>, tally: &mut Tal
         AskedOfBytes::Read { lists } => {
             let room = read_room(bytes, lists);
             let (reply, _) = both.ask(|calls| read(calls, bytes, room))?;
-            tally.count(Call::Read, reply.number);
+            tally.count(Call::Read, kind_of_file(bytes), reply.number);
         }
         AskedOfBytes::Print => {
             let printed = both.ask(|calls| text(calls.print(bytes)))?;
-            tally.count(Call::Print, printed_number(&printed));
+            let kind = file_behind_query(bytes).map_or(0, kind_of_file);
+            tally.count(Call::Print, kind, printed_number(&printed));
         }
     }
     Ok(())
@@ -167,13 +174,17 @@ fn write(calls: &dyn Calls, plan: &Plan, room: usize) -> (Reply, Vec<u8>) {
     (calls.write(plan.lists(), &mut file), file)
 }
 
+/// The kind of what is read is the one that the reply says.
 fn read(calls: &dyn Calls, file: &[u8], room: [usize; 3]) -> (Reply, Plan) {
     let mut lists = Plan {
         corners: lent(room[0], |number| number as i32),
         cells: lent_words(room[1]),
         doors: lent_words(room[2]),
+        kind: 0,
     };
     let reply = calls.read(file, &mut lists.corners, &mut lists.cells, &mut lists.doors);
+    let [.., kind, _] = reply.values;
+    lists.kind = u16::try_from(kind).unwrap_or(0);
     (reply, lists)
 }
 
@@ -253,6 +264,17 @@ fn read_room(file: &[u8], rooms: &[Room; 3]) -> [usize; 3] {
     [0, 1, 2].map(|i| rooms[i].length(asked[i]))
 }
 
+/// The kind of a file's second record, or 0 where there is none.
+fn kind_of_file(file: &[u8]) -> u16 {
+    let second = paper::take_record(file).and_then(|(_, _, rest)| paper::take_record(rest));
+    second.map_or(0, |(kind, ..)| kind)
+}
+
+/// The plan file behind the query of an input.
+fn file_behind_query(input: &[u8]) -> Option<&[u8]> {
+    paper::query(input).map(|(_, _, file)| file)
+}
+
 fn text(printed: Vec<u8>) -> String {
     String::from_utf8(printed).unwrap_or_else(|fault| format!("not text: {:?}", fault.as_bytes()))
 }
@@ -314,7 +336,7 @@ fn single_calls(calls: &dyn Calls, scene: &Scene, room: [Room; 2]) -> Morning {
     put(&mut table, rows.as_flattened());
     put(&mut replies, own.as_flattened());
     Morning {
-        reply: Reply::done([rows.len() as u64, crossings, 0]),
+        reply: Reply::done([rows.len() as u64, crossings]),
         table,
         replies,
     }
@@ -348,14 +370,47 @@ fn round_trip(plan: &Plan, both: Both<'_>) -> Outcome {
     Ok(())
 }
 
+/// What a call on a plan of triangles leaves is the same in either kind: for
+/// the check, finding, the listing, a morning and the door change. One of the
+/// implementors is asked in each.
+fn either_kind(
+    scene: &Scene,
+    shut: bool,
+    given: Given,
+    both: Both<'_>,
+    tally: &mut Tally,
+) -> Outcome {
+    let Some(plan) = in_other_kind(&scene.plan) else {
+        return Ok(());
+    };
+    let other = &Scene {
+        plan,
+        ..scene.clone()
+    };
+    let given = given.numbers(&true_numbers(scene));
+    let room = Room::Exact;
+    let ask = |calls: &dyn Calls, scene: &Scene| {
+        (
+            calls.check(scene.plan.lists()),
+            calls.find(scene.plan.lists(), scene.stand),
+            list(calls, scene, scene.setting, room),
+            list_stands(calls, scene, [room; 2]),
+            change(calls, scene, &given, shut, room),
+        )
+    };
+    same(ask(both.left, scene), ask(both.right, other))?;
+    tally.either += 1;
+    Ok(())
+}
+
 fn demand_2(scene: &Scene, directions: &[Direction], both: Both<'_>, tally: &mut Tally) -> Outcome {
     let Ok(listing) = both.ask(|calls| listing(calls, scene, scene.setting))? else {
         return Ok(());
     };
-    within_bounds(scene, &listing)?;
     tally.rows += listing.rows.len() as u64;
     tally.crossings += listing.crossings;
     let floor = Floor::check(scene.plan.lists()).map_err(wrongly_listed)?;
+    within_bounds(&floor, &listing)?;
     let view = View::new(&floor, scene.setting, scene.stand).map_err(wrongly_listed)?;
     for &d in directions {
         if !view.meets_corner(d) {
@@ -371,9 +426,8 @@ fn wrongly_listed(refusal: Refusal) -> String {
 }
 
 /// Rows never outnumber corners; crossings never exceed rows times (cells − 1).
-fn within_bounds(scene: &Scene, listing: &Listing) -> Outcome {
-    let corners = scene.plan.corners.len() / 2;
-    let cells = scene.plan.cells.len() / 6;
+fn within_bounds(floor: &Floor, listing: &Listing) -> Outcome {
+    let (corners, cells) = (floor.corners().len(), floor.cell_count());
     let (rows, crossings) = (listing.rows.len(), listing.crossings);
     if rows > corners || crossings > (rows * (cells - 1)) as u64 {
         return Err(format!(

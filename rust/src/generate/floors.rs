@@ -3,6 +3,7 @@
 use super::dice::Dice;
 use super::mesh::{side_value, Mesh, Spot};
 use crate::paper::{CELLS, COORDINATES, CORNERS};
+use std::collections::BTreeMap;
 
 /// The end of the coordinate range.
 const EDGE: i64 = *COORDINATES.end();
@@ -11,13 +12,15 @@ const EDGE: i64 = *COORDINATES.end();
 pub fn random(dice: &mut Dice) -> Mesh {
     let mut mesh = match dice.below(100) {
         0..=2 => one_cell(dice),
-        3..=19 => jittered_grid(dice),
-        20..=39 => incremental(dice),
-        40..=49 => fan(dice),
-        50..=66 => rooms(dice),
-        67..=76 => random_corridor(dice),
-        77..=84 => random_fence(dice),
-        85..=96 => ramp(dice),
+        3..=17 => jittered_grid(dice),
+        18..=33 => incremental(dice),
+        34..=42 => fan(dice),
+        43..=57 => rooms(dice),
+        58..=65 => random_corridor(dice),
+        66..=72 => random_fence(dice),
+        73..=83 => ramp(dice),
+        84..=92 => tiles(dice),
+        93..=96 => rays(dice),
         _ => random_cathedral(dice),
     };
     build_inside(&mut mesh, dice);
@@ -419,6 +422,96 @@ fn times(at: Spot, factor: i64) -> Spot {
     [at[0] * factor, at[1] * factor]
 }
 
+/// The corners of an octagon, in a square of four by four.
+pub const OCTAGON: [Spot; 8] = [
+    [2, -1],
+    [2, 1],
+    [1, 2],
+    [-1, 2],
+    [-2, 1],
+    [-2, -1],
+    [-1, -2],
+    [1, -2],
+];
+
+/// Octagons side by side, each parted into triangles, and between every four of
+/// them a diamond. Merged again these are cells of every size up to the largest.
+fn tiles(dice: &mut Dice) -> Mesh {
+    let (columns, rows) = (1 + dice.below(4), 1 + dice.below(4));
+    let [wide, high] = [(); 2].map(|()| dice.pick(&[1, 2, 6, 100]));
+    let mut numbers = BTreeMap::new();
+    let mut number = |x: i64, y: i64| {
+        let count = numbers.len();
+        *numbers.entry([x, y]).or_insert(count)
+    };
+    let mut cells = Vec::new();
+    for (column, row) in (0..columns).flat_map(|column| (0..rows).map(move |row| (column, row))) {
+        let [x, y] = [column, row].map(|step| 4 * step as i64);
+        cells.extend(part(
+            OCTAGON.map(|at| number(x + at[0], y + at[1])).to_vec(),
+            dice,
+        ));
+        if column > 0 && row > 0 {
+            let diamond = [[-2, -3], [-1, -2], [-2, -1], [-3, -2]];
+            cells.extend(part(
+                diamond.map(|at| number(x + at[0], y + at[1])).to_vec(),
+                dice,
+            ));
+        }
+    }
+    let jitter = dice.pick(&[0, 0, 10, 30]);
+    let mut corners = vec![[0, 0]; numbers.len()];
+    for ([x, y], number) in numbers {
+        let moved = |size: i64, dice: &mut Dice| size * dice.between(-jitter, jitter) / 100;
+        corners[number] = [x * wide + moved(wide, dice), y * high + moved(high, dice)];
+    }
+    let mut mesh = Mesh::of_cells(corners, &cells);
+    if dice.percent(30) {
+        flip_some(&mut mesh, dice, cells.len());
+    }
+    mesh
+}
+
+/// The corners of a cell that zero is the only whole spot inside of.
+const AROUND_ZERO: [Spot; 3] = [[-1, -1], [1, 0], [0, 1]];
+
+/// Layers of cells between three rays from zero, where the stand is: every corner
+/// lies on a limit, but for the tips of the last layers.
+fn rays(dice: &mut Dice) -> Mesh {
+    let mut corners = AROUND_ZERO.to_vec();
+    let mut cells = vec![[0, 1, 2]];
+    for (right, left) in [(0, 1), (1, 2), (2, 0)] {
+        let (mut near, mut far) = ([right, left], [1, 1]);
+        for _ in 0..dice.below(5) {
+            far = far.map(|far| far + dice.between(1, 3));
+            let first = corners.len();
+            corners.push(times(AROUND_ZERO[right], far[0]));
+            corners.push(times(AROUND_ZERO[left], far[1]));
+            let next = [first, first + 1];
+            cells.extend(part_square([near[1], near[0], next[0], next[1]], dice));
+            near = next;
+        }
+        if dice.percent(60) {
+            let [a, b] = near.map(|corner| corners[corner]);
+            cells.push([near[1], near[0], corners.len()]);
+            corners.push([a[0] + b[0], a[1] + b[1]]);
+        }
+    }
+    Mesh::of_cells(corners, &cells)
+}
+
+/// Triangles that a convex cell is parted into, cut off at random corners.
+fn part(mut corners: Vec<usize>, dice: &mut Dice) -> Vec<[usize; 3]> {
+    let mut cells = Vec::new();
+    while corners.len() > 2 {
+        let first = dice.below(corners.len());
+        corners.rotate_left(first);
+        cells.push([corners[0], corners[1], corners[2]]);
+        corners.remove(1);
+    }
+    cells
+}
+
 fn random_cathedral(dice: &mut Dice) -> Mesh {
     let (columns, rows) = (8 + dice.below(8), 8 + dice.below(8));
     cathedral(columns, rows, 40, dice)
@@ -581,7 +674,7 @@ pub fn spot_on_line(mesh: &Mesh, face: usize, dice: &mut Dice) -> Option<Spot> {
     })
 }
 
-fn greatest_divisor(a: i64, b: i64) -> i64 {
+pub fn greatest_divisor(a: i64, b: i64) -> i64 {
     if b == 0 {
         a
     } else {

@@ -4,7 +4,7 @@
 //! value, and links that answer each other along the same two corners.
 
 use super::dice::Dice;
-use crate::calls::Plan;
+use crate::calls::{Plan, TRIANGLES};
 use crate::paper::WALL;
 
 pub type Spot = [i64; 2];
@@ -277,7 +277,7 @@ impl Mesh {
         self.corners.iter_mut().for_each(|at| *at = map(*at));
     }
 
-    /// The plan with these faces as doors.
+    /// The plan with these faces as doors, in triangles.
     pub fn plan(&self, doors: &[usize]) -> Plan {
         let neighbour = |face: usize| self.across[face].map_or(WALL, |other| (other / 3) as u16);
         Plan {
@@ -291,6 +291,7 @@ impl Mesh {
                 })
                 .collect(),
             doors: doors.iter().map(|&face| face as u16).collect(),
+            kind: TRIANGLES,
         }
     }
 }

@@ -1,5 +1,6 @@
 //! "The plan file": records, the reader's framing and the writer's bytes.
 
+use super::plan::whole_cells;
 use crate::calls::{Lists, Plan, Refusal};
 
 /// A record's length and kind, before its body.
@@ -7,19 +8,24 @@ const HEAD: usize = 6;
 
 /// Takes a file apart into its lists, not yet checked; refuses by FRAME only.
 pub fn decode(file: &[u8]) -> Result<Plan, Refusal> {
-    let (corners, rest) = take_body(file, 1, 8)?;
-    let (cells, rest) = take_body(rest, 2, 12)?;
-    let (doors, rest) = take_body(rest, 3, 2)?;
-    if !rest.is_empty() {
+    let (1, corners, rest) = take_record_of(file, 8)? else {
         return Err(Refusal::Frame);
-    }
+    };
+    let (kind, cells, rest) = take_record_of(rest, 2)?;
+    let (3, doors, []) = take_record_of(rest, 2)? else {
+        return Err(Refusal::Frame);
+    };
+    let cells = words(cells);
+    // Any kind but the two that cells come in is refused here too.
+    whole_cells(kind, &cells)?;
     Ok(Plan {
         corners: corners
             .chunks_exact(4)
             .map(|bytes| i32::from_le_bytes(bytes.try_into().expect("four bytes")))
             .collect(),
-        cells: words(cells),
+        cells,
         doors: words(doors),
+        kind,
     })
 }
 
@@ -29,18 +35,20 @@ fn words(body: &[u8]) -> Vec<u16> {
         .collect()
 }
 
-/// The body of the wanted kind at the start of the bytes, and what follows it.
-fn take_body(bytes: &[u8], kind: u16, multiple: usize) -> Result<(&[u8], &[u8]), Refusal> {
+/// A record, and what follows it: kind, body, rest.
+type Record<'a> = (u16, &'a [u8], &'a [u8]);
+
+/// The record at the start of the bytes, where its body is a multiple of so
+/// many.
+fn take_record_of(bytes: &[u8], multiple: usize) -> Result<Record<'_>, Refusal> {
     match take_record(bytes) {
-        Some((found, body, rest)) if found == kind && body.len().is_multiple_of(multiple) => {
-            Ok((body, rest))
-        }
+        Some(record) if record.1.len().is_multiple_of(multiple) => Ok(record),
         _ => Err(Refusal::Frame),
     }
 }
 
-/// Kind and body of the record at the start of the bytes, and what follows it.
-pub fn take_record(bytes: &[u8]) -> Option<(u16, &[u8], &[u8])> {
+/// The record at the start of the bytes.
+pub fn take_record(bytes: &[u8]) -> Option<Record<'_>> {
     let (head, rest) = bytes.split_at_checked(HEAD)?;
     let length = u32::from_le_bytes([head[0], head[1], head[2], head[3]]);
     let kind = u16::from_le_bytes([head[4], head[5]]);
@@ -48,12 +56,17 @@ pub fn take_record(bytes: &[u8]) -> Option<(u16, &[u8], &[u8])> {
     Some((kind, body, rest))
 }
 
-/// The one file for these lists.
+/// The one file for these lists: the kind that they are in is their record's.
 pub fn encode(lists: Lists<'_>) -> Vec<u8> {
     let corners = lists.corners.iter().flat_map(|n| n.to_le_bytes()).collect();
     let cells = lists.cells.iter().flat_map(|n| n.to_le_bytes()).collect();
     let doors = lists.doors.iter().flat_map(|n| n.to_le_bytes()).collect();
-    [record(1, corners), record(2, cells), record(3, doors)].concat()
+    [
+        record(1, corners),
+        record(lists.kind, cells),
+        record(3, doors),
+    ]
+    .concat()
 }
 
 fn record(kind: u16, body: Vec<u8>) -> Vec<u8> {

@@ -1,13 +1,17 @@
-//! "Side value and plan check": the limits, the refusals and the check, which
-//! turns the lists into a floor.
+//! "Side value and plan check" for cells of 3 to 8 corners: the limits, the
+//! cells of a list, and the check, which turns the lists into a floor.
 
-use crate::calls::{Lists, Refusal};
-use std::ops::RangeInclusive;
+use crate::calls::{Lists, Refusal, POLYGONS, TRIANGLES};
+use std::borrow::Cow;
+use std::ops::{Range, RangeInclusive};
 
 pub const CORNERS: RangeInclusive<usize> = 3..=2_048;
 pub const CELLS: RangeInclusive<usize> = 1..=3_000;
 pub const DOORS: RangeInclusive<usize> = 0..=64;
 pub const COORDINATES: RangeInclusive<i64> = -(1 << 29)..=1 << 29;
+
+/// How many corners a cell has, and so how many sides.
+pub const SIDES: RangeInclusive<usize> = 3..=8;
 
 /// The neighbour number, and here also the opposite face, that means wall.
 pub const WALL: u16 = u16::MAX;
@@ -28,37 +32,112 @@ pub fn product(a: i64, b: i64) -> i128 {
     i128::from(a) * i128::from(b)
 }
 
-/// A plan that passed the check, laid out by faces.
+/// A cell of a list: as many neighbours as corners.
+#[derive(Clone, Debug, PartialEq, Eq)]
+pub struct Cell<'a> {
+    pub corners: Cow<'a, [u16]>,
+    /// Neighbour s lies across the side from corner s to the one after it.
+    pub neighbours: Cow<'a, [u16]>,
+}
+
+impl Cell<'_> {
+    /// The two corners of a side, in the order of the cell.
+    pub fn ends(&self, side: usize) -> [u16; 2] {
+        let count = self.corners.len();
+        [self.corners[side], self.corners[(side + 1) % count]]
+    }
+
+    /// The side with these ends, in this order.
+    fn side_between(&self, ends: [u16; 2]) -> Option<usize> {
+        (0..self.corners.len()).find(|&side| self.ends(side) == ends)
+    }
+
+    /// Its numbers in a list of a kind.
+    pub fn numbers(&self, kind: u16) -> Vec<u16> {
+        let count = (kind == POLYGONS).then_some(self.corners.len() as u16);
+        let numbers = self.corners.iter().chain(self.neighbours.iter()).copied();
+        count.into_iter().chain(numbers).collect()
+    }
+}
+
+/// The whole cells that a list of a kind begins with, and what is left of it.
+/// A list of no kind that there is begins with none.
+pub fn cut_cells(kind: u16, list: &[u16]) -> (Vec<Cell<'_>>, &[u16]) {
+    let mut cells = Vec::new();
+    let mut rest = list;
+    while let Some((cell, after)) = first_cell(kind, rest) {
+        cells.push(cell);
+        rest = after;
+    }
+    (cells, rest)
+}
+
+fn first_cell(kind: u16, list: &[u16]) -> Option<(Cell<'_>, &[u16])> {
+    let (count, numbers) = match kind {
+        TRIANGLES => (3, list),
+        POLYGONS => {
+            let (&count, numbers) = list.split_first()?;
+            (usize::from(count), numbers)
+        }
+        _ => return None,
+    };
+    if !SIDES.contains(&count) {
+        return None;
+    }
+    let (corners, rest) = numbers.split_at_checked(count)?;
+    let (neighbours, rest) = rest.split_at_checked(count)?;
+    let cell = Cell {
+        corners: corners.into(),
+        neighbours: neighbours.into(),
+    };
+    Some((cell, rest))
+}
+
+/// The cells of a whole list, which has to be of one of the two kinds.
+pub fn whole_cells(kind: u16, list: &[u16]) -> Result<Vec<Cell<'_>>, Refusal> {
+    match cut_cells(kind, list) {
+        (cells, []) if [TRIANGLES, POLYGONS].contains(&kind) => Ok(cells),
+        _ => Err(Refusal::Frame),
+    }
+}
+
+/// A plan that passed the check.
 pub struct Floor {
     corners: Vec<Point>,
-    /// The corner where each face's side begins.
-    starts: Vec<u16>,
+    /// The faces of each cell.
+    cells: Vec<Range<u16>>,
+    /// Of each face the corners where its side begins and ends.
+    ends: Vec<[u16; 2]>,
+    /// Of each face its cell's number.
+    owners: Vec<u16>,
     /// The face on the other side of each line, or wall.
     across: Vec<u16>,
     doors: Vec<u16>,
 }
 
-/// The side after a face's side, in the same cell.
-pub fn next(face: u16) -> u16 {
-    if face % 3 == 2 {
-        face - 2
-    } else {
-        face + 1
-    }
-}
-
 impl Floor {
     /// The plan check. The order of the steps is the order of the numbers.
     pub fn check(lists: Lists<'_>) -> Result<Floor, Refusal> {
-        check_frame(lists)?;
-        check_sizes(lists)?;
+        let cells = check_frame(lists)?;
+        check_sizes(lists, &cells)?;
         let corners = check_corners(lists.corners)?;
-        let starts = check_cells(lists.cells, &corners)?;
-        let across = check_neighbours(lists.cells, &starts)?;
+        check_cells(&cells, &corners)?;
+        let faces = number_faces(&cells);
+        let across = check_neighbours(&cells, &faces)?;
         check_doors(lists.doors, &across)?;
+        let sides = |cell: &Cell<'_>| 0..cell.corners.len();
         Ok(Floor {
             corners,
-            starts,
+            ends: cells
+                .iter()
+                .flat_map(|cell| sides(cell).map(|side| cell.ends(side)))
+                .collect(),
+            owners: cells
+                .iter()
+                .zip(0..)
+                .flat_map(|(cell, number)| sides(cell).map(move |_| number))
+                .collect(),
+            cells: faces,
             across,
             doors: lists.doors.to_vec(),
         })
@@ -73,16 +152,34 @@ impl Floor {
     }
 
     pub fn cell_count(&self) -> usize {
-        self.starts.len() / 3
+        self.cells.len()
     }
 
     pub fn corner(&self, number: u16) -> Point {
         self.corners[usize::from(number)]
     }
 
-    /// The corner where the face's side begins. It ends where the next begins.
-    pub fn start(&self, face: u16) -> u16 {
-        self.starts[usize::from(face)]
+    /// The faces of a cell.
+    pub fn faces(&self, cell: usize) -> Range<u16> {
+        self.cells[cell].clone()
+    }
+
+    /// The number of the cell that a face belongs to.
+    pub fn cell_with(&self, face: u16) -> usize {
+        self.owners[usize::from(face)].into()
+    }
+
+    /// The corners where the face's side begins and ends. From a spot that has
+    /// the side on its left they are its right and its left end.
+    pub fn ends(&self, face: u16) -> [u16; 2] {
+        self.ends[usize::from(face)]
+    }
+
+    /// The other faces of a face's cell, counter-clockwise from where its side
+    /// ends, which is the right end for one who enters through it.
+    pub fn others(&self, face: u16) -> impl DoubleEndedIterator<Item = u16> {
+        let all = self.faces(self.cell_with(face));
+        (face + 1..all.end).chain(all.start..face)
     }
 
     /// Both faces of a door.
@@ -109,16 +206,17 @@ impl Floor {
     }
 }
 
-fn check_frame(lists: Lists<'_>) -> Result<(), Refusal> {
-    if !lists.corners.len().is_multiple_of(2) || !lists.cells.len().is_multiple_of(6) {
+/// Gives back the cells of the list.
+fn check_frame(lists: Lists<'_>) -> Result<Vec<Cell<'_>>, Refusal> {
+    if !lists.corners.len().is_multiple_of(2) {
         return Err(Refusal::Frame);
     }
-    Ok(())
+    whole_cells(lists.kind, lists.cells)
 }
 
-fn check_sizes(lists: Lists<'_>) -> Result<(), Refusal> {
+fn check_sizes(lists: Lists<'_>, cells: &[Cell<'_>]) -> Result<(), Refusal> {
     if !CORNERS.contains(&(lists.corners.len() / 2))
-        || !CELLS.contains(&(lists.cells.len() / 6))
+        || !CELLS.contains(&cells.len())
         || !DOORS.contains(&lists.doors.len())
     {
         return Err(Refusal::Size);
@@ -142,50 +240,69 @@ fn check_corners(list: &[i32]) -> Result<Vec<Point>, Refusal> {
         .collect())
 }
 
-/// Gives back where each face's side begins.
-fn check_cells(list: &[u16], corners: &[Point]) -> Result<Vec<u16>, Refusal> {
-    let mut starts = Vec::with_capacity(list.len() / 2);
-    for (cell, numbers) in list.chunks_exact(6).enumerate() {
-        let point = |side: usize| corners.get(usize::from(numbers[side]));
-        match (point(0), point(1), point(2)) {
-            (Some(&a), Some(&b), Some(&c)) if side_value(a, b, c) > 0 => {
-                starts.extend_from_slice(&numbers[..3]);
-            }
-            _ => return Err(Refusal::Cell(cell)),
-        }
+fn check_cells(cells: &[Cell<'_>], corners: &[Point]) -> Result<(), Refusal> {
+    match cells.iter().position(|cell| !is_right(cell, corners)) {
+        Some(cell) => Err(Refusal::Cell(cell)),
+        None => Ok(()),
     }
-    Ok(starts)
 }
 
-/// Gives back the face on the other side of each line.
-fn check_neighbours(list: &[u16], starts: &[u16]) -> Result<Vec<u16>, Refusal> {
-    let faces = 0..starts.len() as u16;
-    faces
-        .map(|face| match neighbour_at(list, face) {
-            WALL => Ok(WALL),
-            neighbour => answering_face(list, starts, face, neighbour)
-                .ok_or(Refusal::Neighbour(usize::from(face))),
+/// Whether the corners of a cell exist and differ, and every one but a side's
+/// own two is strictly left of that side.
+fn is_right(cell: &Cell<'_>, corners: &[Point]) -> bool {
+    let numbers = &cell.corners;
+    let exists = |&number: &u16| usize::from(number) < corners.len();
+    if !numbers.iter().all(exists) {
+        return false;
+    }
+    if (1..numbers.len()).any(|at| numbers[..at].contains(&numbers[at])) {
+        return false;
+    }
+    let point = |number: u16| corners[usize::from(number)];
+    (0..numbers.len()).all(|side| {
+        let ends = cell.ends(side);
+        let [a, b] = ends.map(point);
+        let mut others = numbers.iter().filter(|number| !ends.contains(number));
+        others.all(|&other| side_value(a, b, point(other)) > 0)
+    })
+}
+
+/// Faces in the order of the list, those of a cell one after another.
+fn number_faces(cells: &[Cell<'_>]) -> Vec<Range<u16>> {
+    let mut next = 0;
+    cells
+        .iter()
+        .map(|cell| {
+            let first = next;
+            next += cell.corners.len() as u16;
+            first..next
         })
         .collect()
 }
 
-fn neighbour_at(list: &[u16], face: u16) -> u16 {
-    let (cell, side) = (usize::from(face / 3), usize::from(face % 3));
-    list[6 * cell + 3 + side]
+/// Gives back the face on the other side of each line.
+fn check_neighbours(cells: &[Cell<'_>], faces: &[Range<u16>]) -> Result<Vec<u16>, Refusal> {
+    let mut across = Vec::new();
+    for (cell, number) in cells.iter().zip(0..) {
+        for (side, &neighbour) in cell.neighbours.iter().enumerate() {
+            let opposite = match neighbour {
+                WALL => Some(WALL),
+                _ => cells
+                    .get(usize::from(neighbour))
+                    .and_then(|other| answering_side(other, cell.ends(side), number))
+                    .map(|other| faces[usize::from(neighbour)].start + other as u16),
+            };
+            across.push(opposite.ok_or(Refusal::Neighbour(across.len()))?);
+        }
+    }
+    Ok(across)
 }
 
-/// The side of the neighbour with the same two corners reversed, whose own
-/// neighbour is the cell of this face.
-fn answering_face(list: &[u16], starts: &[u16], face: u16, neighbour: u16) -> Option<u16> {
-    if usize::from(neighbour) >= starts.len() / 3 {
-        return None;
-    }
-    let start = |face: u16| starts[usize::from(face)];
-    (3 * neighbour..3 * neighbour + 3).find(|&other| {
-        start(other) == start(next(face))
-            && start(next(other)) == start(face)
-            && neighbour_at(list, other) == face / 3
-    })
+/// The side of a neighbour with the same two corners reversed, where its own
+/// neighbour there is the cell with this number.
+fn answering_side(neighbour: &Cell<'_>, [a, b]: [u16; 2], number: u16) -> Option<usize> {
+    let side = neighbour.side_between([b, a])?;
+    (neighbour.neighbours[side] == number).then_some(side)
 }
 
 fn check_doors(doors: &[u16], across: &[u16]) -> Result<(), Refusal> {

@@ -1,6 +1,6 @@
 //! "Expansion" and "Walk": what is seen from a stand under a setting.
 
-use super::plan::{next, product, side_value, Floor, Point, WALL};
+use super::plan::{product, side_value, Floor, Point, WALL};
 use super::stand;
 use crate::calls::{Refusal, Stand};
 
@@ -61,15 +61,16 @@ impl<'a> View<'a> {
 
     /// The listing: the expansion of the sides of the stand's cell.
     pub fn list(&self) -> Listing {
-        let lines = self
-            .sides()
-            .map(|face| [face, self.floor.start(face), self.floor.start(next(face))]);
-        self.expand(lines.to_vec())
+        let line = |face| {
+            let [right, left] = self.floor.ends(face);
+            [face, right, left]
+        };
+        self.expand(self.floor.faces(self.cell).map(line).collect())
     }
 
-    fn sides(&self) -> [u16; 3] {
-        let first = 3 * self.cell as u16;
-        [first, first + 1, first + 2]
+    /// The number of the stand's cell.
+    pub fn cell(&self) -> usize {
+        self.cell
     }
 
     /// Follows lines to their rows. A line waits as the row it would be if it
@@ -92,20 +93,25 @@ impl<'a> View<'a> {
         Listing { rows, crossings }
     }
 
-    /// Hands on the lines of the cell entered through a face, last one first.
+    /// Hands on the lines of the cell entered through a face, last one first:
+    /// every other side with its part of the cone, where that is not empty.
     fn hand_on(&self, entered: u16, [_, right, left]: Row, waiting: &mut Vec<Row>) {
-        let right_side = next(entered);
-        let left_side = next(right_side);
-        let apex = self.floor.start(left_side);
-        let v = self.floor.corner(apex);
-        if side_value(self.q, self.floor.corner(right), v) <= 0 {
-            waiting.push([left_side, right, left]);
-        } else if side_value(self.q, self.floor.corner(left), v) >= 0 {
-            waiting.push([right_side, right, left]);
-        } else {
-            waiting.push([left_side, apex, left]);
-            waiting.push([right_side, right, apex]);
+        for face in self.floor.others(entered).rev() {
+            let [a, b] = self.floor.ends(face);
+            // A corner on a limit does not replace it.
+            let part_right = if self.is_left(right, a) { a } else { right };
+            let part_left = if self.is_left(b, left) { b } else { left };
+            if self.is_left(part_right, part_left) {
+                waiting.push([face, part_right, part_left]);
+            }
         }
+    }
+
+    /// Whether corner b is strictly left of the ray to corner a. The corners of
+    /// a cell and the limits of the cone that enters it lie ahead within half a
+    /// turn, so this orders them.
+    fn is_left(&self, a: u16, b: u16) -> bool {
+        side_value(self.q, self.floor.corner(a), self.floor.corner(b)) > 0
     }
 
     /// Whether the direction lies strictly between the rays to two corners.
@@ -123,21 +129,20 @@ impl<'a> View<'a> {
     /// which only happens when the ray meets a corner.
     pub fn walk(&self, d: Direction) -> Option<Walk> {
         let mut route = Vec::new();
-        let mut leave = self.line_ahead(&self.sides(), d)?;
+        let mut leave = self.line_ahead(self.floor.faces(self.cell), d)?;
         while self.across[usize::from(leave)] != WALL {
             route.push(leave);
             let entered = self.across[usize::from(leave)];
-            let right_side = next(entered);
-            leave = self.line_ahead(&[right_side, next(right_side)], d)?;
+            leave = self.line_ahead(self.floor.others(entered), d)?;
         }
         Some(Walk { route, end: leave })
     }
 
-    fn line_ahead(&self, faces: &[u16], d: Direction) -> Option<u16> {
-        faces
-            .iter()
-            .copied()
-            .find(|&face| self.between(self.floor.start(face), d, self.floor.start(next(face))))
+    fn line_ahead(&self, mut faces: impl Iterator<Item = u16>, d: Direction) -> Option<u16> {
+        faces.find(|&face| {
+            let [right, left] = self.floor.ends(face);
+            self.between(right, d, left)
+        })
     }
 
     /// Whether the ray, the stand's own point not counted, meets a corner.

@@ -1,6 +1,6 @@
 //! "The stand": from doubles to whole millimetres, and to the cell.
 
-use super::plan::{next, side_value, Floor, Point, COORDINATES};
+use super::plan::{side_value, Floor, Point, COORDINATES};
 use crate::calls::{Refusal, Stand};
 
 /// The stand in whole millimetres, within the coordinate limits.
@@ -55,16 +55,15 @@ pub fn cell_of(floor: &Floor, q: Point) -> Result<usize, Refusal> {
     })
 }
 
-/// The least of the three side values of the cell's sides with the point:
-/// positive strictly inside, zero on the border, negative outside.
+/// The least of the side values of the cell's sides with the point: positive
+/// strictly inside, zero on the border, negative outside.
 fn least_side_value(floor: &Floor, cell: usize, q: Point) -> i128 {
-    let first = 3 * cell as u16;
-    (first..first + 3)
+    floor
+        .faces(cell)
         .map(|face| {
-            let a = floor.corner(floor.start(face));
-            let b = floor.corner(floor.start(next(face)));
+            let [a, b] = floor.ends(face).map(|corner| floor.corner(corner));
             side_value(a, b, q)
         })
         .min()
-        .expect("a cell has three sides")
+        .expect("a cell has sides")
 }

@@ -5,7 +5,7 @@ use crate::calls::{DoorChange, Lists, Stand};
 
 /// Declares a function of the archive and calls it, from one list of typed
 /// arguments: a slice passes as its pointer and its length, `Lists` as its
-/// three slices, anything else as it is.
+/// three slices and its kind, anything else as it is.
 ///
 /// The call is safe because each pointer comes with the length of its own
 /// slice, a slice's pointer is never null, and memory that is written to is
@@ -16,11 +16,13 @@ macro_rules! call {
     };
     (@ $function:ident [$($declared:tt)*] [$($passed:tt)*] $name:ident: Lists, $($rest:tt)*) => {
         call!(@ $function
-            [$($declared)* _: *const i32, _: usize, _: *const u16, _: usize, _: *const u16, _: usize,]
+            [$($declared)*
+                _: *const i32, _: usize, _: *const u16, _: usize, _: *const u16, _: usize, _: u16,]
             [$($passed)*
                 $name.corners.as_ptr(), $name.corners.len(),
                 $name.cells.as_ptr(), $name.cells.len(),
-                $name.doors.as_ptr(), $name.doors.len(),]
+                $name.doors.as_ptr(), $name.doors.len(),
+                $name.kind,]
             $($rest)*)
     };
     (@ $function:ident [$($declared:tt)*] [$($passed:tt)*] $name:ident: &[$number:ty], $($rest:tt)*) => {

@@ -27,6 +27,7 @@ enum Function {
 /// A request: numbers, and the ten lists. The file of `Print` is its input.
 #[derive(Default)]
 struct Request<'a> {
+    kind: u16,
     setting: u64,
     corner: u16,
     x: f64,
@@ -99,6 +100,7 @@ impl Server {
         .concat();
         let numbers = [
             function as u64,
+            u64::from(request.kind),
             request.setting,
             u64::from(request.corner),
             request.x.to_bits(),
@@ -213,6 +215,7 @@ fn of_lists<'a>(lists: Lists<'a>, reply: &'a [u64]) -> Request<'a> {
         corners: lists.corners,
         cells: lists.cells,
         doors: lists.doors,
+        kind: lists.kind,
         reply,
         ..Request::default()
     }

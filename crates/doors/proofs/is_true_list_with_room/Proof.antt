@@ -14,22 +14,43 @@ list-from-requires c κs = search needs
 
 mul-n : tie.Need-mul-n
 mul-n c =
-    let fit = numbers-fit (c .before .before .before .before .before .before .before .before .before .pre .0) (c .before .before .before .before .before .before .before .before .before .args .setting) (point (c .before .before .before .before .before .before .before .before .before .args .q)) (c .before .before .before .before .before .before .before .before .before .args .c) (c .before .before .before .before .before .before .before .before .before .pre .1 .0 .1) (c .before .before .before .list-from .ensures .0) in
-    let few = few-numbers (c .before .before .before .before .before .before .before .before .before .pre .0) (c .before .before .before .before .before .before .before .before .before .args .setting) (point (c .before .before .before .before .before .before .before .before .before .args .q)) (c .before .before .before .before .before .before .before .before .before .args .c) (c .before .before .before .before .before .before .before .before .before .pre .1 .0 .1) in
+    let s = c .before .before .before .before .before .before .before .before .before .before .before .before .before .before .before .before .before in
+    let fit = numbers-fit (s .pre .0 .0) (s .args .setting) (point (s .args .q)) (s .args .c) (s .pre .1 .0 .1) (c .before .before .before .before .before .before .list-from .ensures .0) in
+    let few = few-numbers (s .pre .0 .0) in
     record { fits = omega arith }
 
 is-same-list-requires : tie.Need-is-same-list-requires
 is-same-list-requires c κs =
-    let fit = numbers-fit (c .before .before .before .before .before .before .before .before .before .before .pre .0) (c .before .before .before .before .before .before .before .before .before .before .args .setting) (point (c .before .before .before .before .before .before .before .before .before .before .args .q)) (c .before .before .before .before .before .before .before .before .before .before .args .c) (c .before .before .before .before .before .before .before .before .before .before .pre .1 .0 .1) (c .before .before .before .before .list-from .ensures .0) in
-    let room = c .before .before .before .before .before .before .before .before .before .before .pre .1 .1 in
-    let kept = c .before .before .before .before .list-from .kept .1 .1 .1 .1 .1 .0 in
+    let s = c .before .before .before .before .before .before .before .before .before .before .before .before .before .before .before .before .before .before in
+    let fit = numbers-fit (s .pre .0 .0) (s .args .setting) (point (s .args .q)) (s .args .c) (s .pre .1 .0 .1) (c .before .before .before .before .before .before .before .list-from .ensures .0) in
+    let room = s .pre .1 .1 .0 in
+    let kept = c .before .before .before .before .before .before .before .list-from .kept .1 .1 .1 .1 .1 .1 .1 .0 in
     omega arith
 
 same-length : tie.Need-same-length
 same-length c = search needs
 
+same-length-2 : tie.Need-same-length-2
+same-length-2 c = search needs
+
+same-length-3 : tie.Need-same-length-3
+same-length-3 c = search needs
+
 returns : tie.Need-returns
-returns c = c .is-same-list .ensures ∙ ap (same-list (now (c .before .before .before .before .before .before .before .before .before .before .before .args .given))) (listed-anew (c .before .before .before .before .before .before .before .before .before .before .before .pre .0) (c .before .before .before .before .before .before .before .before .before .before .before .args .setting) (point (c .before .before .before .before .before .before .before .before .before .before .before .args .q)) (c .before .before .before .before .before .before .before .before .before .before .before .args .c) (c .before .before .before .before .before .before .before .before .before .before .before .pre .1 .0 .1) (now (c .before .before .before .before .before .before .before .before .before .before .before .args .table)) (c .before .before .before .before .before .list-from .ensures .0) (c .before .before .before .before .before .before .before .before .before .before .before .pre .1 .1) (c .before .before .before .before .before .list-from .ensures .1 .1))
+returns c =
+    let s = c .before .before .before .before .before .before .before .before .before .before .before .before .before .before .before .before .before .before .before in
+    let written = c .before .before .before .before .before .before .before .before .list-from .ensures in
+    c .is-same-list .ensures
+    ∙ ap (same-list (now (s .args .given))) (listed-anew (s .pre .0 .0) (s .args .setting) (point (s .args .q)) (s .args .c) (s .pre .1 .0 .1) (now (s .args .table)) (written .0) (s .pre .1 .1 .0) (written .1 .1))
 
 pub is-true-list-with-room-spec : {M : Type 1} → statement M
-is-true-list-with-room-spec = tie.close (tie.spec list-from-requires mul-n is-same-list-requires same-length returns)
+is-true-list-with-room-spec =
+    tie.close
+    (tie.spec
+    list-from-requires
+    mul-n
+    is-same-list-requires
+    same-length
+    same-length-2
+    same-length-3
+    returns)

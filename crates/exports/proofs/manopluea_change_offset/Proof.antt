@@ -10,7 +10,7 @@ use Rattle.exports.proofs.manopluea_change_offset.Tie as tie
 
 returns : tie.Need-returns
 unfolding change-left
-returns c = none-left (now (c .before .before .before .before .before .before .args .table)) (now (c .before .before .before .before .before .before .args .reply)) (change-replies (now (c .before .before .before .before .before .before .args .corners)) (now (c .before .before .before .before .before .before .args .cells)) (now (c .before .before .before .before .before .before .args .doors)) (c .before .before .before .before .before .before .args .setting) (Offset (c .before .before .before .before .before .before .args .corner) (c .before .before .before .before .before .before .args .dx) (c .before .before .before .before .before .before .args .dy)) (now (c .before .before .before .before .before .before .args .given)) (c .before .before .before .before .before .before .args .door) (c .before .before .before .before .before .before .args .shut) (now (c .before .before .before .before .before .before .args .table))) (c .if1 .taken)
+returns c = none-left (now (c .before .before .before .before .before .before .args .table)) (now (c .before .before .before .before .before .before .args .reply)) (change-replies (c .before .before .before .before .before .before .args .kind) (now (c .before .before .before .before .before .before .args .corners)) (now (c .before .before .before .before .before .before .args .cells)) (now (c .before .before .before .before .before .before .args .doors)) (c .before .before .before .before .before .before .args .setting) (Offset (c .before .before .before .before .before .before .args .corner) (c .before .before .before .before .before .before .args .dx) (c .before .before .before .before .before .before .args .dy)) (now (c .before .before .before .before .before .before .args .given)) (c .before .before .before .before .before .before .args .door) (c .before .before .before .before .before .before .args .shut) (now (c .before .before .before .before .before .before .args .table))) (c .if1 .taken)
 
 change-requires : tie.Need-change-requires
 change-requires c κs = search needs

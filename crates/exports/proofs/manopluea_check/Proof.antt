@@ -9,7 +9,7 @@ use Rattle.exports.proofs.manopluea_check.Tie as tie
 
 returns : tie.Need-returns
 unfolding check-left
-returns c = none-replied (now (c .before .before .before .before .args .reply)) (check-replies (now (c .before .before .before .before .args .corners)) (now (c .before .before .before .before .args .cells)) (now (c .before .before .before .before .args .doors))) (c .if1 .taken)
+returns c = none-replied (now (c .before .before .before .before .args .reply)) (check-replies (c .before .before .before .before .args .kind) (now (c .before .before .before .before .args .corners)) (now (c .before .before .before .before .args .cells)) (now (c .before .before .before .before .args .doors))) (c .if1 .taken)
 
 check-requires : tie.Need-check-requires
 check-requires c κs = search needs

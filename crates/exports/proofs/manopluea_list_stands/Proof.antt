@@ -12,7 +12,7 @@ returns : tie.Need-returns
 unfolding list-stands-left
 returns c =
     let s = c .before .before .before .before .before .before .before in
-    none-left (now (s .args .table), now (s .args .replies)) (now (s .args .reply)) (said (now (s .args .corners)) (now (s .args .cells)) (now (s .args .doors)) (s .args .setting) (now (s .args .stands)) (now (s .args .table)) (now (s .args .replies))) (c .if1 .taken)
+    none-left (now (s .args .table), now (s .args .replies)) (now (s .args .reply)) (said (s .args .kind) (now (s .args .corners)) (now (s .args .cells)) (now (s .args .doors)) (s .args .setting) (now (s .args .stands)) (now (s .args .table)) (now (s .args .replies))) (c .if1 .taken)
 
 put-listed-requires : tie.Need-put-listed-requires
 put-listed-requires c κs = search needs
@@ -24,7 +24,7 @@ returns-2 : tie.Need-returns-2
 unfolding list-stands-left
 returns-2 c =
     let s = c .before .before .before .before .before .before .before .before .before .before .before .before in
-    all-left (now (s .args .table), now (s .args .replies)) (now (s .args .reply)) (c .before .before .before .before .before .if1 .left) (not-of-three (now (s .args .corners)) (now (s .args .cells)) (now (s .args .doors)) (s .args .setting) (now (s .args .stands)) (now (s .args .table)) (now (s .args .replies)) (c .before .before .before .before .if2 .taken)) (c .before .before .put-listed .ensures)
+    all-left (now (s .args .table), now (s .args .replies)) (now (s .args .reply)) (c .before .before .before .before .before .if1 .left) (not-of-three (s .args .kind) (now (s .args .corners)) (now (s .args .cells)) (now (s .args .doors)) (s .args .setting) (now (s .args .stands)) (now (s .args .table)) (now (s .args .replies)) (c .before .before .before .before .if2 .taken)) (c .before .before .put-listed .ensures)
 
 stands-of-requires : tie.Need-stands-of-requires
 stands-of-requires c κs = search needs
@@ -48,7 +48,7 @@ returns-3 : tie.Need-returns-3
 unfolding list-stands-left
 returns-3 c =
     let s = c .before .before .before .before .before .before .before .before .before .before .before .before .before .before .before .before .before .before .before .before in
-    all-left (now (s .args .table), now (s .args .replies)) (now (s .args .reply)) (c .before .before .before .before .before .before .before .before .before .before .before .before .before .if1 .left) (c .before .before .before .before .before .before .before .before .list-stands .ensures .1 ∙ of-three (now (s .args .corners)) (now (s .args .cells)) (now (s .args .doors)) (s .args .setting) (now (s .args .stands)) (now (s .args .table)) (now (s .args .replies)) (c .before .before .before .before .before .before .before .before .before .before .before .before .if2 .left) _ (c .before .before .before .before .before .before .before .before .before .before .before .stands-of .ensures)) (c .before .before .put-listed2 .ensures)
+    all-left (now (s .args .table), now (s .args .replies)) (now (s .args .reply)) (c .before .before .before .before .before .before .before .before .before .before .before .before .before .if1 .left) (c .before .before .before .before .before .before .before .before .list-stands .ensures .1 ∙ of-three (s .args .kind) (now (s .args .corners)) (now (s .args .cells)) (now (s .args .doors)) (s .args .setting) (now (s .args .stands)) (now (s .args .table)) (now (s .args .replies)) (c .before .before .before .before .before .before .before .before .before .before .before .before .if2 .left) _ (c .before .before .before .before .before .before .before .before .before .before .before .stands-of .ensures)) (c .before .before .put-listed2 .ensures)
 
 pub manopluea-list-stands-spec : {M : Type 1} → statement M
 manopluea-list-stands-spec =

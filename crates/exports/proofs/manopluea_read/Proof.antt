@@ -14,8 +14,8 @@ returns c = none-left (now (c .before .before .before .before .before .args .cor
 read-requires : tie.Need-read-requires
 read-requires c κs = search needs
 
-put-checked-requires : tie.Need-put-checked-requires
-put-checked-requires c κs = search needs
+put-read-requires : tie.Need-put-read-requires
+put-read-requires c κs = search needs
 
 same-length : tie.Need-same-length
 same-length c = search needs
@@ -31,7 +31,7 @@ same-length-4 c = search needs
 
 returns-2 : tie.Need-returns-2
 unfolding read-left
-returns-2 c = all-left (now (c .before .before .before .before .before .before .before .before .before .before .before .before .before .before .before .before .before .before .args .corners), (now (c .before .before .before .before .before .before .before .before .before .before .before .before .before .before .before .before .before .before .args .cells), now (c .before .before .before .before .before .before .before .before .before .before .before .before .before .before .before .before .before .before .args .doors))) (now (c .before .before .before .before .before .before .before .before .before .before .before .before .before .before .before .before .before .before .args .reply)) (c .before .before .before .before .before .before .before .before .before .before .before .before .before .if1 .left) (c .before .before .before .before .before .before .before .before .before .read .ensures .1) (c .before .before .put-checked .ensures)
+returns-2 c = all-left (now (c .before .before .before .before .before .before .before .before .before .before .before .before .before .before .before .before .before .before .args .corners), (now (c .before .before .before .before .before .before .before .before .before .before .before .before .before .before .before .before .before .before .args .cells), now (c .before .before .before .before .before .before .before .before .before .before .before .before .before .before .before .before .before .before .args .doors))) (now (c .before .before .before .before .before .before .before .before .before .before .before .before .before .before .before .before .before .before .args .reply)) (c .before .before .before .before .before .before .before .before .before .before .before .before .before .if1 .left) (c .before .before .before .before .before .before .before .before .before .read .ensures .1) (c .before .before .put-read .ensures)
 
 pub manopluea-read-spec : {M : Type 1} → statement M
 manopluea-read-spec =
@@ -39,7 +39,7 @@ manopluea-read-spec =
     (tie.spec
     returns
     read-requires
-    put-checked-requires
+    put-read-requires
     same-length
     same-length-2
     same-length-3

@@ -9,7 +9,7 @@ use Rattle.exports.proofs.manopluea_write.Tie as tie
 
 returns : tie.Need-returns
 unfolding write-left
-returns c = none-left (now (c .before .before .before .before .before .args .file)) (now (c .before .before .before .before .before .args .reply)) (write-replies (now (c .before .before .before .before .before .args .corners)) (now (c .before .before .before .before .before .args .cells)) (now (c .before .before .before .before .before .args .doors)) (now (c .before .before .before .before .before .args .file))) (c .if1 .taken)
+returns c = none-left (now (c .before .before .before .before .before .args .file)) (now (c .before .before .before .before .before .args .reply)) (write-replies (c .before .before .before .before .before .args .kind) (now (c .before .before .before .before .before .args .corners)) (now (c .before .before .before .before .before .args .cells)) (now (c .before .before .before .before .before .args .doors)) (now (c .before .before .before .before .before .args .file))) (c .if1 .taken)
 
 write-requires : tie.Need-write-requires
 write-requires c κs = search needs

@@ -1,5 +1,5 @@
 -- `manopluea::read` meets its contract.
-use Rattle.limits.specs.Reply.{checked-reply}
+use Rattle.planfile.specs.Reply.{read-numbers}
 use Rattle.manopluea.specs.Calls.{in-numbers}
 use Rattle.manopluea.proofs.Numbered.{said-twice}
 use borrow.Author.Needs.{needs}
@@ -19,7 +19,7 @@ same-length-3 : tie.Need-same-length-3
 same-length-3 c = search needs
 
 returns : tie.Need-returns
-returns c = said-twice (in-numbers checked-reply) (c .before .before .before .before .before .read .ensures)
+returns c = said-twice (in-numbers read-numbers) (c .before .before .before .before .before .read .ensures)
 
 pub read-spec : {M : Type 1} → statement M
 read-spec = tie.close (tie.spec read-requires same-length same-length-2 same-length-3 returns)

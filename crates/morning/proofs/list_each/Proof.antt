@@ -1,73 +1,60 @@
 -- `morning::list_each` meets its contract.
-use mathlib.Core.Path.{_≡_, refl}
-use Prim.Native.Nat.{_-_, _≤_}
+use mathlib.Core.Path.{_≡_}
+use Prim.Native.Nat.{_*_, _-_, _≤_}
 use native.Mathlib.Omega.{arith}
 use denote.Ref.{now}
-use lib.ListN.{length, length-take}
-use Rattle.plan.proofs.Plans.{counts}
-use Rattle.sight.proofs.Lined.{sound-cells}
-use Rattle.grant.proofs.Grants.{grant-says}
-use Rattle.morning.proofs.Each.{SoFar, none-yet, Next, next, table-keeps-its-length, replies-keep-their-length, all-listed, few-here, one-more}
+use lib.ListN.{length}
 use borrow.Author.Needs.{needs}
+use Rattle.limits.specs.Limits.{most-corners, most-cells}
+use Rattle.cells.specs.Lists.{tabled}
+use Rattle.sight.proofs.Lined.{sound-cells}
+use Rattle.morning.specs.OverLines.{single-on}
+use Rattle.morning.proofs.OverLines.{lines-drawn}
+use Rattle.morning.proofs.Each.{SoFar, none-yet, Next, next, table-keeps-its-length, replies-keep-their-length, all-listed, few-here, one-more}
 use Rattle.morning.proofs.list_each.Statement.{statement}
 use Rattle.morning.proofs.list_each.Tie as tie
 
 abbrev Inv-loop : tie.InvT-loop
-Inv-loop corners cells doors setting count table₀ replies₀ stands m n lines rows₀ crossings₀ i₀ table replies rows crossings i =
-    (i ≤ count) × SoFar corners cells doors setting stands i rows crossings table₀ table replies₀ replies
+Inv-loop corners faces firsts backs doors setting count table₀ replies₀ lines seen₀ stands rows₀ crossings₀ i₀ table replies seen rows crossings i =
+    (i ≤ count) × (SoFar (single-on corners (tabled faces firsts) doors setting) stands i rows crossings table₀ table replies₀ replies × (length seen ≡ length corners))
 
 abbrev μ-loop : tie.MeasureT-loop
-μ-loop corners cells doors setting count table₀ replies₀ stands m n lines rows₀ crossings₀ i₀ table replies rows crossings i =
+μ-loop corners faces firsts backs doors setting count table₀ replies₀ lines seen₀ stands rows₀ crossings₀ i₀ table replies seen rows crossings i =
     count - i
-
-mul-n : tie.Need-mul-n Inv-loop μ-loop
-mul-n c = search needs
-
-slice-relend-prefix-lines : tie.Need-slice-relend-prefix-lines Inv-loop μ-loop
-slice-relend-prefix-lines c =
-    let s = c .before .before .before .before .before in
-    omega (arith, s .pre .1, counts _ _ _ (grant-says _ _ _ _ _ _ _ (s .pre .0) .sound .in-size) .cells-at-most)
-
-slice-aggregate-lines : tie.Need-slice-aggregate-lines Inv-loop μ-loop
-slice-aggregate-lines c =
-    let s = c .before .before .before .before .before .before in
-    simp length-take (omega (arith, s .pre .1, counts _ _ _ (grant-says _ _ _ _ _ _ _ (s .pre .0) .sound .in-size) .cells-at-most))
 
 lines-of-requires : tie.Need-lines-of-requires Inv-loop μ-loop
 lines-of-requires c κs =
-    let s = c .before .before .before .before .before .before .before in
-    let grant = grant-says _ _ _ _ _ _ _ (s .pre .0) in
-    (sound-cells (grant .sound), simp length-take (omega (arith, s .pre .1, counts _ _ _ (grant .sound .in-size) .cells-at-most)))
+    let s = c .before .before .before .before .before .before .before .before in
+    (sound-cells (s .pre .0 .0), (s .pre .0 .1, s .pre .1 .1 .0))
 
 loop-holds : tie.Need-loop-holds Inv-loop μ-loop
 loop-holds c =
-    let s = c .before .before .before .before .before .before .before .before .before .before in
-    (omega arith, none-yet (now (s .args .corners)) (now (s .args .cells)) (now (s .args .doors)) (s .args .setting) (s .args .t5) (now (s .args .table)) (now (s .args .replies)))
+    let s = c .before .before .before .before .before .before .before .before .before .before .before in
+    (omega arith, (none-yet (single-on (now (s .args .corners)) (tabled (now (s .args .faces)) (now (s .args .firsts))) (now (s .args .doors)) (s .args .setting)) (s .args .t7) (now (s .args .table)) (now (s .args .replies)), s .pre .1 .1 .1))
 
--- the array has a place for each stand that is granted
-in-array : (c : tie.In-loop Inv-loop μ-loop) → c .before .before .before .before .before .before .before .before .before .before .before .before .args .count ≤ length (c .before .before .before .before .before .before .before .before .before .before .before .before .args .t5)
+-- the array has a place for each stand
+in-array : (c : tie.In-loop Inv-loop μ-loop) → c .before .before .before .before .before .before .before .before .before .before .before .before .before .args .count ≤ length (c .before .before .before .before .before .before .before .before .before .before .before .before .before .args .t7)
 in-array c =
-    let s = c .before .before .before .before .before .before .before .before .before .before .before .before in
-    let whole : length (s .args .t5) ≡ 32 = search needs in
-    omega (arith, grant-says _ _ _ _ _ _ _ (s .pre .0) .few-stands)
+    let s = c .before .before .before .before .before .before .before .before .before .before .before .before .before in
+    let whole : length (s .args .t7) ≡ 32 = search needs in
+    omega (arith, s .pre .1 .0 .few-stands)
 
-next-at : (c : tie.In-loop Inv-loop μ-loop) → Next (now (c .before .before .before .before .before .before .before .before .before .before .before .before .args .corners)) (c .before .loop .i) (c .before .loop .rows) (c .before .loop .crossings) (c .before .loop .table) (c .before .loop .replies)
+next-at : (c : tie.In-loop Inv-loop μ-loop) → Next (now (c .before .before .before .before .before .before .before .before .before .before .before .before .before .args .corners)) (c .before .loop .i) (c .before .loop .rows) (c .before .loop .crossings) (c .before .loop .table) (c .before .loop .replies)
 next-at c =
-    let s = c .before .before .before .before .before .before .before .before .before .before .before .before in
-    let l = c .before .loop in
-    next (now (s .args .corners)) (now (s .args .cells)) (now (s .args .doors)) (s .args .setting) (s .args .t5) (grant-says _ _ _ _ _ _ _ (s .pre .0)) (l .i) (c .loop-test .taken) (in-array c) refl refl (l .inv .1)
+    let s = c .before .before .before .before .before .before .before .before .before .before .before .before .before in
+    next (s .pre .0 .0) (s .args .setting) (c .before .loop .inv .1 .0) (s .pre .1 .0) (c .loop-test .taken) (in-array c)
 
 mul-stand : tie.Need-mul-stand Inv-loop μ-loop
-mul-stand c = omega (arith, grant-says _ _ _ _ _ _ _ (c .before .before .before .before .before .before .before .before .before .before .before .before .pre .0) .few-stands)
+mul-stand c = omega (arith, c .before .before .before .before .before .before .before .before .before .before .before .before .before .pre .1 .0 .few-stands)
 
 array-copy-out-stand : tie.Need-array-copy-out-stand Inv-loop μ-loop
-array-copy-out-stand c = omega (arith, grant-says _ _ _ _ _ _ _ (c .before .before .before .before .before .before .before .before .before .before .before .before .pre .0) .few-stands)
+array-copy-out-stand c = omega (arith, in-array c)
 
 mul-row : tie.Need-mul-row Inv-loop μ-loop
-mul-row c = omega (arith, next-at (c .before) .few-rows, grant-says _ _ _ _ _ _ _ (c .before .before .before .before .before .before .before .before .before .before .before .before .before .pre .0) .few-stands)
+mul-row c = omega (arith, next-at (c .before) .few-rows, c .before .before .before .before .before .before .before .before .before .before .before .before .before .before .pre .1 .0 .few-stands)
 
 mul-list-stand : tie.Need-mul-list-stand Inv-loop μ-loop
-mul-list-stand c = omega (arith, next-at (c .before .before) .few-rows, grant-says _ _ _ _ _ _ _ (c .before .before .before .before .before .before .before .before .before .before .before .before .before .before .pre .0) .few-stands)
+mul-list-stand c = omega (arith, next-at (c .before .before) .few-rows, c .before .before .before .before .before .before .before .before .before .before .before .before .before .before .before .pre .1 .0 .few-stands)
 
 sub-list-stand : tie.Need-sub-list-stand Inv-loop μ-loop
 sub-list-stand c = omega (arith, next-at (c .before .before) .room-left)
@@ -79,61 +66,56 @@ part-list-stand-end : tie.Need-part-list-stand-end Inv-loop μ-loop
 part-list-stand-end c = search needs
 
 mul-list-stand-2 : tie.Need-mul-list-stand-2 Inv-loop μ-loop
-mul-list-stand-2 c = omega (arith, grant-says _ _ _ _ _ _ _ (c .before .before .before .before .before .before .before .before .before .before .before .before .before .before .before .before .pre .0) .few-stands)
+mul-list-stand-2 c = omega (arith, c .before .before .before .before .before .before .before .before .before .before .before .before .before .before .before .before .before .pre .1 .0 .few-stands)
 
 list-stand-requires : tie.Need-list-stand-requires Inv-loop μ-loop
 list-stand-requires c κs =
-    let s = c .before .before .before .before .before .before .before .before .before .before .before .before .before .before .before .before in
-    let grant = grant-says _ _ _ _ _ _ _ (s .pre .0) in
-    (record { doors = now (s .args .doors); setting = s .args .setting; sound = grant .sound; lined = c .before .before .before .before .before .before .before .before .lines-of .ensures }, next-at (c .before .before .before .before) .places-left)
+    let s = c .before .before .before .before .before .before .before .before .before .before .before .before .before .before .before .before .before .before in
+    (lines-drawn (s .pre .0 .0) (s .args .setting) (c .before .before .before .before .before .before .before .before .before .lines-of .ensures), (next-at (c .before .before .before .before .before) .places-left, c .before .before .before .before .before .before .loop .inv .1 .1))
+
+-- the stand adds few rows and crossings
+few-at : (c : tie.After-struct-known Inv-loop μ-loop) → (c .before .before .before .before .before .before .list-stand .result .rows ≤ most-corners) × (c .before .before .before .before .before .before .list-stand .result .crossings ≤ most-corners * most-cells)
+few-at c =
+    let s = c .before .before .before .before .before .before .before .before .before .before .before .before .before .before .before .before .before .before .before .before .before .before .before .before .before in
+    let d = c .before .before .before .before .before .before .before .before .before .before .before .before in
+    let r = c .before .before .before .before .before .before .list-stand .ensures in
+    let drawn = lines-drawn (s .pre .0 .0) (s .args .setting) (c .before .before .before .before .before .before .before .before .before .before .before .before .before .before .before .before .lines-of .ensures) in
+    few-here (s .pre .0 .0) (s .args .setting) (d .before .loop .inv .1 .0) (s .pre .1 .0) (d .loop-test .taken) (in-array d) _ (r .0 drawn) (r .1 .0 drawn)
 
 add-rows : tie.Need-add-rows Inv-loop μ-loop
-add-rows c =
-    let s = c .before .before .before .before .before .before .before .before .before .before .before .before .before .before .before .before .before .before .before .before .before .before in
-    let d = c .before .before .before .before .before .before .before .before .before .before in
-    let l = d .before .loop in
-    let r = c .before .before .before .before .before .list-stand .ensures in
-    omega (arith, next-at d .few-rows, grant-says _ _ _ _ _ _ _ (s .pre .0) .few-stands, few-here (now (s .args .corners)) (now (s .args .cells)) (now (s .args .doors)) (s .args .setting) (s .args .t5) (grant-says _ _ _ _ _ _ _ (s .pre .0)) (l .i) (d .loop-test .taken) (in-array d) refl refl (l .inv .1) _ (c .before .before .before .before .before .before .before .before .before .before .before .before .before .before .lines-of .ensures) (r .0) (r .1 .0) .0)
+add-rows c = omega (arith, next-at (c .before .before .before .before .before .before .before .before .before .before .before .before) .few-rows, c .before .before .before .before .before .before .before .before .before .before .before .before .before .before .before .before .before .before .before .before .before .before .before .before .before .pre .1 .0 .few-stands, few-at c .0)
 
 add-crossings : tie.Need-add-crossings Inv-loop μ-loop
-add-crossings c =
-    let s = c .before .before .before .before .before .before .before .before .before .before .before .before .before .before .before .before .before .before .before .before .before .before .before in
-    let d = c .before .before .before .before .before .before .before .before .before .before .before in
-    let l = d .before .loop in
-    let r = c .before .before .before .before .before .before .list-stand .ensures in
-    omega (arith, next-at d .few-crossings, grant-says _ _ _ _ _ _ _ (s .pre .0) .few-stands, few-here (now (s .args .corners)) (now (s .args .cells)) (now (s .args .doors)) (s .args .setting) (s .args .t5) (grant-says _ _ _ _ _ _ _ (s .pre .0)) (l .i) (d .loop-test .taken) (in-array d) refl refl (l .inv .1) _ (c .before .before .before .before .before .before .before .before .before .before .before .before .before .before .before .lines-of .ensures) (r .0) (r .1 .0) .1)
+add-crossings c = omega (arith, next-at (c .before .before .before .before .before .before .before .before .before .before .before .before .before) .few-crossings, c .before .before .before .before .before .before .before .before .before .before .before .before .before .before .before .before .before .before .before .before .before .before .before .before .before .before .pre .1 .0 .few-stands, few-at (c .before) .1)
 
 add-i : tie.Need-add-i Inv-loop μ-loop
-add-i c = omega (arith, grant-says _ _ _ _ _ _ _ (c .before .before .before .before .before .before .before .before .before .before .before .before .before .before .before .before .before .before .before .before .before .before .before .pre .0) .few-stands)
+add-i c = omega (arith, c .before .before .before .before .before .before .before .before .before .before .before .before .before .before .before .before .before .before .before .before .before .before .before .before .before .before .pre .1 .0 .few-stands)
 
 loop-less : tie.Need-loop-less Inv-loop μ-loop
 loop-less c = omega arith
 
 loop-again : tie.Need-loop-again Inv-loop μ-loop
 loop-again c =
-    let s = c .before .before .before .before .before .before .before .before .before .before .before .before .before .before .before .before .before .before .before .before .before .before .before in
-    let d = c .before .before .before .before .before .before .before .before .before .before .before in
-    let l = d .before .loop in
-    (omega arith, one-more (now (s .args .corners)) (now (s .args .cells)) (now (s .args .doors)) (s .args .setting) (s .args .t5) (grant-says _ _ _ _ _ _ _ (s .pre .0)) (l .i) (d .loop-test .taken) (in-array d) refl refl (l .inv .1) _ (c .before .before .before .before .before .before .before .before .before .before .before .before .before .before .before .lines-of .ensures) (c .before .before .before .before .before .before .list-stand .ensures))
+    let s = c .before .before .before .before .before .before .before .before .before .before .before .before .before .before .before .before .before .before .before .before .before .before .before .before .before .before in
+    let d = c .before .before .before .before .before .before .before .before .before .before .before .before .before in
+    let r = c .before .before .before .before .before .before .before .list-stand .ensures in
+    let drawn = lines-drawn (s .pre .0 .0) (s .args .setting) (c .before .before .before .before .before .before .before .before .before .before .before .before .before .before .before .before .before .lines-of .ensures) in
+    (omega arith, (one-more (s .pre .0 .0) (s .args .setting) (d .before .loop .inv .1 .0) (s .pre .1 .0) (d .loop-test .taken) (in-array d) _ (r .0 drawn, (r .1 .0 drawn, (r .1 .1 .0 drawn, r .1 .1 .1 drawn))), search needs))
 
 same-length : tie.Need-same-length Inv-loop μ-loop
-same-length c =
-    let s = c .before .before .before .before .before .before .before .before .before .before .before .before .before .before in
-    table-keeps-its-length (now (s .args .corners)) (now (s .args .cells)) (now (s .args .doors)) (s .args .setting) (s .args .t5) (c .before .before .before .loop .inv .1)
+same-length c = table-keeps-its-length (c .before .loop .inv .1 .0)
 
 same-length-2 : tie.Need-same-length-2 Inv-loop μ-loop
-same-length-2 c =
-    let s = c .before .before .before .before .before .before .before .before .before .before .before .before .before .before in
-    replies-keep-their-length (now (s .args .corners)) (now (s .args .cells)) (now (s .args .doors)) (s .args .setting) (s .args .t5) (c .before .before .before .loop .inv .1)
+same-length-2 c = replies-keep-their-length (c .before .loop .inv .1 .0)
 
 same-length-3 : tie.Need-same-length-3 Inv-loop μ-loop
 same-length-3 c = search needs
 
+same-length-4 : tie.Need-same-length-4 Inv-loop μ-loop
+same-length-4 c = search needs
+
 returns : tie.Need-returns Inv-loop μ-loop
-returns c =
-    let s = c .before .before .before .before .before .before .before .before .before .before .before .before .before .before in
-    let l = c .before .before .before .loop in
-    all-listed (now (s .args .corners)) (now (s .args .cells)) (now (s .args .doors)) (s .args .setting) (s .args .t5) (l .inv .1) (s .args .count) (omega (arith, l .inv .0, c .before .before .loop-test .left))
+returns c = all-listed (c .before .loop .inv .1 .0) (c .before .before .before .before .before .before .before .before .before .before .before .before .before .args .count) (omega (arith, c .before .loop .inv .0, c .loop-test .left))
 
 pub list-each-spec : {M : Type 1} → statement M
 list-each-spec =
@@ -141,9 +123,6 @@ list-each-spec =
     (tie.spec
     Inv-loop
     μ-loop
-    mul-n
-    slice-relend-prefix-lines
-    slice-aggregate-lines
     lines-of-requires
     loop-holds
     mul-stand
@@ -163,4 +142,5 @@ list-each-spec =
     same-length
     same-length-2
     same-length-3
+    same-length-4
     returns)

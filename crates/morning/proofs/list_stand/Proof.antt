@@ -1,14 +1,13 @@
 -- `morning::list_stand` meets its contract.
 use mathlib.Core.Path.{sym, _∙_}
-use native.Mathlib.Omega.{arith}
 use denote.Ref.{now}
-use Rattle.morning.proofs.OverLines.{corners-checked, some-cell, stand-refused, sides-asked, stand-listed}
+use Rattle.morning.proofs.OverLines.{plan-checked, corners-seen-asked, stand-refused, sides-asked, stand-listed}
 use borrow.Author.Needs.{needs}
 use Rattle.morning.proofs.list_stand.Statement.{statement}
 use Rattle.morning.proofs.list_stand.Tie as tie
 
 view-of-stand-requires : tie.Need-view-of-stand-requires
-view-of-stand-requires c κs = corners-checked (c .before .before .before .before .pre .0)
+view-of-stand-requires c κs = plan-checked (c .before .before .before .before .before .pre .0)
 
 enum-known-r : tie.Need-enum-known-r
 enum-known-r c = search needs
@@ -22,13 +21,15 @@ put-requires c κs = search needs
 enum-known-x : tie.Need-enum-known-x
 enum-known-x c = search needs
 
-sub-sides : tie.Need-sub-sides
-sub-sides c = omega (arith, some-cell (c .before .before .before .before .before .before .before .before .before .pre .0))
+see-requires : tie.Need-see-requires
+see-requires c κs =
+    let s = c .before .before .before .before .before .before .before .before .before .before in
+    (corners-seen-asked (s .pre .0) (s .args .stand) (now (s .args .table)) (sym (c .before .before .before .before .view-of-stand .ensures) ∙ (c .before .before .x .given .1)), s .pre .1 .1)
 
-sides-requires : tie.Need-sides-requires
-sides-requires c κs =
-    let s = c .before .before .before .before .before .before .before .before .before in
-    sides-asked (s .pre .0) (s .args .stand) (now (s .args .table)) (s .args .at) (sym (c .before .before .before .before .view-of-stand .ensures) ∙ (c .before .before .x .given .1))
+list-over-requires : tie.Need-list-over-requires
+list-over-requires c κs =
+    let s = c .before .before .before .before .before .before .before .before .before .before .before .before .before .before in
+    sides-asked (s .pre .0) (s .args .stand) (now (s .args .table)) (sym (c .before .before .before .before .before .before .before .before .view-of-stand .ensures) ∙ (c .before .before .before .before .before .before .x .given .1)) (c .before .before .before .see .ensures)
 
 put-requires-2 : tie.Need-put-requires-2
 put-requires-2 c κs = search needs
@@ -38,8 +39,8 @@ same-length c = search needs
 
 returns : tie.Need-returns
 returns c =
-    let s = c .before .before .before .before .before .before .before .before .before .before .before .before .before in
-    stand-refused (s .pre .0) (s .args .stand) (now (s .args .table)) (s .args .at) (now (s .args .replies)) (sym (c .before .before .before .before .before .before .before .before .view-of-stand .ensures) ∙ (c .before .before .before .before .before .before .r .given .1)) (c .before .before .before .number .ensures) (c .before .before .put .ensures)
+    let s = c .before .before .before .before .before .before .before .before .before .before .before .before .before .before in
+    stand-refused (s .args .stand) (now (s .args .table)) (s .args .at) (now (s .args .replies)) (sym (c .before .before .before .before .before .before .before .before .view-of-stand .ensures) ∙ (c .before .before .before .before .before .before .r .given .1)) (c .before .before .before .number .ensures) (c .before .before .put .ensures)
 
 same-length-2 : tie.Need-same-length-2
 same-length-2 c = search needs
@@ -47,10 +48,13 @@ same-length-2 c = search needs
 same-length-3 : tie.Need-same-length-3
 same-length-3 c = search needs
 
+same-length-4 : tie.Need-same-length-4
+same-length-4 c = search needs
+
 returns-2 : tie.Need-returns-2
 returns-2 c =
-    let s = c .before .before .before .before .before .before .before .before .before .before .before .before .before .before .before .before in
-    stand-listed (s .pre .0) (s .args .stand) (now (s .args .table)) (s .args .at) (sym (c .before .before .before .before .before .before .before .before .before .before .before .view-of-stand .ensures) ∙ (c .before .before .before .before .before .before .before .before .before .x .given .1)) (now (s .args .replies)) (c .before .before .before .before .before .before .sides .ensures) (c .before .before .put2 .ensures)
+    let s = c .before .before .before .before .before .before .before .before .before .before .before .before .before .before .before .before .before .before .before .before .before in
+    stand-listed (s .args .stand) (now (s .args .table)) (s .args .at) (now (s .args .replies)) (sym (c .before .before .before .before .before .before .before .before .before .before .before .before .before .before .before .view-of-stand .ensures) ∙ (c .before .before .before .before .before .before .before .before .before .before .before .before .before .x .given .1)) (c .before .before .before .before .before .before .before .before .before .before .see .ensures) (c .before .before .before .before .before .before .list-over .ensures) (c .before .before .put2 .ensures)
 
 pub list-stand-spec : {M : Type 1} → statement M
 list-stand-spec =
@@ -61,11 +65,12 @@ list-stand-spec =
     number-requires
     put-requires
     enum-known-x
-    sub-sides
-    sides-requires
+    see-requires
+    list-over-requires
     put-requires-2
     same-length
     returns
     same-length-2
     same-length-3
+    same-length-4
     returns-2)

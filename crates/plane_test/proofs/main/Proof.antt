@@ -10,65 +10,43 @@ abbrev μ-loop : tie.MeasureT-loop
 μ-loop n₀ n = 64 - n
 
 abbrev Inv-loop2 : tie.InvT-loop2
-Inv-loop2 n₀ n = n ≤ 256
+Inv-loop2 n₀ n = n ≤ 25
 
 abbrev μ-loop2 : tie.MeasureT-loop2
-μ-loop2 n₀ n = 256 - n
+μ-loop2 n₀ n = 25 - n
 
-abbrev Inv-loop3 : tie.InvT-loop3
-Inv-loop3 n₀ n = n ≤ 25
-
-abbrev μ-loop3 : tie.MeasureT-loop3
-μ-loop3 n₀ n = 25 - n
-
-loop-holds : tie.Need-loop-holds Inv-loop μ-loop Inv-loop2 μ-loop2 Inv-loop3 μ-loop3
+loop-holds : tie.Need-loop-holds Inv-loop μ-loop Inv-loop2 μ-loop2
 loop-holds c = search needs
 
-far-side-requires : tie.Need-far-side-requires Inv-loop μ-loop Inv-loop2 μ-loop2 Inv-loop3 μ-loop3
+far-side-requires : tie.Need-far-side-requires Inv-loop μ-loop Inv-loop2 μ-loop2
 far-side-requires c κs = search needs
 
-add-n : tie.Need-add-n Inv-loop μ-loop Inv-loop2 μ-loop2 Inv-loop3 μ-loop3
+add-n : tie.Need-add-n Inv-loop μ-loop Inv-loop2 μ-loop2
 add-n c = search needs
 
-loop-less : tie.Need-loop-less Inv-loop μ-loop Inv-loop2 μ-loop2 Inv-loop3 μ-loop3
+loop-less : tie.Need-loop-less Inv-loop μ-loop Inv-loop2 μ-loop2
 loop-less c = search needs
 
-loop-again : tie.Need-loop-again Inv-loop μ-loop Inv-loop2 μ-loop2 Inv-loop3 μ-loop3
+loop-again : tie.Need-loop-again Inv-loop μ-loop Inv-loop2 μ-loop2
 loop-again c = search needs
 
-loop2-holds : tie.Need-loop2-holds Inv-loop μ-loop Inv-loop2 μ-loop2 Inv-loop3 μ-loop3
+loop2-holds : tie.Need-loop2-holds Inv-loop μ-loop Inv-loop2 μ-loop2
 loop2-holds c = search needs
 
-far-containment-requires :
-    tie.Need-far-containment-requires Inv-loop μ-loop Inv-loop2 μ-loop2 Inv-loop3 μ-loop3
-far-containment-requires c κs = search needs
+small-side-requires :
+    tie.Need-small-side-requires Inv-loop μ-loop Inv-loop2 μ-loop2
+small-side-requires c κs = search needs
 
-add-n-2 : tie.Need-add-n-2 Inv-loop μ-loop Inv-loop2 μ-loop2 Inv-loop3 μ-loop3
+add-n-2 : tie.Need-add-n-2 Inv-loop μ-loop Inv-loop2 μ-loop2
 add-n-2 c = search needs
 
-loop2-less : tie.Need-loop2-less Inv-loop μ-loop Inv-loop2 μ-loop2 Inv-loop3 μ-loop3
+loop2-less : tie.Need-loop2-less Inv-loop μ-loop Inv-loop2 μ-loop2
 loop2-less c = search needs
 
-loop2-again : tie.Need-loop2-again Inv-loop μ-loop Inv-loop2 μ-loop2 Inv-loop3 μ-loop3
+loop2-again : tie.Need-loop2-again Inv-loop μ-loop Inv-loop2 μ-loop2
 loop2-again c = search needs
 
-loop3-holds : tie.Need-loop3-holds Inv-loop μ-loop Inv-loop2 μ-loop2 Inv-loop3 μ-loop3
-loop3-holds c = search needs
-
-small-containment-requires :
-    tie.Need-small-containment-requires Inv-loop μ-loop Inv-loop2 μ-loop2 Inv-loop3 μ-loop3
-small-containment-requires c κs = search needs
-
-add-n-3 : tie.Need-add-n-3 Inv-loop μ-loop Inv-loop2 μ-loop2 Inv-loop3 μ-loop3
-add-n-3 c = search needs
-
-loop3-less : tie.Need-loop3-less Inv-loop μ-loop Inv-loop2 μ-loop2 Inv-loop3 μ-loop3
-loop3-less c = search needs
-
-loop3-again : tie.Need-loop3-again Inv-loop μ-loop Inv-loop2 μ-loop2 Inv-loop3 μ-loop3
-loop3-again c = search needs
-
-returns : tie.Need-returns Inv-loop μ-loop Inv-loop2 μ-loop2 Inv-loop3 μ-loop3
+returns : tie.Need-returns Inv-loop μ-loop Inv-loop2 μ-loop2
 returns c = search needs
 
 pub main-spec : {M : Type 1} → statement M
@@ -79,21 +57,14 @@ main-spec =
     μ-loop
     Inv-loop2
     μ-loop2
-    Inv-loop3
-    μ-loop3
     loop-holds
     far-side-requires
     add-n
     loop-less
     loop-again
     loop2-holds
-    far-containment-requires
+    small-side-requires
     add-n-2
     loop2-less
     loop2-again
-    loop3-holds
-    small-containment-requires
-    add-n-3
-    loop3-less
-    loop3-again
     returns)

@@ -12,7 +12,9 @@ is-framed-requires : tie.Need-is-framed-requires
 is-framed-requires c κs = search needs
 
 returns : tie.Need-returns
-returns c = not-framed (now (c .before .before .before .before .before .args .file)) (now (c .before .before .before .before .before .args .corners)) (now (c .before .before .before .before .before .args .cells)) (now (c .before .before .before .before .before .args .doors)) (sym (c .before .is-framed .ensures) ∙ not-true _ (c .if1 .taken))
+returns c =
+    let start = c .before .before .before .before .before in
+    not-framed (now (start .args .file)) (now (start .args .corners)) (now (start .args .cells)) (now (start .args .doors)) (sym (c .before .is-framed .ensures) ∙ not-true _ (c .if1 .taken))
 
 slice-aggregate-read-framed : tie.Need-slice-aggregate-read-framed
 slice-aggregate-read-framed c = search needs

@@ -1,5 +1,5 @@
 -- `planfile::write` meets its contract.
-use mathlib.Core.Path.{refl}
+use mathlib.Core.Path.{refl, sym, _∙_}
 use native.Mathlib.Omega.{arith}
 use borrow.Author.Needs.{needs}
 use denote.Ref.{now}
@@ -18,7 +18,9 @@ enum-told-2 : tie.Need-enum-told-2
 enum-told-2 c = search needs
 
 returns : tie.Need-returns
-returns c = not-accepted (now (c .before .before .before .before .before .before .args .corners)) (now (c .before .before .before .before .before .before .args .cells)) (now (c .before .before .before .before .before .before .args .doors)) (now (c .before .before .before .before .before .before .args .file)) (c .before .before .check .ensures) (c .enum-told2 .given .1)
+returns c =
+    let start = c .before .before .before .before .before .before in
+    not-accepted (start .args .kind) (now (start .args .corners)) (now (start .args .cells)) (now (start .args .doors)) (now (start .args .file)) (c .before .before .check .ensures) (c .enum-told2 .given .1)
 
 mul-second : tie.Need-mul-second
 mul-second c = search needs
@@ -33,19 +35,27 @@ mul-third : tie.Need-mul-third
 mul-third c = search needs
 
 add-third-2 : tie.Need-add-third-2
-add-third-2 c = omega (arith, small (now (c .before .before .before .before .before .before .args .corners)) (now (c .before .before .before .before .before .before .args .cells)) (now (c .before .before .before .before .before .before .args .doors)) (c .before .before .check .ensures) (c .enum-told .given .1))
+add-third-2 c =
+    let start = c .before .before .before .before .before .before in
+    omega (arith, small (start .args .kind) (now (start .args .corners)) (now (start .args .cells)) (now (start .args .doors)) (sym (c .before .before .check .ensures) ∙ c .enum-told .given .1))
 
 add-end : tie.Need-add-end
-add-end c = omega (arith, small (now (c .before .before .before .before .before .before .args .corners)) (now (c .before .before .before .before .before .before .args .cells)) (now (c .before .before .before .before .before .before .args .doors)) (c .before .before .check .ensures) (c .enum-told .given .1))
+add-end c =
+    let start = c .before .before .before .before .before .before in
+    omega (arith, small (start .args .kind) (now (start .args .corners)) (now (start .args .cells)) (now (start .args .doors)) (sym (c .before .before .check .ensures) ∙ c .enum-told .given .1))
 
 mul-end : tie.Need-mul-end
 mul-end c = search needs
 
 add-end-2 : tie.Need-add-end-2
-add-end-2 c = omega (arith, small (now (c .before .before .before .before .before .before .args .corners)) (now (c .before .before .before .before .before .before .args .cells)) (now (c .before .before .before .before .before .before .args .doors)) (c .before .before .check .ensures) (c .enum-told .given .1))
+add-end-2 c =
+    let start = c .before .before .before .before .before .before in
+    omega (arith, small (start .args .kind) (now (start .args .corners)) (now (start .args .cells)) (now (start .args .doors)) (sym (c .before .before .check .ensures) ∙ c .enum-told .given .1))
 
 returns-2 : tie.Need-returns-2
-returns-2 c = no-room (now (c .before .before .before .before .before .before .before .args .corners)) (now (c .before .before .before .before .before .before .before .args .cells)) (now (c .before .before .before .before .before .before .before .args .doors)) (now (c .before .before .before .before .before .before .before .args .file)) (c .before .before .before .check .ensures) (c .before .enum-told .given .1) (omega (arith, length-file (now (c .before .before .before .before .before .before .before .args .corners)) (now (c .before .before .before .before .before .before .before .args .cells)) (now (c .before .before .before .before .before .before .before .args .doors)))) (c .if1 .taken)
+returns-2 c =
+    let start = c .before .before .before .before .before .before .before in
+    no-room (start .args .kind) (now (start .args .corners)) (now (start .args .cells)) (now (start .args .doors)) (now (start .args .file)) (c .before .before .before .check .ensures) (c .before .enum-told .given .1) (omega (arith, length-file (start .args .kind) (now (start .args .corners)) (now (start .args .cells)) (now (start .args .doors)))) (c .if1 .taken)
 
 put-corners-requires : tie.Need-put-corners-requires
 put-corners-requires c κs = search needs
@@ -60,7 +70,10 @@ same-length : tie.Need-same-length
 same-length c = search needs
 
 returns-3 : tie.Need-returns-3
-returns-3 c = all-written (now (c .before .before .before .before .before .before .before .before .before .before .before .before .before .before .before .before .before .before .before .args .corners)) (now (c .before .before .before .before .before .before .before .before .before .before .before .before .before .before .before .before .before .before .before .args .cells)) (now (c .before .before .before .before .before .before .before .before .before .before .before .before .before .before .before .before .before .before .before .args .doors)) (now (c .before .before .before .before .before .before .before .before .before .before .before .before .before .before .before .before .before .before .before .args .file)) (c .before .before .before .before .before .before .before .before .before .before .before .before .before .before .before .check .ensures) (c .before .before .before .before .before .before .before .before .before .before .before .before .before .enum-told .given .1) (omega (arith, length-file (now (c .before .before .before .before .before .before .before .before .before .before .before .before .before .before .before .before .before .before .before .args .corners)) (now (c .before .before .before .before .before .before .before .before .before .before .before .before .before .before .before .before .before .before .before .args .cells)) (now (c .before .before .before .before .before .before .before .before .before .before .before .before .before .before .before .before .before .before .before .args .doors)))) (c .before .before .before .before .before .before .before .before .before .before .before .before .if1 .left) (records-put (now (c .before .before .before .before .before .before .before .before .before .before .before .before .before .before .before .before .before .before .before .args .corners)) (now (c .before .before .before .before .before .before .before .before .before .before .before .before .before .before .before .before .before .before .before .args .cells)) (now (c .before .before .before .before .before .before .before .before .before .before .before .before .before .before .before .before .before .before .before .args .doors)) (now (c .before .before .before .before .before .before .before .before .before .before .before .before .before .before .before .before .before .before .before .args .file)) refl refl (c .before .before .before .before .before .before .before .before .before .before .put-corners .ensures) (c .before .before .before .before .before .before .put-numbers .ensures) (c .before .before .put-numbers2 .ensures))
+returns-3 c =
+    let start = c .before .before .before .before .before .before .before .before .before .before .before .before .before .before .before .before .before .before .before in
+    all-written (start .args .kind) (now (start .args .corners)) (now (start .args .cells)) (now (start .args .doors)) (now (start .args .file)) (c .before .before .before .before .before .before .before .before .before .before .before .before .before .before .before .check .ensures) (c .before .before .before .before .before .before .before .before .before .before .before .before .before .enum-told .given .1) (omega (arith, length-file (start .args .kind) (now (start .args .corners)) (now (start .args .cells)) (now (start .args .doors)))) (c .before .before .before .before .before .before .before .before .before .before .before .before .if1 .left)
+    (records-put (start .args .kind) (now (start .args .corners)) (now (start .args .cells)) (now (start .args .doors)) (now (start .args .file)) refl refl (c .before .before .before .before .before .before .before .before .before .before .put-corners .ensures) (c .before .before .before .before .before .before .put-numbers .ensures) (c .before .before .put-numbers2 .ensures))
 
 pub write-spec : {M : Type 1} → statement M
 write-spec =

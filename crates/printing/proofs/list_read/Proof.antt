@@ -5,7 +5,7 @@ use Prim.Native.Nat.{_*_, _≤_}
 use denote.Ref.{now}
 use lib.ListN.{length}
 use lib.Seq.{length-take-le}
-use Rattle.limits.specs.Limits.{most-corners, most-cells}
+use Rattle.limits.specs.Limits.{most-corners}
 use Rattle.limits.specs.declared.Plan.{Plan}
 use Rattle.printing.proofs.Files.{refused-by-the-reader, long, within, listed-from-the-reader}
 use borrow.Author.Needs.{needs}
@@ -33,37 +33,34 @@ module _ (d : lts.After-plan (read-reads.Asked, read-reads.Learnt, list-reads.As
   abbrev p : Plan
   p = d .plan .given .0 .0
 
-  few : (2 * p .corners ≤ 2 * most-corners) × (6 * p .cells ≤ 6 * most-cells)
+  few : 2 * p .corners ≤ 2 * most-corners
   few =
       let lists = long (now (s .args .file)) (now (s .args .corners)) (now (s .args .cells)) (now (s .args .doors)) (s .pre) (d .before .before .before .before .before .before .before .read .ensures .0) (d .plan .given .1) in
-      (lists .few-corners, lists .few-cells)
+      lists .few-corners
 
-  fit : (2 * p .corners ≤ length (d .before .before .before .before .before .before .before .read .last .1 .0)) × ((6 * p .cells ≤ length (d .before .before .before .before .before .before .before .read .last .1 .1 .0)) × (p .doors ≤ length (d .before .before .before .before .before .before .before .read .last .1 .1 .1 .0)))
+  fit : (2 * p .corners ≤ length (d .before .before .before .before .before .before .before .read .last .1 .0)) × ((d .plan .given .0 .1 .1 .0 ≤ length (d .before .before .before .before .before .before .before .read .last .1 .1 .0)) × (p .doors ≤ length (d .before .before .before .before .before .before .before .read .last .1 .1 .1 .0)))
   fit = within (now (s .args .file)) (now (s .args .corners)) (now (s .args .cells)) (now (s .args .doors)) (s .pre) (d .before .before .before .before .before .before .before .read .ensures .0) (d .plan .given .1)
 
 mul-n : tie.Need-mul-n
-mul-n c = omega (arith, few (c .before .before) .0)
-
-mul-m : tie.Need-mul-m
-mul-m c = omega (arith, few (c .before .before .before) .1)
+mul-n c = omega (arith, few (c .before .before))
 
 slice-reshare-prefix-list : tie.Need-slice-reshare-prefix-list
-slice-reshare-prefix-list c = fit (c .before .before .before) .0
+slice-reshare-prefix-list c = fit (c .before .before) .0
 
 slice-aggregate-list : tie.Need-slice-aggregate-list
-slice-aggregate-list c = sym (length-take-le _ _ (fit (c .before .before .before .before) .0))
+slice-aggregate-list c = sym (length-take-le _ _ (fit (c .before .before .before) .0))
 
 slice-reshare-prefix-list-2 : tie.Need-slice-reshare-prefix-list-2
-slice-reshare-prefix-list-2 c = fit (c .before .before .before .before) .1 .0
+slice-reshare-prefix-list-2 c = fit (c .before .before .before) .1 .0
 
 slice-aggregate-list-2 : tie.Need-slice-aggregate-list-2
-slice-aggregate-list-2 c = sym (length-take-le _ _ (fit (c .before .before .before .before .before) .1 .0))
+slice-aggregate-list-2 c = sym (length-take-le _ _ (fit (c .before .before .before .before) .1 .0))
 
 slice-reshare-prefix-list-3 : tie.Need-slice-reshare-prefix-list-3
-slice-reshare-prefix-list-3 c = fit (c .before .before .before .before .before) .1 .1
+slice-reshare-prefix-list-3 c = fit (c .before .before .before .before) .1 .1
 
 slice-aggregate-list-3 : tie.Need-slice-aggregate-list-3
-slice-aggregate-list-3 c = sym (length-take-le _ _ (fit (c .before .before .before .before .before .before) .1 .1))
+slice-aggregate-list-3 c = sym (length-take-le _ _ (fit (c .before .before .before .before .before) .1 .1))
 
 list-requires : tie.Need-list-requires
 list-requires c κs = search needs
@@ -93,7 +90,7 @@ same-length-7 : tie.Need-same-length-7
 same-length-7 c = search needs
 
 returns-2 : tie.Need-returns-2
-returns-2 c = let s = c .before .before .before .before .before .before .before .before .before .before .before .before .before .before .before .before .before .before .before .before .before .before .before .before .before in listed-from-the-reader (now (s .args .file)) (now (s .args .corners)) (now (s .args .cells)) (now (s .args .doors)) (s .pre) (c .before .before .before .before .before .before .before .before .before .before .before .before .before .before .before .before .before .read .ensures .0) (c .before .before .before .before .before .before .before .before .before .before .plan .given .1) _ _ _ (c .before .before .list .ensures .0)
+returns-2 c = let s = c .before .before .before .before .before .before .before .before .before .before .before .before .before .before .before .before .before .before .before .before .before .before .before .before in listed-from-the-reader (now (s .args .file)) (now (s .args .corners)) (now (s .args .cells)) (now (s .args .doors)) (s .pre) (c .before .before .before .before .before .before .before .before .before .before .before .before .before .before .before .before .read .ensures .0) (c .before .before .before .before .before .before .before .before .before .plan .given .1) _ _ _ (c .before .before .list .ensures .0)
 
 pub list-read-spec : {M : Type 1} → statement M
 list-read-spec =
@@ -103,7 +100,6 @@ list-read-spec =
     enum-known-r
     enum-known-plan
     mul-n
-    mul-m
     slice-reshare-prefix-list
     slice-aggregate-list
     slice-reshare-prefix-list-2

@@ -18,7 +18,13 @@ slice-write-reply-4 : tie.Need-slice-write-reply-4
 slice-write-reply-4 c = simp length-set (omega arith)
 
 slice-write-reply-5 : tie.Need-slice-write-reply-5
-slice-write-reply-5 c = search needs
+slice-write-reply-5 c = simp length-set (omega arith)
+
+slice-write-reply-6 : tie.Need-slice-write-reply-6
+slice-write-reply-6 c = simp length-set (omega arith)
+
+slice-write-reply-7 : tie.Need-slice-write-reply-7
+slice-write-reply-7 c = search needs
 
 same-length : tie.Need-same-length
 same-length c = search needs
@@ -35,5 +41,7 @@ put-spec =
     slice-write-reply-3
     slice-write-reply-4
     slice-write-reply-5
+    slice-write-reply-6
+    slice-write-reply-7
     same-length
     returns)

@@ -39,17 +39,17 @@ is-of-requires c κs = search needs
 returns-5 : tie.Need-returns-5
 returns-5 c = first-wrong (now (c .before .before .before .before .before .before .before .before .before .before .args .s)) (c .before .before .before .before .before .before .before .end .ensures .0) (c .before .before .before .before .before .end2 .ensures .0) (c .before .before .before .end3 .ensures .0) (c .before .before .if4 .left) (c .before .is-of .ensures) (not-true _ (c .if5 .taken))
 
+is-cells-requires : tie.Need-is-cells-requires
+is-cells-requires c κs = search needs
+
+returns-6 : tie.Need-returns-6
+returns-6 c = second-wrong (now (c .before .before .before .before .before .before .before .before .before .before .before .before .args .s)) (c .before .before .before .before .before .before .before .before .before .end .ensures .0) (c .before .before .before .before .before .before .before .end2 .ensures .0) (c .before .before .before .before .before .end3 .ensures .0) (c .before .before .before .before .if4 .left) (c .before .before .before .is-of .ensures) (not-false _ (c .before .before .if5 .left)) (c .before .is-cells .ensures) (not-true _ (c .if6 .taken))
+
 is-of-requires-2 : tie.Need-is-of-requires-2
 is-of-requires-2 c κs = search needs
 
-returns-6 : tie.Need-returns-6
-returns-6 c = second-wrong (now (c .before .before .before .before .before .before .before .before .before .before .before .before .args .s)) (c .before .before .before .before .before .before .before .before .before .end .ensures .0) (c .before .before .before .before .before .before .before .end2 .ensures .0) (c .before .before .before .before .before .end3 .ensures .0) (c .before .before .before .before .if4 .left) (c .before .before .before .is-of .ensures) (not-false _ (c .before .before .if5 .left)) (c .before .is-of2 .ensures) (not-true _ (c .if6 .taken))
-
-is-of-requires-3 : tie.Need-is-of-requires-3
-is-of-requires-3 c κs = search needs
-
 returns-7 : tie.Need-returns-7
-returns-7 c = by-third (now (c .before .before .before .before .before .before .before .before .before .before .before .before .before .args .s)) (c .before .before .before .before .before .before .before .before .before .before .end .ensures .0) (c .before .before .before .before .before .before .before .before .end2 .ensures .0) (c .before .before .before .before .before .before .end3 .ensures .0) (c .before .before .before .before .before .if4 .left) (c .before .before .before .before .is-of .ensures) (not-false _ (c .before .before .before .if5 .left)) (c .before .before .is-of2 .ensures) (not-false _ (c .before .if6 .left)) (c .is-of3 .ensures)
+returns-7 c = by-third (now (c .before .before .before .before .before .before .before .before .before .before .before .before .before .args .s)) (c .before .before .before .before .before .before .before .before .before .before .end .ensures .0) (c .before .before .before .before .before .before .before .before .end2 .ensures .0) (c .before .before .before .before .before .before .end3 .ensures .0) (c .before .before .before .before .before .if4 .left) (c .before .before .before .before .is-of .ensures) (not-false _ (c .before .before .before .if5 .left)) (c .before .before .is-cells .ensures) (not-false _ (c .before .if6 .left)) (c .is-of2 .ensures)
 
 pub is-framed-spec : {M : Type 1} → statement M
 is-framed-spec =
@@ -66,7 +66,7 @@ is-framed-spec =
     returns-4
     is-of-requires
     returns-5
-    is-of-requires-2
+    is-cells-requires
     returns-6
-    is-of-requires-3
+    is-of-requires-2
     returns-7)

@@ -1,40 +1,58 @@
 -- `sight::list::list` meets its contract.
 use mathlib.Core.Path.{sym, _∙_}
 use denote.Ref.{now}
-use Rattle.sight.proofs.Views.{listing-refused, listing-sound, listing-stands, listing-room, listing-done}
+use lib.ListN.{length}
+use Rattle.checking.proofs.Measures.{refused-likewise}
+use Rattle.sight.proofs.Views.{plan-refused, listing-refused}
 use borrow.Author.Needs.{needs}
 use Rattle.sight.proofs.list.list.Statement.{statement}
 use Rattle.sight.proofs.list.list.Tie as tie
 
-view-from-requires : tie.Need-view-from-requires
-view-from-requires c κs = search needs
+measure-requires : tie.Need-measure-requires
+measure-requires c κs = search needs
 
 enum-known-r : tie.Need-enum-known-r
 enum-known-r c = search needs
 
-enum-known-x : tie.Need-enum-known-x
-enum-known-x c = search needs
+enum-known-m : tie.Need-enum-known-m
+enum-known-m c = search needs
 
-list-from-requires : tie.Need-list-from-requires
-list-from-requires c κs = (listing-sound (now (c .before .before .before .before .before .before .before .before .args .corners)) (now (c .before .before .before .before .before .before .before .before .args .cells)) (now (c .before .before .before .before .before .before .before .before .args .doors)) (c .before .before .before .before .before .before .before .before .args .setting) (c .before .before .before .before .before .before .before .before .args .stand) (now (c .before .before .before .before .before .before .before .before .args .table)) (sym (c .before .before .before .before .view-from .ensures) ∙ (c .before .before .x .given .1)), (listing-stands (now (c .before .before .before .before .before .before .before .before .args .corners)) (now (c .before .before .before .before .before .before .before .before .args .cells)) (now (c .before .before .before .before .before .before .before .before .args .doors)) (c .before .before .before .before .before .before .before .before .args .setting) (c .before .before .before .before .before .before .before .before .args .stand) (now (c .before .before .before .before .before .before .before .before .args .table)) (sym (c .before .before .before .before .view-from .ensures) ∙ (c .before .before .x .given .1)), listing-room (now (c .before .before .before .before .before .before .before .before .args .corners)) (now (c .before .before .before .before .before .before .before .before .args .cells)) (now (c .before .before .before .before .before .before .before .before .args .doors)) (c .before .before .before .before .before .before .before .before .args .setting) (c .before .before .before .before .before .before .before .before .args .stand) (now (c .before .before .before .before .before .before .before .before .args .table)) (sym (c .before .before .before .before .view-from .ensures) ∙ (c .before .before .x .given .1))))
+mul-if1 : tie.Need-mul-if1
+mul-if1 c = search needs
 
-returns : tie.Need-returns
-returns c = listing-refused (now (c .before .before .before .before .before .before .before .args .corners)) (now (c .before .before .before .before .before .before .before .args .cells)) (now (c .before .before .before .before .before .before .before .args .doors)) (c .before .before .before .before .before .before .before .args .setting) (c .before .before .before .before .before .before .before .args .stand) (now (c .before .before .before .before .before .before .before .args .table)) (sym (c .before .before .before .view-from .ensures) ∙ (c .before .r .given .1))
+list-few-requires : tie.Need-list-few-requires
+list-few-requires c κs = (sym (c .before .before .before .before .before .measure .ensures) ∙ c .before .before .before .m .given .1, c .before .if1 .taken)
 
 same-length : tie.Need-same-length
 same-length c = search needs
 
+returns : tie.Need-returns
+returns c = search needs
+
+list-many-requires : tie.Need-list-many-requires
+list-many-requires c κs = sym (c .before .before .before .before .before .measure .ensures) ∙ c .before .before .before .m .given .1
+
 returns-2 : tie.Need-returns-2
-returns-2 c = listing-done (now (c .before .before .before .before .before .before .before .before .before .before .before .args .corners)) (now (c .before .before .before .before .before .before .before .before .before .before .before .args .cells)) (now (c .before .before .before .before .before .before .before .before .before .before .before .args .doors)) (c .before .before .before .before .before .before .before .before .before .before .before .args .setting) (c .before .before .before .before .before .before .before .before .before .before .before .args .stand) (now (c .before .before .before .before .before .before .before .before .before .before .before .args .table)) (sym (c .before .before .before .before .before .before .before .view-from .ensures) ∙ (c .before .before .before .before .before .x .given .1)) (c .before .before .list-from .ensures)
+returns-2 c = let s = c .before .before .before .before .before .before .before in listing-refused (c .before .before .before .before .before .before .before .args .kind) (now (c .before .before .before .before .before .before .before .args .corners)) (now (c .before .before .before .before .before .before .before .args .cells)) (now (c .before .before .before .before .before .before .before .args .doors)) (s .args .setting) (s .args .stand) (now (s .args .table)) (sym (plan-refused (c .before .before .before .before .before .before .before .args .kind) (now (c .before .before .before .before .before .before .before .args .corners)) (now (c .before .before .before .before .before .before .before .args .cells)) (now (c .before .before .before .before .before .before .before .args .doors)) (s .args .setting) (s .args .stand) (length (now (s .args .table))) (sym (refused-likewise (c .before .before .before .before .before .before .before .args .kind) (now (c .before .before .before .before .before .before .before .args .corners)) (now (c .before .before .before .before .before .before .before .args .cells)) (now (c .before .before .before .before .before .before .before .args .doors)) (c .before .before .before .measure .ensures) (c .before .r .given .1)))))
+
+same-length-2 : tie.Need-same-length-2
+same-length-2 c = search needs
+
+returns-3 : tie.Need-returns-3
+returns-3 c = search needs
 
 pub list-spec : {M : Type 1} → statement M
 list-spec =
     tie.close
     (tie.spec
-    view-from-requires
+    measure-requires
     enum-known-r
-    enum-known-x
-    list-from-requires
-    returns
+    enum-known-m
+    mul-if1
+    list-few-requires
     same-length
-    returns-2)
+    returns
+    list-many-requires
+    returns-2
+    same-length-2
+    returns-3)

@@ -1,21 +1,52 @@
 -- `sight::list::list_from` meets its contract.
-use mathlib.Core.Path.{refl}
+use Rattle.stand.proofs.Located.{found-cell-holds-the-stand}
+use Rattle.sight.proofs.Lined.{lined-is-lines, starts-stand}
+use Rattle.sight.proofs.Lister.{tree-is-whole, tree-has-room, few-crossings, listing-written}
 use borrow.Author.Needs.{needs}
 use Rattle.sight.proofs.list.list_from.Statement.{statement}
 use Rattle.sight.proofs.list.list_from.Tie as tie
 
-slice-aggregate-list-lines : tie.Need-slice-aggregate-list-lines
-slice-aggregate-list-lines c = search needs
+lines-of-requires : tie.Need-lines-of-requires
+lines-of-requires c κs = search needs
 
-list-lines-requires : tie.Need-list-lines-requires
-list-lines-requires c κs = (c .before .before .before .before .before .pre .0, (c .before .before .before .before .before .pre .1 .0, (c .before .before .before .before .before .pre .1 .1, refl)))
+see-requires : tie.Need-see-requires
+see-requires c κs = search needs
+
+list-over-requires : tie.Need-list-over-requires
+list-over-requires c κs =
+    let s = c .before .before .before .before .before .before .before .before .before .before .before .before .before .before .before .before in
+    let sound = s .pre .0 .0 in
+    let near = s .pre .1 .0 .0 in
+    let stands = found-cell-holds-the-stand _ (sound .numbered) _ (s .pre .1 .0 .1) in
+    let lined = c .before .before .before .before .before .before .before .before .lines-of .ensures in
+    let seen = c .before .before .before .before .see .ensures in (
+      (lined-is-lines (s .args .setting) sound near lined seen, starts-stand (s .args .setting) sound near lined seen, sound .numbered),
+      ((stands .cell-exists, lined .whole), (tree-is-whole sound (s .args .setting) _ near _ stands lined seen, (tree-has-room sound (s .args .setting) _ near _ stands lined seen _ (s .pre .1 .1 .0), few-crossings sound (s .args .setting) _ near _ stands lined seen))),
+    )
 
 same-length : tie.Need-same-length
 same-length c = search needs
 
+same-length-2 : tie.Need-same-length-2
+same-length-2 c = search needs
+
+same-length-3 : tie.Need-same-length-3
+same-length-3 c = search needs
+
 returns : tie.Need-returns
-returns c = search needs
+returns c =
+    let s = c .before .before .before .before .before .before .before .before .before .before .before .before .before .before .before .before .before .before .before in
+    let sound = s .pre .0 .0 in
+    listing-written sound (s .args .setting) _ (s .pre .1 .0 .0) _ (found-cell-holds-the-stand _ (sound .numbered) _ (s .pre .1 .0 .1)) (c .before .before .before .before .before .before .before .before .before .before .before .lines-of .ensures) (c .before .before .before .before .before .before .before .see .ensures) _ (c .before .before .list-over .ensures)
 
 pub list-from-spec : {M : Type 1} → statement M
 list-from-spec =
-    tie.close (tie.spec slice-aggregate-list-lines list-lines-requires same-length returns)
+    tie.close
+    (tie.spec
+    lines-of-requires
+    see-requires
+    list-over-requires
+    same-length
+    same-length-2
+    same-length-3
+    returns)

@@ -12,8 +12,8 @@ use mir.Val.{toZ, ofZ}
 use Rattle.exact.specs.Within.{Within}
 use Rattle.exact.proofs.Bounds.{Exactly, plus, coordinate, reads-back, fits}
 use Rattle.plane.specs.Side.{Point, point, limit}
-use Rattle.plan.specs.Lists.{corner-count, corner-at}
-use Rattle.plan.specs.Sound.{CornersNear}
+use Rattle.cells.specs.Lists.{corner-count, corner-at}
+use Rattle.cells.specs.Sound.{CornersNear}
 use Rattle.stand.specs.Spot.{whole-point, within-limits, stood}
 use Rattle.stand.specs.declared.spot.Stand.the-variants.{Offset}
 use Rattle.stand.specs.declared.spot.Spot.{Spot}

@@ -1,0 +1,6 @@
+-- the cells that two lent tables stand for
+pub mod Tables
+-- a table of the faces on the other side
+pub mod Backed
+-- the counts of three lists, or the refusal
+pub mod Sizes

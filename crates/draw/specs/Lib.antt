@@ -1,0 +1,2 @@
+-- how many cells and faces a list of cells has
+pub mod Counted

@@ -1,0 +1,104 @@
+-- The expansion over an abstract floor (document 01, "Expansion"; document 02, A14): a tree of rows, passages and splits. Faces and corners are numbers.
+use mathlib.Core.Bool.{Bool, true, false}
+use mathlib.Core.List.{List, [], _∷_, _++_}
+use Prim.Native.Nat.{ℕ, zero, suc, _+_}
+
+-- where a corner v lies between the limits r and l
+pub data Place : Type 0 where
+  between : Place
+  right-of-r : Place
+  left-of-l : Place
+
+pub record Floor : Type 0 where
+  -- sight ends at this face
+  pub ends : ℕ → Bool
+  -- the neighbour's side through which a free face is crossed
+  pub back : ℕ → ℕ
+  -- the next side of the same cell, counter-clockwise
+  pub next : ℕ → ℕ
+  -- how many sides of its cell follow the next one before this one comes round again: the corners less two
+  pub more : ℕ → ℕ
+  -- a face runs from its right end to its left end, seen from its own cell
+  pub right-end : ℕ → ℕ
+  pub left-end : ℕ → ℕ
+  -- where v lies between r and l
+  pub place : ℕ → ℕ → ℕ → Place
+
+pub data Sight : Type 0 where
+  -- a wall face gives a row: face, right limit, left limit
+  row : ℕ → ℕ → ℕ → Sight
+  -- a free line is crossed: face, right limit, left limit, and what is seen beyond
+  pass : ℕ → ℕ → ℕ → Sight → Sight
+  -- two parts handed on, the right one first
+  both : Sight → Sight → Sight
+  -- a crossing too many
+  cut : Sight
+
+-- side e of an entered cell and the m sides after it, counter-clockwise, each with the part of the cone that is not empty; `on` follows a line.
+-- At e's left end v: v on or right of the ray to r, e is skipped; v on or left of the ray to l, e takes r and l and the fan ends; v strictly
+-- between, e takes r and v, and the sides after it v and l. The last side takes what is left.
+unfoldable pub fan : Floor → (ℕ → ℕ → ℕ → Sight) → ℕ → ℕ → ℕ → ℕ → Sight
+fan F on zero e r l = on e r l
+fan F on (suc m) e r l =
+    elim (F .place (F .left-end e) r l) [
+      | between ↦ both (on e r (F .left-end e)) (fan F on m (F .next e) (F .left-end e) l)
+      | right-of-r ↦ fan F on m (F .next e) r l
+      | left-of-l ↦ on e r l
+    ]
+
+-- the line of face f with limits r and l, followed to its rows through at most n crossings
+unfoldable pub follow : Floor → ℕ → ℕ → ℕ → ℕ → Sight
+follow F zero f r l = elim (F .ends f) [ true ↦ row f r l | false ↦ cut ]
+follow F (suc n) f r l =
+    elim (F .ends f) [ true ↦ row f r l | false ↦ pass f r l (fan F (follow F n) (F .more (F .back f)) (F .next (F .back f)) r l) ]
+
+-- the sides that a cell entered through its face g hands on, as `follow` has them
+unfoldable pub hand-on : Floor → ℕ → ℕ → ℕ → ℕ → Sight
+hand-on F n g r l = fan F (follow F n) (F .more g) (F .next g) r l
+
+-- side e of the stand's cell and the m sides after it, each with its own two ends as limits
+unfoldable pub sides : Floor → ℕ → ℕ → ℕ → Sight
+sides F n zero e = follow F n e (F .right-end e) (F .left-end e)
+sides F n (suc m) e = both (follow F n e (F .right-end e) (F .left-end e)) (sides F n m (F .next e))
+
+-- what is seen from strictly inside the cell whose first face is f: the cell hands on all its sides, from that one on
+unfoldable pub from-inside : Floor → ℕ → ℕ → Sight
+from-inside F n f = sides F n (suc (F .more f)) f
+
+-- the rows' numbers, three a row, in order
+unfoldable pub numbers : Sight → List ℕ
+numbers (row f r l) = f ∷ r ∷ l ∷ []
+numbers (pass f r l t) = numbers t
+numbers (both t u) = numbers t ++ numbers u
+numbers cut = []
+
+unfoldable pub row-count : Sight → ℕ
+row-count (row f r l) = 1
+row-count (pass f r l t) = row-count t
+row-count (both t u) = row-count t + row-count u
+row-count cut = 0
+
+-- the number of times a free line is passed, each passage by each cone counted
+unfoldable pub crossings : Sight → ℕ
+crossings (row f r l) = 0
+crossings (pass f r l t) = crossings t + 1
+crossings (both t u) = crossings t + crossings u
+crossings cut = 0
+
+-- no crossing was too many
+pub data Whole : Sight → Type 0 where
+  whole-row : {f r l : ℕ} → Whole (row f r l)
+  whole-pass : {f r l : ℕ} {t : Sight} → Whole t → Whole (pass f r l t)
+  whole-both : {t u : Sight} → Whole t → Whole u → Whole (both t u)
+
+-- a row: face on the side seen, right limit, left limit
+pub record Row : Type 0 where
+  pub face : ℕ
+  pub right : ℕ
+  pub left : ℕ
+
+unfoldable pub rows : Sight → List Row
+rows (row f r l) = record { face = f; right = r; left = l } ∷ []
+rows (pass f r l t) = rows t
+rows (both t u) = rows t ++ rows u
+rows cut = []

@@ -1,0 +1,40 @@
+-- The walk (document 01, "Walk"). It knows nothing of cones.
+use mathlib.Core.Bool.{true, false}
+use mathlib.Core.Path.{_≡_}
+use Prim.Native.Nat.{ℕ, suc}
+use Rattle.plane.specs.Side.{Point}
+use Rattle.plane.specs.Cone.{Holds}
+use Rattle.fan.specs.Sight.{Floor, Row}
+
+-- e is side f or one of the m sides after it
+pub data Among (F : Floor) : ℕ → ℕ → ℕ → Type 0 where
+  this : {m f : ℕ} → Among F m f f
+  after : {m f e : ℕ} → Among F m (F .next f) e → Among F (suc m) f e
+
+-- e is a side of g's cell, and not g itself
+abbrev pub Other : Floor → ℕ → ℕ → Type 0
+Other F g e = Among F (F .more g) (F .next g) e
+
+-- `see c` is corner c less the stand
+module _ (F : Floor) (see : ℕ → Point) (d : Point) where
+  -- a cell is left by the line whose right end a and left end b have (a−q)×d > 0 and d×(b−q) > 0
+  abbrev pub Leaves : ℕ → Type 0
+  Leaves f = Holds (see (F .right-end f)) (see (F .left-end f)) d
+
+  -- the walk that leaves a cell by face f ends at face w
+  pub data Walks : ℕ → ℕ → Type 0 where
+    -- that line is wall
+    ended : {f : ℕ} → F .ends f ≡ true → Walks f f
+    -- it is crossed, and the next cell is left by a line that is not the one it was entered by
+    crossed : {f e w : ℕ} → F .ends f ≡ false → Other F (F .back f) e → Leaves e → Walks e w → Walks f w
+
+  -- a row holds d when (r−q)×d > 0 and d×(l−q) > 0
+  abbrev pub RowHolds : Row → Type 0
+  RowHolds w = Holds (see (w .right)) (see (w .left)) d
+
+  -- the walk from the stand's cell, whose first side is f, leaves it by one of its sides and ends at face w
+  pub record WalkEnds (f w : ℕ) : Type 0 where
+    pub side : ℕ
+    pub of-the-cell : Among F (suc (F .more f)) f side
+    pub leaves : Leaves side
+    pub walks : Walks side w

@@ -1,0 +1,166 @@
+// Finding (document 01, "The stand"): the plan is checked, the stand read, and its cell sought.
+ghost use Prim.Native.Nat.{suc, _*_, _<_, _≤_};
+ghost use mathlib.Core.Bool.{true};
+ghost use mathlib.Core.Path.{_≡_};
+ghost use lib.ListN.{length};
+ghost use Rattle.limits.specs.Limits.{most-cells, sized};
+ghost use Rattle.cells.specs.Lists.{tabled, corner-count, cell-count, face-count};
+ghost use Rattle.cells.specs.Cut.{cells-of};
+ghost use Rattle.cells.specs.Check.{framed};
+ghost use Rattle.cells.specs.Sound.{CornersNear, CornersExist, Numbered};
+ghost use Rattle.checking.specs.Sizes.{sizes-of};
+ghost use Rattle.checking.specs.declared.Sizes.the-variants.{Of};
+ghost use Rattle.stand.specs.Spot.{stood};
+ghost use Rattle.stand.specs.Find.{with-spot, found};
+use checking::Sizes;
+use checking::check_into;
+use checking::measure;
+use limits::Checked;
+use limits::Plan;
+use limits::Refusal;
+use stand::locate::Found;
+use stand::locate::locate;
+use stand::spot::Spot;
+use stand::spot::Stand;
+use stand::spot::stand_spot;
+
+// On an accepted plan.
+fn find_stand(corners: &[i32], faces: &[u16], firsts: &[u16], stand: Stand) -> Found
+    requires { ⌜ CornersNear (now corners) × CornersExist (now corners) (tabled (now faces) (now firsts)) × Numbered (tabled (now faces) (now firsts)) ⌝ }
+    ensures { λ r. ⌜ r ≡ with-spot (now (corners .entry)) (tabled (now (faces .entry)) (now (firsts .entry))) (stood (now (corners .entry)) stand) ⌝ }
+{
+    let Spot::At(x, y) = stand_spot(corners, stand) else {
+        return Found::Refused(Refusal::Stand);
+    };
+    locate(corners, faces, firsts, [x, y])
+}
+
+// On lists that are framed and sized, with room for their tables.
+fn find_in(
+    corners: &[i32],
+    cells: &[u16],
+    doors: &[u16],
+    kind: u16,
+    stand: Stand,
+    faces: &mut [u16],
+    firsts: &mut [u16],
+    backs: &mut [u16],
+) -> Found
+    requires { ⌜ (framed kind (now corners) (now cells) ≡ true) × (sized (corner-count (now corners)) (cell-count (cells-of kind (now cells))) (length (now doors)) ≡ true) ⌝ }
+    requires { ⌜ length (now faces) ≡ 2 * face-count (cells-of kind (now cells)) ⌝ }
+    requires { ⌜ length (now firsts) ≡ suc (cell-count (cells-of kind (now cells))) ⌝ }
+    requires { ⌜ length (now backs) ≡ face-count (cells-of kind (now cells)) ⌝ }
+    ensures { λ r. ⌜ r ≡ found kind (now (corners .entry)) (now (cells .entry)) (now (doors .entry)) stand ⌝ }
+{
+    match check_into(corners, cells, doors, kind, faces, firsts, backs) {
+        Checked::Refused(r) => Found::Refused(r),
+        Checked::Accepted(_) => find_stand(corners, faces, firsts, stand),
+    }
+}
+
+// In as much of the room lent as m cells with n faces need.
+fn find_cut(
+    corners: &[i32],
+    cells: &[u16],
+    doors: &[u16],
+    kind: u16,
+    stand: Stand,
+    m: usize,
+    n: usize,
+    faces: &mut [u16],
+    firsts: &mut [u16],
+    backs: &mut [u16],
+) -> Found
+    requires { ⌜ sizes-of kind (now corners) (now cells) (now doors) ≡ Of m n ⌝ }
+    requires { ⌜ (2 * n ≤ length (now faces)) × (m < length (now firsts)) × (n ≤ length (now backs)) ⌝ }
+    ensures { λ r. ⌜ r ≡ found kind (now (corners .entry)) (now (cells .entry)) (now (doors .entry)) stand ⌝ }
+{
+    let twice = 2 * n;
+    let after = m + 1;
+    find_in(
+        corners,
+        cells,
+        doors,
+        kind,
+        stand,
+        &mut faces[..twice],
+        &mut firsts[..after],
+        &mut backs[..n],
+    )
+}
+
+// Lends room for no more faces than triangles have: the larger tables need not be cleared for them.
+fn find_few(
+    corners: &[i32],
+    cells: &[u16],
+    doors: &[u16],
+    kind: u16,
+    stand: Stand,
+    m: usize,
+    n: usize,
+) -> Found
+    requires { ⌜ sizes-of kind (now corners) (now cells) (now doors) ≡ Of m n ⌝ }
+    requires { ⌜ n ≤ 3 * most-cells ⌝ }
+    ensures { λ r. ⌜ r ≡ found kind (now (corners .entry)) (now (cells .entry)) (now (doors .entry)) stand ⌝ }
+{
+    let mut faces = [0u16; 6 * Plan::MOST_CELLS];
+    let mut firsts = [0u16; 1 + Plan::MOST_CELLS];
+    let mut backs = [0u16; 3 * Plan::MOST_CELLS];
+    find_cut(
+        corners,
+        cells,
+        doors,
+        kind,
+        stand,
+        m,
+        n,
+        &mut faces,
+        &mut firsts,
+        &mut backs,
+    )
+}
+
+// Lends room for every plan.
+fn find_many(
+    corners: &[i32],
+    cells: &[u16],
+    doors: &[u16],
+    kind: u16,
+    stand: Stand,
+    m: usize,
+    n: usize,
+) -> Found
+    requires { ⌜ sizes-of kind (now corners) (now cells) (now doors) ≡ Of m n ⌝ }
+    ensures { λ r. ⌜ r ≡ found kind (now (corners .entry)) (now (cells .entry)) (now (doors .entry)) stand ⌝ }
+{
+    let mut faces = [0u16; 16 * Plan::MOST_CELLS];
+    let mut firsts = [0u16; 1 + Plan::MOST_CELLS];
+    let mut backs = [0u16; 8 * Plan::MOST_CELLS];
+    find_cut(
+        corners,
+        cells,
+        doors,
+        kind,
+        stand,
+        m,
+        n,
+        &mut faces,
+        &mut firsts,
+        &mut backs,
+    )
+}
+
+// Finding: plan, the kind of its list of cells, and stand.
+pub fn find(corners: &[i32], cells: &[u16], doors: &[u16], kind: u16, stand: Stand) -> Found
+    ensures { λ r. ⌜ r ≡ found kind (now (corners .entry)) (now (cells .entry)) (now (doors .entry)) stand ⌝ }
+{
+    match measure(corners, cells, doors, kind) {
+        Sizes::Refused(r) => Found::Refused(r),
+        Sizes::Of(m, n) => {
+            if n <= 3 * Plan::MOST_CELLS {
+                return find_few(corners, cells, doors, kind, stand, m, n);
+            }
+            find_many(corners, cells, doors, kind, stand, m, n)
+        }
+    }
+}

@@ -1,0 +1,95 @@
+//! Plans of larger cells at the ends of what there may be, each with a stand in
+//! it and as many doors as a plan may have.
+
+use super::floors::OCTAGON;
+use super::mesh::Spot;
+use crate::calls::{Plan, POLYGONS};
+use crate::paper::{Cell, CELLS, CORNERS, DOORS, WALL};
+
+/// A plan whose lists are as long as they can be: pairs of octagons side by side
+/// with a line between them, every pair in the same place.
+pub fn fullest() -> (Plan, Spot) {
+    let octagon = |by: i64| OCTAGON.map(|[x, y]| [10 * (x + by), 10 * y]);
+    let mut spots = [octagon(0), octagon(4)].concat();
+    spots.resize(*CORNERS.end(), [0, 0]);
+    let left: Vec<u16> = (0..8).collect();
+    // Its corners 4 and 5 are corners 1 and 0 of the left one.
+    let right: Vec<u16> = vec![8, 9, 10, 11, 1, 0, 14, 15];
+    let pairs = 0..*CELLS.end() as u16 / 2;
+    let cells = pairs.flat_map(|pair| {
+        let (here, there) = (2 * pair, 2 * pair + 1);
+        [cell(&left, &[(0, there)]), cell(&right, &[(4, here)])]
+    });
+    let doors = 0..*DOORS.end() as u16;
+    let plan = Plan {
+        corners: coordinates(&spots),
+        cells: cells.flatten().collect(),
+        doors: doors.map(|pair| 16 * pair).collect(),
+        kind: POLYGONS,
+    };
+    (plan, [1, 1])
+}
+
+/// Cells down one ray, every second of them with as many sides as it may have,
+/// which all come before the one that the ray leaves by.
+///
+/// The ray goes east between corners in the north and corners in the south, and
+/// the lines that it crosses go from one to the other in turn. Where a cell has
+/// one corner in the north, it reaches far down between its two in the south, to
+/// five corners that all such cells share: the cells lie on top of each other
+/// there.
+pub fn longest_fans() -> (Plan, Spot) {
+    let count = (CORNERS.end() - 7) / 2;
+    let middle = 1_000 * count as i64 / 2;
+    let far = (-2..=2).map(|i| [middle + 1_000_000 * i, 10_000 * i * i - 400_000_000]);
+    let mut spots = vec![[-2_000, 0]];
+    spots.extend(far);
+    let north = spots.len() as u16;
+    spots.extend((0..count as i64).map(|i| [1_000 * i, 1_000]));
+    let south = spots.len() as u16;
+    spots.extend((0..=count as i64).map(|i| [1_000 * i - 500, -1_000]));
+    // Cell 0 is the stand's; then come a large one and a triangle in turn.
+    let mut cells = cell(&[0, south, north], &[(1, 1)]);
+    let mut lines = vec![1];
+    for i in 0..count as u16 {
+        let (large, triangle) = (1 + 2 * i, 2 + 2 * i);
+        let (n, s) = (north + i, south + i);
+        let is_last = usize::from(i) + 1 == count;
+        let after = if is_last { WALL } else { triangle };
+        let corners = [s, 1, 2, 3, 4, 5, s + 1, n];
+        cells.extend(cell(&corners, &[(6, after), (7, large - 1)]));
+        if !is_last {
+            cells.extend(cell(&[s + 1, n + 1, n], &[(0, triangle + 1), (2, large)]));
+            // After the first three there are eleven faces a pair.
+            lines.extend([3 + 11 * i + 6, 3 + 11 * i + 8]);
+        }
+    }
+    let plan = Plan {
+        corners: coordinates(&spots),
+        cells,
+        doors: lines.split_off(lines.len() - DOORS.end()),
+        kind: POLYGONS,
+    };
+    (plan, [-1_000, 0])
+}
+
+/// The numbers of a cell between walls but for these sides and neighbours.
+fn cell(corners: &[u16], lines: &[(usize, u16)]) -> Vec<u16> {
+    let mut neighbours = vec![WALL; corners.len()];
+    for &(side, there) in lines {
+        neighbours[side] = there;
+    }
+    let cell = Cell {
+        corners: corners.into(),
+        neighbours: neighbours.into(),
+    };
+    cell.numbers(POLYGONS)
+}
+
+fn coordinates(spots: &[Spot]) -> Vec<i32> {
+    spots
+        .iter()
+        .flatten()
+        .map(|&number| number as i32)
+        .collect()
+}
