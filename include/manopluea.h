@@ -12,9 +12,9 @@
  *   `const`) overlaps nothing else that is passed to it, and nobody else writes to any of it until the call returns.
  *
  *   Stack. A call needs at most MANOPLUEA_STACK bytes. With less, the process may be ended by a signal at the guard
- *   page below its stack. Sight goes through no more than 2999 lines, one call within the other; on a floor as deep as
- *   that a listing was measured at 1600 KiB and printing, which takes the most, at 1700, on x86-64; on AArch64 both took
- *   less. The number stated is rounded up from that.
+ *   page below its stack. Sight goes through no more than 2999 lines, one call within the other. Of a floor as deep as
+ *   that, one of cells with the most sides and the fullest plan, no listing took more than 1600 KiB, and printing, which
+ *   takes the most, no more than 1700, on x86-64; on AArch64 both took less. The number stated is rounded up from that.
  *
  * There is nothing else to keep: no list, number or setting is wrong input, and every call returns. A call is
  * reentrant and keeps no state: several threads may make calls at once.

@@ -66,7 +66,7 @@ struct Sides {
 
 // Where handing on side e of an entered cell, and the `more` sides after it, begins: sides that end on or right of the right limit are left out, and where
 // the first that is not ends on or left of the left limit, none is handed on after it. `hand_on` would find the same, but it takes a frame of the stack for
-// each side; a cell that hands on one line, as most do, takes none so.
+// each side; a cell that hands on one line takes none so.
 fn narrow(seen: &[i32], lines: &[u16], e: usize, more: usize, r: u16, l: u16) -> Sides
     requires { ⌜ Lines (now seen) (now lines) ⌝ }
     requires { ⌜ (4 * e + 3 < length (now lines)) × (r < length (now seen) / 2) × (l < length (now seen) / 2) ⌝ }
