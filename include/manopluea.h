@@ -12,9 +12,10 @@
  *   `const`) overlaps nothing else that is passed to it, and nobody else writes to any of it until the call returns.
  *
  *   Stack. A call needs at most MANOPLUEA_STACK bytes. With less, the process may be ended by a signal at the guard
- *   page below its stack. Sight goes through no more than 2999 lines, one call within the other. Of a floor as deep as
- *   that, one of cells with the most sides and the fullest plan, no listing took more than 1600 KiB, and printing, which
- *   takes the most, no more than 1700, on x86-64; on AArch64 both took less. The number stated is rounded up from that.
+ *   page below its stack. Where lines are followed, calls go into one another no more often than the listing has rows.
+ *   On a floor where they do so 2037 times, on one with 2999 lines behind one another, on one of cells with the most
+ *   sides and on the fullest plan, no call took more than 960 KiB on x86-64 and 940 on AArch64. The number stated is
+ *   about twice that.
  *
  * There is nothing else to keep: no list, number or setting is wrong input, and every call returns. A call is
  * reentrant and keeps no state: several threads may make calls at once.

@@ -11,7 +11,7 @@ mod morning;
 mod stands;
 
 pub use dice::Dice;
-pub use extremes::{fullest, longest_fans};
+pub use extremes::{fullest, longest_fans, most_splits};
 pub use floors::{cathedral, corridor, deepest, fence, largest};
 pub use merge::{in_other_kind, Merged};
 pub use mesh::{Mesh, Spot};

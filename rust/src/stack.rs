@@ -1,6 +1,6 @@
 //! Every function of `include/manopluea.h` on the deepest floor known, in either
-//! kind, on the one with the longest fans and on the fullest plan, with a stack of
-//! so many bytes. A stack that is too small ends the process.
+//! kind, on those with the longest fans and the most splits and on the fullest
+//! plan, with a stack of so many bytes. A stack that is too small ends the process.
 
 use crate::calls::{Calls, DoorChange, Plan, Stand, POINT};
 use crate::generate::{self, in_other_kind, query_record, Spot};
@@ -18,6 +18,8 @@ pub fn ask_every_function(bytes: usize) -> Result<(), String> {
     ask_on("the same in the other kind", &other, spot, bytes)?;
     let (fans, spot) = generate::longest_fans();
     ask_on("the longest fans", &fans, spot, bytes)?;
+    let (splits, spot) = generate::most_splits();
+    ask_on("the most splits", &splits, spot, bytes)?;
     let (fullest, spot) = generate::fullest();
     ask_on("the fullest plan", &fullest, spot, bytes)
 }

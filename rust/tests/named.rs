@@ -5,7 +5,9 @@ use manopluea_compare::calls::{
     Calls, DoorChange, Lists, Plan, Reply, Stand, POINT, POLYGONS, TRIANGLES,
 };
 use manopluea_compare::examples::{all, plan_q, plan_q_as_one_cell, Example};
-use manopluea_compare::generate::{fullest, in_other_kind, longest_fans, query_record};
+use manopluea_compare::generate::{
+    fullest, in_other_kind, longest_fans, most_splits, query_record,
+};
 use manopluea_compare::paper::{cut_cells, encode, Paper, WALL};
 use manopluea_compare::proved::Proved;
 
@@ -1638,6 +1640,23 @@ fn the_longest_fans() {
     let stand = Stand::Point(x as f64, y as f64);
     let (reply, _) = list(&plan, 0, stand, 3 * 2_047);
     assert_eq!((reply.number, reply.values[1]), (0, 2_039));
+    for door in [0, 1, 62, 63] {
+        toggle(&plan, 0, stand, door);
+    }
+}
+
+/// Each cell is entered through the first of two lines that the one before it
+/// hands on.
+#[test]
+fn the_most_splits() {
+    let (plan, [x, y]) = most_splits();
+    assert_eq!(check(&plan), Reply::done([2_048, 2_400, 64]));
+    let stand = Stand::Point(x as f64, y as f64);
+    let (reply, _) = list(&plan, 0, stand, 3 * 2_048);
+    assert_eq!(
+        (reply.number, reply.values[..2].to_vec()),
+        (0, vec![2_040, 2_037])
+    );
     for door in [0, 1, 62, 63] {
         toggle(&plan, 0, stand, door);
     }

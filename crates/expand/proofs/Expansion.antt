@@ -18,6 +18,7 @@ use Rattle.fan.specs.Sight.Sight.{row, pass, both, cut}
 use Rattle.fan.specs.Sight.Whole.{whole-row, whole-pass, whole-both}
 use Rattle.expand.specs.Floor.{seen-at, placed}
 use Rattle.expand.specs.Narrows.{Narrows}
+use Rattle.expand.specs.Remains.{Remains}
 use Rattle.fan.proofs.Trees.{follow-too-far, follow-across, fan-last, fan-both, fan-skips, fan-ends, three-numbers-a-row}
 
 -- ---- what a line is followed to
@@ -75,18 +76,16 @@ pub is-left-of-l : (zs : List ℤ) (v r l : ℕ) → leZ (cross (seen-at zs r) (
 unfolding placed
 is-left-of-l zs v r l h k = rw (h, k, placed)
 
+pub is-between : (zs : List ℤ) (v r l : ℕ) → leZ (cross (seen-at zs r) (seen-at zs v)) 𝟘 ≡ false → leZ (cross (seen-at zs v) (seen-at zs l)) 𝟘 ≡ false → between ≡ placed zs v r l
+unfolding placed
+is-between zs v r l h k = rw (h, k, placed)
+
 module _ (F : Floor) (n e r l : ℕ) where
   abbrev handed : ℕ → Sight
   handed m = fan F (follow F n) m e r l
 
   pub hands-the-last : {m : ℕ} → m ≡ 0 → handed m ≡ follow F n e r l
   hands-the-last h = rw h (fan-last F (follow F n) e r l)
-
-  pub hands-skipping : (m : ℕ) → (m ≡ 0 → ⊥) → F .place (F .left-end e) r l ≡ right-of-r → handed m ≡ fan F (follow F n) (m - 1) (F .next e) r l
-  hands-skipping m h p = skipping F (follow F n) e r l m h p
-
-  pub hands-ending : (m : ℕ) → (m ≡ 0 → ⊥) → F .place (F .left-end e) r l ≡ left-of-l → handed m ≡ follow F n e r l
-  hands-ending m h p = ending F (follow F n) e r l m h p
 
   pub hands-both : (m : ℕ) → (m ≡ 0 → ⊥) → F .place (F .left-end e) r l ≡ between → handed m ≡ both (follow F n e r (F .left-end e)) (fan F (follow F n) (m - 1) (F .next e) (F .left-end e) l)
   hands-both zero h p = absurd (h refl)
@@ -108,25 +107,11 @@ module _ (at n : ℕ) {s : Sight} where
   unfolding row-count
   room-for-a-row e h = subst (Room at n) e h .1 .0
 
-  -- beyond a line there is room too, and for one crossing more
-  pub room-beyond : {f r l : ℕ} {t : Sight} → s ≡ pass f r l t → Room at n s → Room at n t × (crossings t + 1 < 2 ^ 63)
+  pub room-for-the-first : {t u : Sight} → s ≡ both t u → Room at n s → Room at n t
   unfolding row-count crossings
-  room-beyond {t = t} e h =
-      let j = subst (Room at n) e h in
-      let k : crossings t + 1 < 2 ^ 63 = j .1 .1 in
-      ((whole-beyond (j .0), (j .1 .0, omega arith)), k)
-
-  -- two lines have room one behind the other
-  module _ {t u : Sight} (e : s ≡ both t u) (h : Room at n s) where
-    together : (Whole t × Whole u) × ((at + 3 * (row-count t + row-count u) ≤ n) × (crossings t + crossings u < 2 ^ 63))
-    unfolding row-count crossings
-    together = let j = subst (Room at n) e h in (whole-halves (j .0), j .1)
-
-    pub room-for-the-first : Room at n t
-    room-for-the-first = let j = together in (j .0 .0, (omega (arith, j .1 .0), omega (arith, j .1 .1)))
-
-    pub room-for-the-second : {k o : ℕ} → k ≡ row-count t → o ≡ n → Room (at + 3 * k) o u
-    room-for-the-second d f = let j = together in (j .0 .1, (omega (arith, j .1 .0), omega (arith, j .1 .1)))
+  room-for-the-first {t} {u} e h =
+      let j : Whole (both t u) × ((at + 3 * (row-count t + row-count u) ≤ n) × (crossings t + crossings u < 2 ^ 63)) = subst (Room at n) e h in
+      (whole-halves (j .0) .0, (omega (arith, j .1 .0), omega (arith, j .1 .1)))
 
 -- ---- what is written
 
@@ -134,26 +119,68 @@ module _ (at n : ℕ) {s : Sight} where
 abbrev pub Written : List ℕ → List ℕ → ℕ → ℕ → ℕ → Sight → Type 0
 Written old new at k m t = (k ≡ row-count t) × ((m ≡ crossings t) × (new ≡ sets old at (numbers t)))
 
-module _ (old new : List ℕ) (at k m : ℕ) {s : Sight} where
-  pub same-written : {t : Sight} → s ≡ t → Written old new at k m t → Written old new at k m s
-  same-written e w = subst (Written old new at k m) (sym e) w
-
-  pub beyond-written : {f r l : ℕ} {t : Sight} → s ≡ pass f r l t → Written old new at k m t → Written old new at k (m + 1) s
-  unfolding numbers row-count crossings
-  beyond-written e w = subst (Written old new at k (m + 1)) (sym e) (w .0, (ap (λ (j : ℕ). j + 1) (w .1 .0), w .1 .1))
-
-  pub both-written :
-      (mid : List ℕ) {t u : Sight} {i j : ℕ} → s ≡ both t u → Written old mid at i j t → Written mid new (at + 3 * i) k m u → Written old new at (i + k) (j + m) s
-  unfolding numbers row-count crossings
-  both-written mid {t} {u} {i} {j} e w x =
-      let d : at + 3 * i ≡ at + length (numbers t) = ap (λ (i : ℕ). at + i) (ap (λ (i : ℕ). 3 * i) (w .0) ∙ sym (three-numbers-a-row t)) in
-      subst
-      (Written old new at (i + k) (j + m))
-      (sym e)
-      (ap₂ _+_ (w .0) (x .0), (ap₂ _+_ (w .1 .0) (x .1 .0), x .1 .1 ∙ ap₂ (λ (o : List ℕ) (i : ℕ). sets o i (numbers u)) (w .1 .1) d ∙ sets-append old at (numbers t) (numbers u)))
-
 pub row-written : (old : List ℕ) (at : ℕ) {f r l : ℕ} {s : Sight} → s ≡ row f r l → Written old (set (set (set old at f) (at + 1) r) (at + 2) l) at 1 0 s
 unfolding numbers row-count crossings
 row-written old at {f} {r} {l} e =
     let d : at + 2 ≡ suc (suc at) = omega arith in
     subst (Written old (set (set (set old at f) (at + 1) r) (at + 2) l) at 1 0) (sym e) (refl, (refl, rw (add-one, d)))
+
+-- ---- what remains to be followed
+
+pub all-remains : (old : List ℕ) (at : ℕ) (t : Sight) (p : ℕ) → p ≡ at → Whole t → Remains old at t old p 0 0 t
+all-remains old at t p d w =
+    record { whole = w; same-length = refl; from = omega (arith, d); rows = omega arith; passages = omega arith; same = ap (λ (i : ℕ). sets old i (numbers t)) d }
+
+module _ (old : List ℕ) (at : ℕ) (t : Sight) (new : List ℕ) (p k m : ℕ) {u : Sight} (h : Remains old at t new p k m u) where
+  -- a line is passed
+  pub beyond-remains : {f r l : ℕ} {s : Sight} → u ≡ pass f r l s → Remains old at t new p k (m + 1) s
+  unfolding numbers row-count crossings
+  beyond-remains {s = s} e =
+      let j = subst (Remains old at t new p k m) e h in
+      record {
+        whole = whole-beyond (j .whole);
+        same-length = j .same-length;
+        from = j .from;
+        rows = j .rows;
+        passages = let q : crossings t ≡ m + (crossings s + 1) = j .passages in omega (arith, q);
+        same = j .same;
+      }
+
+  -- of what remains, some is followed
+  pub less-remains : {newer : List ℕ} {o i j q x y : ℕ} {s : Sight} → Remains new p u newer o i j s → x ≡ k + i → y ≡ m + j → q ≡ at + 3 * x → Remains old at t newer q x y s
+  less-remains {newer} {o} {q = q} {s = s} g c d f =
+      let from-there : q ≡ o = omega (arith, c, f, g .from, h .from) in
+      record {
+        whole = g .whole;
+        same-length = g .same-length ∙ h .same-length;
+        from = f;
+        rows = omega (arith, c, g .rows, h .rows);
+        passages = omega (arith, d, g .passages, h .passages);
+        same = ap (λ (i : ℕ). sets newer i (numbers s)) from-there ∙ g .same ∙ h .same;
+      }
+
+  -- the first of two lines is followed to its rows
+  pub second-remains :
+      {a b : Sight} {newer : List ℕ} {i j q x y : ℕ} → u ≡ both a b → Written new newer p i j a → length newer ≡ length new → x ≡ k + i → y ≡ m + j → q ≡ at + 3 * x → Remains old at t newer q x y b
+  unfolding numbers row-count crossings
+  second-remains {a} {b} {newer} {i} {j} {q} e w n c d f =
+      let g = subst (Remains old at t new p k m) e h in
+      let behind : q ≡ p + length (numbers a) = omega (arith, c, f, g .from, w .0, three-numbers-a-row a) in
+      record {
+        whole = whole-halves (g .whole) .1;
+        same-length = n ∙ g .same-length;
+        from = f;
+        rows = let v : row-count t ≡ k + (row-count a + row-count b) = g .rows in omega (arith, c, v, w .0);
+        passages = let v : crossings t ≡ m + (crossings a + crossings b) = g .passages in omega (arith, d, v, w .1 .0);
+        same = ap₂ (λ (o : List ℕ) (i : ℕ). sets o i (numbers b)) (w .1 .1) behind ∙ sets-append new p (numbers a) (numbers b) ∙ g .same;
+      }
+
+  -- what remains is followed to its rows
+  pub none-remains : {newer : List ℕ} {i j x y : ℕ} → Written new newer p i j u → x ≡ k + i → y ≡ m + j → Written old newer at x y t
+  none-remains w d e = (omega (arith, d, h .rows, w .0), (omega (arith, e, h .passages, w .1 .0), w .1 .1 ∙ h .same))
+
+  -- what remains has room
+  pub room-remains : Room at (length old) t → Room p (length new) u × (m + crossings u < 2 ^ 63)
+  room-remains r =
+      let few : m + crossings u < 2 ^ 63 = omega (arith, r .1 .1, h .passages) in
+      ((h .whole, (omega (arith, r .1 .0, h .from, h .rows, h .same-length), omega arith)), few)

@@ -73,6 +73,41 @@ pub fn longest_fans() -> (Plan, Spot) {
     (plan, [-1_000, 0])
 }
 
+/// Cells one behind the other, each seen through the one before: it hands on two
+/// lines, of which the first leads into the next cell and the last is a wall.
+///
+/// All but the stand's have their right corner in common; their left corners lie
+/// one behind the other, and each is seen a little further right. Octagons that
+/// nothing leads to bring the faces above what triangles can have.
+pub fn most_splits() -> (Plan, Spot) {
+    let mut spots = OCTAGON.to_vec();
+    let count = CORNERS.end() - spots.len() - 3;
+    let wide = 1_000 * (count as i64 + 1);
+    let [right, south, left] = [0, 1, 2].map(|i| (spots.len() + i) as u16);
+    spots.extend([[0, 0], [-wide / 2, -2 * wide]]);
+    spots.extend((0..=count as i64).map(|i| [1_000 * i - wide, i]));
+    let mut cells = cell(&[south, right, left], &[(1, 1)]);
+    for i in 0..count as u16 {
+        let (here, after) = (1 + i, 2 + i);
+        let is_last = usize::from(here) == count;
+        let lines = [(2, here - 1), (0, if is_last { WALL } else { after })];
+        cells.extend(cell(&[right, left + i + 1, left + i], &lines));
+    }
+    let triangles = 1 + count;
+    let octagon = cell(&[0, 1, 2, 3, 4, 5, 6, 7], &[]);
+    let octagons = (3 * (CELLS.end() - triangles)).div_ceil(8) + 1;
+    cells.extend(octagon.repeat(octagons));
+    // The last lines that lead into a cell.
+    let lines = triangles - 1 - DOORS.end()..triangles - 1;
+    let plan = Plan {
+        corners: coordinates(&spots),
+        cells,
+        doors: lines.map(|cell| 3 * cell as u16).collect(),
+        kind: POLYGONS,
+    };
+    (plan, [-wide / 2, -wide])
+}
+
 /// The numbers of a cell between walls but for these sides and neighbours.
 fn cell(corners: &[u16], lines: &[(usize, u16)]) -> Vec<u16> {
     let mut neighbours = vec![WALL; corners.len()];

@@ -1,9 +1,8 @@
--- The proof of the cycle of calls {cross, hand_on}. A line that is crossed leaves one cell fewer to enter; a cell of at most eight sides hands on one
--- after another: so the measure is nine times that number for `cross`, and for `hand_on` one more, and as many more as sides follow.
-use mathlib.Core.Path.{_≡_, sym, subst, ap, _∙_}
+-- The proof of the cycle of calls {cross, hand_on}. A line that is crossed leaves one cell fewer to enter, and handing on enters no cell by itself: so the
+-- measure is twice that number for `cross`, and one more for `hand_on`.
+use mathlib.Core.Path.{_≡_, refl, subst}
 use Prim.Native.Nat.{ℕ, _+_, _*_, _-_, _/_, _^_, _<_, _≤_}
 use native.Mathlib.Omega.{arith}
-use borrow.Author.Needs.{needs}
 use borrow.Author.Tests.{eq-eqb, ne-eqb}
 use borrow.Fn.Kinds.{In}
 use borrow.Fn.PlainCycle.{Measures, is, falls, and}
@@ -12,25 +11,24 @@ use lib.ListN.{length, getD, length-set}
 use Rattle.fan.specs.Sight.{Sight, Floor, fan, follow, crossings}
 use Rattle.fan.specs.Sight.Sight.{row, both}
 use Rattle.fan.proofs.Trees.{follow-a-wall}
-use Rattle.expand.specs.Floor.{floor-of, placed}
-use Rattle.expand.specs.Apex.{apex-place}
-use Rattle.expand.proofs.Expansion.{Room, Passed, passed, room-for-a-row, room-beyond, room-for-the-first, room-for-the-second, same-written, row-written, beyond-written, both-written, hands-the-last, hands-skipping, hands-ending, hands-both}
+use Rattle.expand.specs.Floor.{floor-of}
+use Rattle.expand.specs.Remains.{Remains}
+use Rattle.expand.proofs.Expansion.{Room, Passed, passed, all-remains, beyond-remains, less-remains, second-remains, none-remains, room-remains, room-for-a-row, room-for-the-first, row-written, hands-the-last, hands-both}
 use Rattle.expand.proofs.cross.Reads as cross
 use Rattle.expand.proofs.cross.Kinds as cross-kinds
 use Rattle.expand.proofs.+cross+hand_on.Lts-cross as cross-lts
 use Rattle.expand.proofs.hand_on.Reads as hand
 use Rattle.expand.proofs.hand_on.Kinds as hand-kinds
 use Rattle.expand.proofs.+cross+hand_on.Lts-hand_on as hand-lts
-use Rattle.expand.proofs.place.Reads as place-reads
 use Rattle.expand.proofs.narrow.Reads as narrow-reads
 use Rattle.expand.proofs.+cross+hand_on.{statement}
 use Rattle.expand.proofs.+cross+hand_on.Tie.{close}
 
 abbrev μ-cross : Measures 3 cross-kinds.ps ℕ
-μ-cross κs a = 9 * a .1 .1 .1 .1 .1 .1 .1 .0
+μ-cross κs a = 2 * a .1 .1 .1 .1 .1 .1 .1 .0
 
 abbrev μ-hand : Measures 3 hand-kinds.ps ℕ
-μ-hand κs a = 9 * a .1 .1 .1 .1 .1 .1 .1 .1 .0 + a .1 .1 .1 .1 .0 + 1
+μ-hand κs a = 2 * a .1 .1 .1 .1 .1 .1 .1 .1 .0 + 1
 
 -- what each is given at the measure t, and what a call of it asks below t
 abbrev cross-at : ℕ → In 3 cross-kinds.ps
@@ -46,403 +44,342 @@ abbrev hand-below : ℕ → In 3 hand-kinds.ps
 hand-below t = and 3 hand-kinds.ps (falls 3 hand-kinds.ps _<_ μ-hand t) hand.Pre
 
 abbrev cross-calls : ℕ → cross-lts.Claims
-cross-calls t = (narrow-reads.Asked, narrow-reads.Learnt, cross-below t, cross.Post, hand-below t, hand.Post)
+cross-calls t = (hand-below t, hand.Post)
 
 abbrev hand-calls : ℕ → hand-lts.Claims
-hand-calls t = (cross-below t, cross.Post, place-reads.Asked, place-reads.Learnt, hand-below t, hand.Post)
+hand-calls t = (narrow-reads.Asked, narrow-reads.Learnt, cross-below t, cross.Post)
 
 -- ---- crossing a line
 
-abbrev ground : (t : ℕ) → cross-lts.Start (cross-calls t) (cross-at t) cross.Post → Floor
+-- one line remains, with so many cells not yet entered
+abbrev cross-Inv-loop : cross-lts.InvT-loop
+cross-Inv-loop seen lines table₀ f r l at unentered face₀ right₀ cells₀ rows₀ crossings₀ table face right cells rows crossings =
+    let F = floor-of seen lines in
+    Remains table₀ at (follow F unentered f r l) table (at + 3 * rows) rows crossings (follow F cells face right l)
+    × ((cells ≤ unentered) × ((4 * face + 3 < length lines) × (right < length seen / 2)))
+
+abbrev cross-μ-loop : cross-lts.MeasureT-loop
+cross-μ-loop seen lines table₀ f r l at unentered face₀ right₀ cells₀ rows₀ crossings₀ table face right cells rows crossings = cells
+
+abbrev ground : (t : ℕ) → cross-lts.Start (cross-calls t) (cross-at t) cross.Post cross-Inv-loop cross-μ-loop → Floor
 ground t s = floor-of (now (s .args .seen)) (now (s .args .lines))
 
 -- what the line is followed to
-abbrev line : (t : ℕ) → cross-lts.Start (cross-calls t) (cross-at t) cross.Post → Sight
+abbrev line : (t : ℕ) → cross-lts.Start (cross-calls t) (cross-at t) cross.Post cross-Inv-loop cross-μ-loop → Sight
 line t s = follow (ground t s) (s .args .unentered) (s .args .f) (s .args .r) (s .args .l)
 
-is-row : (t : ℕ) (c : cross-lts.Then1 (cross-calls t) (cross-at t) cross.Post) →
-    let s = c .before .before .before .before in
-    line t s ≡ row (s .args .f) (s .args .r) (s .args .l)
-is-row t c = let s = c .before .before .before .before in follow-a-wall _ (s .args .unentered) _ _ _ (eq-eqb _ _ (c .if1 .taken))
+cross-loop-holds : (t : ℕ) → cross-lts.Need-loop-holds (cross-calls t) (cross-at t) cross.Post cross-Inv-loop cross-μ-loop
+cross-loop-holds t c = let s = c .before .before in (all-remains _ _ _ _ (omega arith) (s .pre .1 .1 .1 .0), (omega arith, (s .pre .1 .1 .0 .0, s .pre .1 .1 .0 .1)))
 
-row-fits : (t : ℕ) (c : cross-lts.Then1 (cross-calls t) (cross-at t) cross.Post) →
-    let s = c .before .before .before .before in
-    s .args .at + 3 ≤ length (now (s .args .table))
-row-fits t c = room-for-a-row _ _ (is-row t c) (c .before .before .before .before .pre .1 .1 .1)
+-- what remains has room
+room : (t : ℕ) (c : cross-lts.At-loop (cross-calls t) (cross-at t) cross.Post cross-Inv-loop cross-μ-loop) →
+    let s = c .before .before .before in
+    let i = c .loop in
+    let u = follow (ground t s) (i .cells) (i .face) (i .right) (s .args .l) in
+    Room (s .args .at + 3 * i .rows) (length (i .table)) u × (i .crossings + crossings u < 2 ^ 63)
+room t c = room-remains _ _ _ _ _ _ _ (c .loop .inv .0) (c .before .before .before .pre .1 .1 .1)
 
-is-passed : (t : ℕ) (c : cross-lts.Else1 (cross-calls t) (cross-at t) cross.Post) →
-    let s = c .before .before .before .before in
-    Passed (ground t s) (s .args .unentered) (s .args .f) (s .args .r) (s .args .l)
-is-passed t c = let s = c .before .before .before .before in passed _ (s .args .unentered) _ _ _ (ne-eqb _ _ (c .if1 .left)) (s .pre .1 .1 .1 .0)
+cross-mul-end : (t : ℕ) → cross-lts.Need-mul-end (cross-calls t) (cross-at t) cross.Post cross-Inv-loop cross-μ-loop
+cross-mul-end t c = omega (arith, room t c .0 .1 .0)
 
--- the face on the other side
-abbrev across : (t : ℕ) → cross-lts.Start (cross-calls t) (cross-at t) cross.Post → ℕ
-across t s = getD (now (s .args .lines)) (4 * s .args .f + 1) 0
+cross-add-end : (t : ℕ) → cross-lts.Need-add-end (cross-calls t) (cross-at t) cross.Post cross-Inv-loop cross-μ-loop
+cross-add-end t c = omega (arith, room t c .0 .1 .0)
 
-back-exists : (t : ℕ) (c : cross-lts.Else1 (cross-calls t) (cross-at t) cross.Post) → let s = c .before .before .before .before in 4 * across t s + 3 < length (now (s .args .lines))
-back-exists t c = let s = c .before .before .before .before in s .pre .1 .0 .across-exists _ (s .pre .1 .1 .0 .0) (c .if1 .left)
+cross-mul-across : (t : ℕ) → cross-lts.Need-mul-across (cross-calls t) (cross-at t) cross.Post cross-Inv-loop cross-μ-loop
+cross-mul-across t c = omega (arith, c .loop .inv .1 .1 .0, c .before .before .before .pre .1 .0 .few-faces)
 
-beyond : (t : ℕ) (c : cross-lts.Else1 (cross-calls t) (cross-at t) cross.Post) →
-    let s = c .before .before .before .before in
-    let F = ground t s in
-    let u : Sight = fan F (follow F (s .args .unentered - 1)) (F .more (across t s)) (F .next (across t s)) (s .args .r) (s .args .l) in
-    Room (s .args .at) (length (now (s .args .table))) u × (crossings u + 1 < 2 ^ 63)
-beyond t c = room-beyond _ _ (is-passed t c .is) (c .before .before .before .before .pre .1 .1 .1)
+cross-add-across : (t : ℕ) → cross-lts.Need-add-across (cross-calls t) (cross-at t) cross.Post cross-Inv-loop cross-μ-loop
+cross-add-across t c = omega (arith, c .loop .inv .1 .1 .0, c .before .before .before .pre .1 .0 .few-faces)
 
-cross-mul-across : (t : ℕ) → cross-lts.Need-mul-across (cross-calls t) (cross-at t) cross.Post
-cross-mul-across t c = search needs
+cross-mul-across-2 : (t : ℕ) → cross-lts.Need-mul-across-2 (cross-calls t) (cross-at t) cross.Post cross-Inv-loop cross-μ-loop
+cross-mul-across-2 t c = omega (arith, c .loop .inv .1 .1 .0, c .before .before .before .pre .1 .0 .few-faces)
 
-cross-add-across : (t : ℕ) → cross-lts.Need-add-across (cross-calls t) (cross-at t) cross.Post
-cross-add-across t c = search needs
+cross-shared-slice-read-across : (t : ℕ) → cross-lts.Need-shared-slice-read-across (cross-calls t) (cross-at t) cross.Post cross-Inv-loop cross-μ-loop
+cross-shared-slice-read-across t c = omega (arith, c .before .loop .inv .1 .1 .0)
 
-cross-mul-across-2 : (t : ℕ) → cross-lts.Need-mul-across-2 (cross-calls t) (cross-at t) cross.Post
-cross-mul-across-2 t c = search needs
+is-row : (t : ℕ) (c : cross-lts.Then1 (cross-calls t) (cross-at t) cross.Post cross-Inv-loop cross-μ-loop) →
+    let s = c .before .before .before .before .before in
+    let i = c .before .before .loop in
+    follow (ground t s) (i .cells) (i .face) (i .right) (s .args .l) ≡ row (i .face) (i .right) (s .args .l)
+is-row t c = follow-a-wall _ (c .before .before .loop .cells) _ _ _ (eq-eqb _ _ (c .if1 .taken))
 
-cross-shared-slice-read-across : (t : ℕ) → cross-lts.Need-shared-slice-read-across (cross-calls t) (cross-at t) cross.Post
-cross-shared-slice-read-across t c = search needs
+row-fits : (t : ℕ) (c : cross-lts.Then1 (cross-calls t) (cross-at t) cross.Post cross-Inv-loop cross-μ-loop) → c .before .before .before .before .before .args .at + 3 * c .before .before .loop .rows + 3 ≤ length (c .before .before .loop .table)
+row-fits t c = room-for-a-row _ _ (is-row t c) (room t (c .before .before) .0)
 
-cross-cast-table : (t : ℕ) → cross-lts.Need-cast-table (cross-calls t) (cross-at t) cross.Post
-cross-cast-table t c = omega (arith, c .before .before .before .before .pre .1 .0 .few-faces)
+cross-cast-table : (t : ℕ) → cross-lts.Need-cast-table (cross-calls t) (cross-at t) cross.Post cross-Inv-loop cross-μ-loop
+cross-cast-table t c = omega (arith, c .before .before .loop .inv .1 .1 .0, c .before .before .before .before .before .pre .1 .0 .few-faces)
 
-cross-mul-table : (t : ℕ) → cross-lts.Need-mul-table (cross-calls t) (cross-at t) cross.Post
+cross-mul-table : (t : ℕ) → cross-lts.Need-mul-table (cross-calls t) (cross-at t) cross.Post cross-Inv-loop cross-μ-loop
 cross-mul-table t c = omega (arith, row-fits t c)
 
-cross-slice-write-table : (t : ℕ) → cross-lts.Need-slice-write-table (cross-calls t) (cross-at t) cross.Post
+cross-slice-write-table : (t : ℕ) → cross-lts.Need-slice-write-table (cross-calls t) (cross-at t) cross.Post cross-Inv-loop cross-μ-loop
 cross-slice-write-table t c = omega (arith, row-fits t c)
 
-cross-add-table : (t : ℕ) → cross-lts.Need-add-table (cross-calls t) (cross-at t) cross.Post
+cross-add-table : (t : ℕ) → cross-lts.Need-add-table (cross-calls t) (cross-at t) cross.Post cross-Inv-loop cross-μ-loop
 cross-add-table t c = omega (arith, row-fits t c)
 
-cross-mul-table-2 : (t : ℕ) → cross-lts.Need-mul-table-2 (cross-calls t) (cross-at t) cross.Post
+cross-mul-table-2 : (t : ℕ) → cross-lts.Need-mul-table-2 (cross-calls t) (cross-at t) cross.Post cross-Inv-loop cross-μ-loop
 cross-mul-table-2 t c = omega (arith, row-fits t c)
 
-cross-slice-write-table-2 : (t : ℕ) → cross-lts.Need-slice-write-table-2 (cross-calls t) (cross-at t) cross.Post
+cross-slice-write-table-2 : (t : ℕ) → cross-lts.Need-slice-write-table-2 (cross-calls t) (cross-at t) cross.Post cross-Inv-loop cross-μ-loop
 cross-slice-write-table-2 t c = simp length-set (omega (arith, row-fits t c))
 
-cross-add-table-2 : (t : ℕ) → cross-lts.Need-add-table-2 (cross-calls t) (cross-at t) cross.Post
+cross-add-table-2 : (t : ℕ) → cross-lts.Need-add-table-2 (cross-calls t) (cross-at t) cross.Post cross-Inv-loop cross-μ-loop
 cross-add-table-2 t c = omega (arith, row-fits t c)
 
-cross-mul-table-3 : (t : ℕ) → cross-lts.Need-mul-table-3 (cross-calls t) (cross-at t) cross.Post
+cross-mul-table-3 : (t : ℕ) → cross-lts.Need-mul-table-3 (cross-calls t) (cross-at t) cross.Post cross-Inv-loop cross-μ-loop
 cross-mul-table-3 t c = omega (arith, row-fits t c)
 
-cross-slice-write-table-3 : (t : ℕ) → cross-lts.Need-slice-write-table-3 (cross-calls t) (cross-at t) cross.Post
+cross-slice-write-table-3 : (t : ℕ) → cross-lts.Need-slice-write-table-3 (cross-calls t) (cross-at t) cross.Post cross-Inv-loop cross-μ-loop
 cross-slice-write-table-3 t c = simp length-set (omega (arith, row-fits t c))
 
-cross-same-length : (t : ℕ) → cross-lts.Need-same-length (cross-calls t) (cross-at t) cross.Post
-cross-same-length t c = simp length-set
+cross-add-t27 : (t : ℕ) → cross-lts.Need-add-t27 (cross-calls t) (cross-at t) cross.Post cross-Inv-loop cross-μ-loop
+cross-add-t27 t c = omega (arith, row-fits t c)
 
-cross-returns : (t : ℕ) → cross-lts.Need-returns (cross-calls t) (cross-at t) cross.Post
-cross-returns t c = row-written _ _ (is-row t c)
+cross-same-length : (t : ℕ) → cross-lts.Need-same-length (cross-calls t) (cross-at t) cross.Post cross-Inv-loop cross-μ-loop
+cross-same-length t c = simp length-set (c .before .before .loop .inv .0 .same-length)
 
-cross-cast-g : (t : ℕ) → cross-lts.Need-cast-g (cross-calls t) (cross-at t) cross.Post
+cross-returns : (t : ℕ) → cross-lts.Need-returns (cross-calls t) (cross-at t) cross.Post cross-Inv-loop cross-μ-loop
+cross-returns t c = none-remains _ _ _ _ _ _ _ (c .before .before .loop .inv .0) (row-written _ _ (is-row t c)) refl (omega arith)
+
+is-passed : (t : ℕ) (c : cross-lts.Else1 (cross-calls t) (cross-at t) cross.Post cross-Inv-loop cross-μ-loop) →
+    let s = c .before .before .before .before .before in
+    let i = c .before .before .loop in
+    Passed (ground t s) (i .cells) (i .face) (i .right) (s .args .l)
+is-passed t c = let i = c .before .before .loop in passed _ (i .cells) _ _ _ (ne-eqb _ _ (c .if1 .left)) (i .inv .0 .whole)
+
+-- the face on the other side
+abbrev across : (t : ℕ) → cross-lts.Else1 (cross-calls t) (cross-at t) cross.Post cross-Inv-loop cross-μ-loop → ℕ
+across t c = getD (now (c .before .before .before .before .before .args .lines)) (4 * c .before .before .loop .face + 1) 0
+
+back-exists : (t : ℕ) (c : cross-lts.Else1 (cross-calls t) (cross-at t) cross.Post cross-Inv-loop cross-μ-loop) → 4 * across t c + 3 < length (now (c .before .before .before .before .before .args .lines))
+back-exists t c = c .before .before .before .before .before .pre .1 .0 .across-exists _ (c .before .before .loop .inv .1 .1 .0) (c .if1 .left)
+
+cross-sub-cells : (t : ℕ) → cross-lts.Need-sub-cells (cross-calls t) (cross-at t) cross.Post cross-Inv-loop cross-μ-loop
+cross-sub-cells t c = is-passed t c .one-unentered
+
+cross-add-crossings : (t : ℕ) → cross-lts.Need-add-crossings (cross-calls t) (cross-at t) cross.Post cross-Inv-loop cross-μ-loop
+cross-add-crossings t c = omega (arith, room t (c .before .before) .1)
+
+cross-cast-g : (t : ℕ) → cross-lts.Need-cast-g (cross-calls t) (cross-at t) cross.Post cross-Inv-loop cross-μ-loop
 cross-cast-g t c = omega (arith, back-exists t c)
 
-cross-mul-g : (t : ℕ) → cross-lts.Need-mul-g (cross-calls t) (cross-at t) cross.Post
+cross-mul-g : (t : ℕ) → cross-lts.Need-mul-g (cross-calls t) (cross-at t) cross.Post cross-Inv-loop cross-μ-loop
 cross-mul-g t c = omega (arith, back-exists t c)
 
-cross-add-more : (t : ℕ) → cross-lts.Need-add-more (cross-calls t) (cross-at t) cross.Post
+cross-add-more : (t : ℕ) → cross-lts.Need-add-more (cross-calls t) (cross-at t) cross.Post cross-Inv-loop cross-μ-loop
 cross-add-more t c = omega (arith, back-exists t c)
 
-cross-mul-more : (t : ℕ) → cross-lts.Need-mul-more (cross-calls t) (cross-at t) cross.Post
+cross-mul-more : (t : ℕ) → cross-lts.Need-mul-more (cross-calls t) (cross-at t) cross.Post cross-Inv-loop cross-μ-loop
 cross-mul-more t c = omega (arith, back-exists t c)
 
-cross-shared-slice-read-more : (t : ℕ) → cross-lts.Need-shared-slice-read-more (cross-calls t) (cross-at t) cross.Post
+cross-shared-slice-read-more : (t : ℕ) → cross-lts.Need-shared-slice-read-more (cross-calls t) (cross-at t) cross.Post cross-Inv-loop cross-μ-loop
 cross-shared-slice-read-more t c = omega (arith, back-exists t (c .before))
 
-cross-cast-more : (t : ℕ) → cross-lts.Need-cast-more (cross-calls t) (cross-at t) cross.Post
-cross-cast-more t c = let s = c .before .before .before .before .before in omega (arith, s .pre .1 .0 .few-more (across t s) (back-exists t (c .before)))
+cross-cast-more : (t : ℕ) → cross-lts.Need-cast-more (cross-calls t) (cross-at t) cross.Post cross-Inv-loop cross-μ-loop
+cross-cast-more t c = omega (arith, c .before .before .before .before .before .before .pre .1 .0 .few-more (across t (c .before)) (back-exists t (c .before)))
 
-cross-add-e : (t : ℕ) → cross-lts.Need-add-e (cross-calls t) (cross-at t) cross.Post
+cross-add-e : (t : ℕ) → cross-lts.Need-add-e (cross-calls t) (cross-at t) cross.Post cross-Inv-loop cross-μ-loop
 cross-add-e t c = omega (arith, back-exists t (c .before))
 
-cross-mul-e : (t : ℕ) → cross-lts.Need-mul-e (cross-calls t) (cross-at t) cross.Post
+cross-mul-e : (t : ℕ) → cross-lts.Need-mul-e (cross-calls t) (cross-at t) cross.Post cross-Inv-loop cross-μ-loop
 cross-mul-e t c = omega (arith, back-exists t (c .before))
 
-cross-shared-slice-read-e : (t : ℕ) → cross-lts.Need-shared-slice-read-e (cross-calls t) (cross-at t) cross.Post
+cross-shared-slice-read-e : (t : ℕ) → cross-lts.Need-shared-slice-read-e (cross-calls t) (cross-at t) cross.Post cross-Inv-loop cross-μ-loop
 cross-shared-slice-read-e t c = omega (arith, back-exists t (c .before .before))
 
-cross-cast-e : (t : ℕ) → cross-lts.Need-cast-e (cross-calls t) (cross-at t) cross.Post
-cross-cast-e t c = let s = c .before .before .before .before .before .before in omega (arith, s .pre .1 .0 .few-faces, s .pre .1 .0 .next-exists (across t s) (back-exists t (c .before .before)))
+next-exists : (t : ℕ) (c : cross-lts.Else1 (cross-calls t) (cross-at t) cross.Post cross-Inv-loop cross-μ-loop) → 4 * ground t (c .before .before .before .before .before) .next (across t c) + 3 < length (now (c .before .before .before .before .before .args .lines))
+next-exists t c = c .before .before .before .before .before .pre .1 .0 .next-exists (across t c) (back-exists t c)
 
-cross-narrow-requires : (t : ℕ) → cross-lts.Need-narrow-requires (cross-calls t) (cross-at t) cross.Post
-cross-narrow-requires t c κs =
-    let s = c .before .before .before .before .before .before in
-    (s .pre .1 .0, (s .pre .1 .0 .next-exists (across t s) (back-exists t (c .before .before)), s .pre .1 .1 .0 .1, s .pre .1 .1 .0 .2))
+cross-cast-e : (t : ℕ) → cross-lts.Need-cast-e (cross-calls t) (cross-at t) cross.Post cross-Inv-loop cross-μ-loop
+cross-cast-e t c = omega (arith, c .before .before .before .before .before .before .before .pre .1 .0 .few-faces, next-exists t (c .before .before))
 
--- what is handed on beyond the line is the same from where handing on begins
-narrowed : (t : ℕ) (c : cross-lts.After-struct-known (cross-calls t) (cross-at t) cross.Post) →
-    let s = c .before .before .before .before .before .before .before .before in
+-- the line is crossed, and what the cell beyond hands on remains
+entered : (t : ℕ) (c : cross-lts.Else1 (cross-calls t) (cross-at t) cross.Post cross-Inv-loop cross-μ-loop) →
+    let s = c .before .before .before .before .before in
+    let i = c .before .before .loop in
     let F = ground t s in
-    fan F (follow F (s .args .unentered - 1)) (F .more (across t s)) (F .next (across t s)) (s .args .r) (s .args .l) ≡ fan F (follow F (s .args .unentered - 1)) (c .before .narrow .result .more) (c .before .narrow .result .side) (s .args .r) (s .args .l)
-narrowed t c = let s = c .before .before .before .before .before .before .before .before in c .before .narrow .ensures .0 .same (follow (ground t s) (s .args .unentered - 1))
+    Remains (now (s .args .table)) (s .args .at) (line t s) (i .table) (s .args .at + 3 * i .rows) (i .rows) (i .crossings + 1) (fan F (follow F (i .cells - 1)) (F .more (across t c)) (F .next (across t c)) (i .right) (s .args .l))
+entered t c = beyond-remains _ _ _ _ _ _ _ (c .before .before .loop .inv .0) (is-passed t c .is)
 
--- one line alone
-one-line : (t : ℕ) (c : cross-lts.Then2 (cross-calls t) (cross-at t) cross.Post) →
-    let s = c .before .before .before .before .before .before .before .before .before in
-    let F = ground t s in
-    fan F (follow F (s .args .unentered - 1)) (F .more (across t s)) (F .next (across t s)) (s .args .r) (s .args .l) ≡ follow F (s .args .unentered - 1) (c .before .before .narrow .result .side) (s .args .r) (s .args .l)
-one-line t c =
-    let s = c .before .before .before .before .before .before .before .before .before in
-    narrowed t (c .before) ∙ hands-the-last (ground t s) (s .args .unentered - 1) (c .before .before .narrow .result .side) (s .args .r) (s .args .l) (c .if2 .taken)
-
-cross-sub-cross : (t : ℕ) → cross-lts.Need-sub-cross (cross-calls t) (cross-at t) cross.Post
-cross-sub-cross t c = is-passed t (c .before .before .before .before .before .before) .one-unentered
-
-cross-cross-requires : (t : ℕ) → cross-lts.Need-cross-requires (cross-calls t) (cross-at t) cross.Post
-cross-cross-requires t c κs =
-    let s = c .before .before .before .before .before .before .before .before .before .before in
-    let d = c .before .before .before .before .before .before in
-    let n : 1 ≤ s .args .unentered = is-passed t d .one-unentered in (
-      omega (arith, s .pre .0, n),
-      (s .pre .1 .0, ((c .before .before .before .narrow .ensures .1, s .pre .1 .1 .0 .1, s .pre .1 .1 .0 .2), subst (Room (s .args .at) (length (now (s .args .table)))) (one-line t (c .before)) (beyond t d .0))),
-    )
-
-cross-add-t32 : (t : ℕ) → cross-lts.Need-add-t32 (cross-calls t) (cross-at t) cross.Post
-cross-add-t32 t c =
-    let same = ap crossings (one-line t (c .before .before .before .before .before)) in
-    omega (arith, same, c .before .before .before .cross .ensures .1 .0, beyond t (c .before .before .before .before .before .before .before .before .before .before) .1)
-
-cross-same-length-2 : (t : ℕ) → cross-lts.Need-same-length-2 (cross-calls t) (cross-at t) cross.Post
-cross-same-length-2 t c = c .before .before .before .cross .kept .1 .1 .0
-
-cross-returns-2 : (t : ℕ) → cross-lts.Need-returns-2 (cross-calls t) (cross-at t) cross.Post
-cross-returns-2 t c =
-    beyond-written _ _ _ _ _ (is-passed t (c .before .before .before .before .before .before .before .before .before .before) .is)
-    (same-written _ _ _ _ _ (one-line t (c .before .before .before .before .before)) (c .before .before .before .cross .ensures))
-
-cross-sub-hand-on : (t : ℕ) → cross-lts.Need-sub-hand-on (cross-calls t) (cross-at t) cross.Post
-cross-sub-hand-on t c = is-passed t (c .before .before .before .before .before .before) .one-unentered
-
-cross-hand-on-requires : (t : ℕ) → cross-lts.Need-hand-on-requires (cross-calls t) (cross-at t) cross.Post
+cross-hand-on-requires : (t : ℕ) → cross-lts.Need-hand-on-requires (cross-calls t) (cross-at t) cross.Post cross-Inv-loop cross-μ-loop
 cross-hand-on-requires t c κs =
-    let s = c .before .before .before .before .before .before .before .before .before .before in
-    let d = c .before .before .before .before .before .before in
-    let n : 1 ≤ s .args .unentered = is-passed t d .one-unentered in
-    let few = s .pre .1 .0 .few-more (across t s) (back-exists t d) in
-    let fewer = c .before .before .before .narrow .ensures .0 .no-more in (
-      omega (arith, s .pre .0, few, fewer),
-      (
-        (s .pre .1 .0, omega (arith, few, fewer)),
-        ((c .before .before .before .narrow .ensures .1, s .pre .1 .1 .0 .1, s .pre .1 .1 .0 .2), subst (Room (s .args .at) (length (now (s .args .table)))) (narrowed t (c .before .before)) (beyond t d .0)),
-      ),
+    let s = c .before .before .before .before .before .before .before .before in
+    let d = c .before .before .before in
+    let i = c .before .before .before .before .before .loop in (
+      omega (arith, s .pre .0, i .inv .1 .0, is-passed t d .one-unentered),
+      (s .pre .1 .0, ((next-exists t d, i .inv .1 .1 .1, s .pre .1 .1 .0 .2), room-remains _ _ _ _ _ _ _ (entered t d) (s .pre .1 .1 .1) .0)),
     )
 
-cross-add-t18 : (t : ℕ) → cross-lts.Need-add-t18 (cross-calls t) (cross-at t) cross.Post
-cross-add-t18 t c =
-    let same = ap crossings (narrowed t (c .before .before .before .before .before .before)) in
-    omega (arith, same, c .before .before .before .hand-on .ensures .1 .0, beyond t (c .before .before .before .before .before .before .before .before .before .before) .1)
+-- the last line remains
+one-remains : (t : ℕ) (c : cross-lts.After-hand-on (cross-calls t) (cross-at t) cross.Post cross-Inv-loop cross-μ-loop) →
+    let s = c .before .before .before .before .before .before .before .before .before in
+    let i = c .before .before .before .before .before .before .loop in
+    let o = c .hand-on .result in
+    Remains (now (s .args .table)) (s .args .at) (line t s) (c .hand-on .last .1 .1 .0) (s .args .at + 3 * (i .rows + o .rows)) (i .rows + o .rows) (i .crossings + 1 + o .crossings) (follow (ground t s) (i .cells - 1) (o .last) (o .right) (s .args .l))
+one-remains t c = less-remains _ _ _ _ _ _ _ (entered t (c .before .before .before .before)) (c .hand-on .ensures .0) refl refl refl
 
-cross-same-length-3 : (t : ℕ) → cross-lts.Need-same-length-3 (cross-calls t) (cross-at t) cross.Post
-cross-same-length-3 t c = c .before .before .before .hand-on .kept .1 .1 .0
+cross-add-rows : (t : ℕ) → cross-lts.Need-add-rows (cross-calls t) (cross-at t) cross.Post cross-Inv-loop cross-μ-loop
+cross-add-rows t c = omega (arith, room-remains _ _ _ _ _ _ _ (one-remains t (c .before .before .before)) (c .before .before .before .before .before .before .before .before .before .before .before .before .pre .1 .1 .1) .0 .1 .0)
 
-cross-returns-3 : (t : ℕ) → cross-lts.Need-returns-3 (cross-calls t) (cross-at t) cross.Post
-cross-returns-3 t c =
-    beyond-written _ _ _ _ _ (is-passed t (c .before .before .before .before .before .before .before .before .before .before) .is)
-    (same-written _ _ _ _ _ (narrowed t (c .before .before .before .before .before .before)) (c .before .before .before .hand-on .ensures))
+cross-add-crossings-2 : (t : ℕ) → cross-lts.Need-add-crossings-2 (cross-calls t) (cross-at t) cross.Post cross-Inv-loop cross-μ-loop
+cross-add-crossings-2 t c = omega (arith, room-remains _ _ _ _ _ _ _ (one-remains t (c .before .before .before .before)) (c .before .before .before .before .before .before .before .before .before .before .before .before .before .pre .1 .1 .1) .1)
+
+cross-loop-less : (t : ℕ) → cross-lts.Need-loop-less (cross-calls t) (cross-at t) cross.Post cross-Inv-loop cross-μ-loop
+cross-loop-less t c = omega (arith, is-passed t (c .before .before .before .before .before .before .before .before) .one-unentered)
+
+cross-loop-again : (t : ℕ) → cross-lts.Need-loop-again (cross-calls t) (cross-at t) cross.Post cross-Inv-loop cross-μ-loop
+cross-loop-again t c = (one-remains t (c .before .before .before .before), (omega (arith, c .before .before .before .before .before .before .before .before .before .before .loop .inv .1 .0), c .before .before .before .before .hand-on .ensures .1))
 
 -- ---- handing on the sides of a cell
 
-abbrev floor : (t : ℕ) → hand-lts.Start (hand-calls t) (hand-at t) hand.Post → Floor
+-- a side remains, and so many after it
+abbrev hand-Inv-loop : hand-lts.InvT-loop
+hand-Inv-loop seen lines table₀ e more r l at unentered side₀ after₀ right₀ rows₀ crossings₀ table side after right rows crossings =
+    let F = floor-of seen lines in
+    Remains table₀ at (fan F (follow F unentered) more e r l) table (at + 3 * rows) rows crossings (fan F (follow F unentered) after side right l)
+    × ((4 * side + 3 < length lines) × (right < length seen / 2))
+
+abbrev hand-μ-loop : hand-lts.MeasureT-loop
+hand-μ-loop seen lines table₀ e more r l at unentered side₀ after₀ right₀ rows₀ crossings₀ table side after right rows crossings = after
+
+abbrev floor : (t : ℕ) → hand-lts.Start (hand-calls t) (hand-at t) hand.Post hand-Inv-loop hand-μ-loop → Floor
 floor t s = floor-of (now (s .args .seen)) (now (s .args .lines))
 
 -- what side e and those after it are handed on as
-abbrev cell : (t : ℕ) → hand-lts.Start (hand-calls t) (hand-at t) hand.Post → Sight
+abbrev cell : (t : ℕ) → hand-lts.Start (hand-calls t) (hand-at t) hand.Post hand-Inv-loop hand-μ-loop → Sight
 cell t s = fan (floor t s) (follow (floor t s) (s .args .unentered)) (s .args .more) (s .args .e) (s .args .r) (s .args .l)
 
-abbrev end : (t : ℕ) → hand-lts.Start (hand-calls t) (hand-at t) hand.Post → ℕ
-end t s = getD (now (s .args .lines)) (4 * s .args .e) 0
+hand-loop-holds : (t : ℕ) → hand-lts.Need-loop-holds (hand-calls t) (hand-at t) hand.Post hand-Inv-loop hand-μ-loop
+hand-loop-holds t c = let s = c .before .before in (all-remains _ _ _ _ (omega arith) (s .pre .1 .1 .1 .0), (s .pre .1 .1 .0 .0, s .pre .1 .1 .0 .1))
 
-abbrev after : (t : ℕ) → hand-lts.Start (hand-calls t) (hand-at t) hand.Post → ℕ
-after t s = getD (now (s .args .lines)) (4 * s .args .e + 3) 0
+hand-narrow-requires : (t : ℕ) → hand-lts.Need-narrow-requires (hand-calls t) (hand-at t) hand.Post hand-Inv-loop hand-μ-loop
+hand-narrow-requires t c κs = let s = c .before .before .before in (s .pre .1 .0, (c .loop .inv .1 .0, c .loop .inv .1 .1, s .pre .1 .1 .0 .2))
 
-end-exists : (t : ℕ) (s : hand-lts.Start (hand-calls t) (hand-at t) hand.Post) → end t s < length (now (s .args .seen)) / 2
-end-exists t s = s .pre .1 .0 .0 .end-exists _ (s .pre .1 .1 .0 .0)
+-- handing on goes on from another side
+narrowed : (t : ℕ) (c : hand-lts.After-narrow (hand-calls t) (hand-at t) hand.Post hand-Inv-loop hand-μ-loop) →
+    let s = c .before .before .before .before in
+    let i = c .before .loop in
+    let o = c .narrow .result in
+    Remains (now (s .args .table)) (s .args .at) (cell t s) (i .table) (s .args .at + 3 * i .rows) (i .rows) (i .crossings) (fan (floor t s) (follow (floor t s) (s .args .unentered)) (o .more) (o .side) (i .right) (s .args .l))
+narrowed t c =
+    let s = c .before .before .before .before in
+    let i = c .before .loop in
+    subst
+    (Remains (now (s .args .table)) (s .args .at) (cell t s) (i .table) (s .args .at + 3 * i .rows) (i .rows) (i .crossings))
+    (c .narrow .ensures .0 .0 .same (follow (floor t s) (s .args .unentered)))
+    (i .inv .0)
 
-after-exists : (t : ℕ) (s : hand-lts.Start (hand-calls t) (hand-at t) hand.Post) → 4 * after t s + 3 < length (now (s .args .lines))
-after-exists t s = s .pre .1 .0 .0 .next-exists _ (s .pre .1 .1 .0 .0)
+hand-same-length : (t : ℕ) → hand-lts.Need-same-length (hand-calls t) (hand-at t) hand.Post hand-Inv-loop hand-μ-loop
+hand-same-length t c = c .before .before .before .loop .inv .0 .same-length
 
-hands-last : (t : ℕ) (c : hand-lts.Then1 (hand-calls t) (hand-at t) hand.Post) →
-    let s = c .before .before .before in
-    cell t s ≡ follow (floor t s) (s .args .unentered) (s .args .e) (s .args .r) (s .args .l)
-hands-last t c = let s = c .before .before .before in hands-the-last (floor t s) (s .args .unentered) (s .args .e) (s .args .r) (s .args .l) (c .if1 .taken)
-
-hand-cross-requires : (t : ℕ) → hand-lts.Need-cross-requires (hand-calls t) (hand-at t) hand.Post
-hand-cross-requires t c κs =
-    let s = c .before .before .before .before in (
-      omega (arith, s .pre .0),
-      (s .pre .1 .0 .0, (s .pre .1 .1 .0, subst (Room (s .args .at) (length (now (s .args .table)))) (hands-last t (c .before)) (s .pre .1 .1 .1))),
+hand-returns : (t : ℕ) → hand-lts.Need-returns (hand-calls t) (hand-at t) hand.Post hand-Inv-loop hand-μ-loop
+hand-returns t c =
+    let s = c .before .before .before .before .before .before in
+    let i = c .before .before .before .loop in
+    let o = c .before .before .narrow in (
+      subst
+          (Remains (now (s .args .table)) (s .args .at) (cell t s) (i .table) (s .args .at + 3 * i .rows) (i .rows) (i .crossings))
+          (hands-the-last (floor t s) (s .args .unentered) (o .result .side) (i .right) (s .args .l) (c .if1 .taken))
+          (narrowed t (c .before .before)),
+      (o .ensures .0 .1, i .inv .1 .1),
     )
 
-hand-same-length : (t : ℕ) → hand-lts.Need-same-length (hand-calls t) (hand-at t) hand.Post
-hand-same-length t c = c .before .before .cross .kept .1 .1 .0
+hand-mul-v : (t : ℕ) → hand-lts.Need-mul-v (hand-calls t) (hand-at t) hand.Post hand-Inv-loop hand-μ-loop
+hand-mul-v t c = omega (arith, c .before .before .narrow .ensures .0 .1, c .before .before .before .before .before .before .pre .1 .0 .few-faces)
 
-hand-returns : (t : ℕ) → hand-lts.Need-returns (hand-calls t) (hand-at t) hand.Post
-hand-returns t c = same-written _ _ _ _ _ (hands-last t (c .before .before .before .before)) (c .before .before .cross .ensures)
+hand-mul-v-2 : (t : ℕ) → hand-lts.Need-mul-v-2 (hand-calls t) (hand-at t) hand.Post hand-Inv-loop hand-μ-loop
+hand-mul-v-2 t c = omega (arith, c .before .before .narrow .ensures .0 .1, c .before .before .before .before .before .before .pre .1 .0 .few-faces)
 
-hand-mul-v : (t : ℕ) → hand-lts.Need-mul-v (hand-calls t) (hand-at t) hand.Post
-hand-mul-v t c = omega (arith, c .before .before .before .pre .1 .1 .0 .0)
+hand-shared-slice-read-v : (t : ℕ) → hand-lts.Need-shared-slice-read-v (hand-calls t) (hand-at t) hand.Post hand-Inv-loop hand-μ-loop
+hand-shared-slice-read-v t c = omega (arith, c .before .before .before .narrow .ensures .0 .1)
 
-hand-mul-v-2 : (t : ℕ) → hand-lts.Need-mul-v-2 (hand-calls t) (hand-at t) hand.Post
-hand-mul-v-2 t c = omega (arith, c .before .before .before .pre .1 .1 .0 .0)
+-- the corner at which the side ends, and the side after it
+abbrev end : (t : ℕ) → hand-lts.After-narrow (hand-calls t) (hand-at t) hand.Post hand-Inv-loop hand-μ-loop → ℕ
+end t c = floor t (c .before .before .before .before) .left-end (c .narrow .result .side)
 
-hand-shared-slice-read-v : (t : ℕ) → hand-lts.Need-shared-slice-read-v (hand-calls t) (hand-at t) hand.Post
-hand-shared-slice-read-v t c = omega (arith, c .before .before .before .before .pre .1 .1 .0 .0)
+abbrev following : (t : ℕ) → hand-lts.After-narrow (hand-calls t) (hand-at t) hand.Post hand-Inv-loop hand-μ-loop → ℕ
+following t c = floor t (c .before .before .before .before) .next (c .narrow .result .side)
 
-hand-place-requires : (t : ℕ) → hand-lts.Need-place-requires (hand-calls t) (hand-at t) hand.Post
-hand-place-requires t c κs = let s = c .before .before .before .before in (s .pre .1 .0 .0 .corners, (end-exists t s, s .pre .1 .1 .0 .1, s .pre .1 .1 .0 .2))
+end-exists : (t : ℕ) (c : hand-lts.After-narrow (hand-calls t) (hand-at t) hand.Post hand-Inv-loop hand-μ-loop) → end t c < length (now (c .before .before .before .before .args .seen)) / 2
+end-exists t c = c .before .before .before .before .pre .1 .0 .end-exists _ (c .narrow .ensures .0 .1)
 
--- where the corner lies, and by the arm that is taken what is handed on
-told : (t : ℕ) (c : hand-lts.After-place (hand-calls t) (hand-at t) hand.Post) →
-    let s = c .before .before .before .before .before in
-    placed (now (s .args .seen)) (end t s) (s .args .r) (s .args .l) ≡ apex-place (c .place .result)
-told t c = sym (c .place .ensures)
+following-exists : (t : ℕ) (c : hand-lts.After-narrow (hand-calls t) (hand-at t) hand.Post hand-Inv-loop hand-μ-loop) → 4 * following t c + 3 < length (now (c .before .before .before .before .args .lines))
+following-exists t c = c .before .before .before .before .pre .1 .0 .next-exists _ (c .narrow .ensures .0 .1)
 
-hands-end : (t : ℕ) (c : hand-lts.After-enum-told (hand-calls t) (hand-at t) hand.Post) →
-    let s = c .before .before .before .before .before .before .before in
-    cell t s ≡ follow (floor t s) (s .args .unentered) (s .args .e) (s .args .r) (s .args .l)
-hands-end t c =
-    let s = c .before .before .before .before .before .before .before in
-    hands-ending (floor t s) (s .args .unentered) (s .args .e) (s .args .r) (s .args .l) (s .args .more) (c .before .before .before .before .if1 .left) (told t (c .before .before) ∙ ap apex-place (c .enum-told .given .1))
-
-hands-skip : (t : ℕ) (c : hand-lts.After-enum-told2 (hand-calls t) (hand-at t) hand.Post) →
-    let s = c .before .before .before .before .before .before .before in
-    cell t s ≡ fan (floor t s) (follow (floor t s) (s .args .unentered)) (s .args .more - 1) (after t s) (s .args .r) (s .args .l)
-hands-skip t c =
-    let s = c .before .before .before .before .before .before .before in
-    hands-skipping (floor t s) (s .args .unentered) (s .args .e) (s .args .r) (s .args .l) (s .args .more) (c .before .before .before .before .if1 .left) (told t (c .before .before) ∙ ap apex-place (c .enum-told2 .given .1))
-
-hands-two : (t : ℕ) (c : hand-lts.After-enum-told3 (hand-calls t) (hand-at t) hand.Post) →
-    let s = c .before .before .before .before .before .before .before in
-    cell t s ≡ both (follow (floor t s) (s .args .unentered) (s .args .e) (s .args .r) (end t s)) (fan (floor t s) (follow (floor t s) (s .args .unentered)) (s .args .more - 1) (after t s) (end t s) (s .args .l))
+hands-two : (t : ℕ) (c : hand-lts.Else1 (hand-calls t) (hand-at t) hand.Post hand-Inv-loop hand-μ-loop) →
+    let s = c .before .before .before .before .before .before in
+    let i = c .before .before .before .loop in
+    let n = c .before .before in
+    let o = n .narrow .result in
+    let F = floor t s in
+    fan F (follow F (s .args .unentered)) (o .more) (o .side) (i .right) (s .args .l) ≡ both (follow F (s .args .unentered) (o .side) (i .right) (end t n)) (fan F (follow F (s .args .unentered)) (o .more - 1) (following t n) (end t n) (s .args .l))
 hands-two t c =
-    let s = c .before .before .before .before .before .before .before in
-    hands-both (floor t s) (s .args .unentered) (s .args .e) (s .args .r) (s .args .l) (s .args .more) (c .before .before .before .before .if1 .left) (told t (c .before .before) ∙ ap apex-place (c .enum-told3 .given .1))
+    let s = c .before .before .before .before .before .before in
+    let i = c .before .before .before .loop in
+    let n = c .before .before .narrow in
+    hands-both (floor t s) (s .args .unentered) (n .result .side) (i .right) (s .args .l) (n .result .more) (c .if1 .left) (n .ensures .1 (c .if1 .left))
 
--- a side follows
-some-follow : (t : ℕ) (c : hand-lts.Else1 (hand-calls t) (hand-at t) hand.Post) → 1 ≤ c .before .before .before .args .more
+first-fits : (t : ℕ) (c : hand-lts.Else1 (hand-calls t) (hand-at t) hand.Post hand-Inv-loop hand-μ-loop) →
+    let s = c .before .before .before .before .before .before in
+    let i = c .before .before .before .loop in
+    let n = c .before .before in
+    Room (s .args .at + 3 * i .rows) (length (i .table)) (follow (floor t s) (s .args .unentered) (n .narrow .result .side) (i .right) (end t n))
+first-fits t c = room-for-the-first _ _ (hands-two t c) (room-remains _ _ _ _ _ _ _ (narrowed t (c .before .before)) (c .before .before .before .before .before .before .pre .1 .1 .1) .0)
+
+hand-mul-cross : (t : ℕ) → hand-lts.Need-mul-cross (hand-calls t) (hand-at t) hand.Post hand-Inv-loop hand-μ-loop
+hand-mul-cross t c = omega (arith, first-fits t (c .before .before) .1 .0)
+
+hand-add-cross : (t : ℕ) → hand-lts.Need-add-cross (hand-calls t) (hand-at t) hand.Post hand-Inv-loop hand-μ-loop
+hand-add-cross t c = omega (arith, first-fits t (c .before .before) .1 .0)
+
+hand-cross-requires : (t : ℕ) → hand-lts.Need-cross-requires (hand-calls t) (hand-at t) hand.Post hand-Inv-loop hand-μ-loop
+hand-cross-requires t c κs =
+    let s = c .before .before .before .before .before .before .before .before in
+    let n = c .before .before .before .before in
+    (omega (arith, s .pre .0), (s .pre .1 .0, ((n .narrow .ensures .0 .1, c .before .before .before .before .before .loop .inv .1 .1, end-exists t n), first-fits t (c .before .before))))
+
+-- the side's line is followed to its rows
+followed : (t : ℕ) (c : hand-lts.After-cross (hand-calls t) (hand-at t) hand.Post hand-Inv-loop hand-μ-loop) →
+    let s = c .before .before .before .before .before .before .before .before .before in
+    let i = c .before .before .before .before .before .before .loop in
+    let n = c .before .before .before .before .before in
+    let one = c .cross .result in
+    Remains (now (s .args .table)) (s .args .at) (cell t s) (c .cross .last .1 .1 .0) (s .args .at + 3 * (i .rows + one .rows)) (i .rows + one .rows) (i .crossings + one .crossings) (fan (floor t s) (follow (floor t s) (s .args .unentered)) (n .narrow .result .more - 1) (following t n) (end t n) (s .args .l))
+followed t c = second-remains _ _ _ _ _ _ _ (narrowed t (c .before .before .before .before .before)) (hands-two t (c .before .before .before)) (c .cross .ensures) (c .cross .kept .1 .1 .0) refl refl refl
+
+hand-add-rows : (t : ℕ) → hand-lts.Need-add-rows (hand-calls t) (hand-at t) hand.Post hand-Inv-loop hand-μ-loop
+hand-add-rows t c = omega (arith, room-remains _ _ _ _ _ _ _ (followed t (c .before .before .before)) (c .before .before .before .before .before .before .before .before .before .before .before .before .pre .1 .1 .1) .0 .1 .0)
+
+hand-add-crossings : (t : ℕ) → hand-lts.Need-add-crossings (hand-calls t) (hand-at t) hand.Post hand-Inv-loop hand-μ-loop
+hand-add-crossings t c = omega (arith, room-remains _ _ _ _ _ _ _ (followed t (c .before .before .before .before)) (c .before .before .before .before .before .before .before .before .before .before .before .before .before .pre .1 .1 .1) .1)
+
+hand-mul-side : (t : ℕ) → hand-lts.Need-mul-side (hand-calls t) (hand-at t) hand.Post hand-Inv-loop hand-μ-loop
+hand-mul-side t c = omega (arith, c .before .before .before .before .before .before .before .before .before .narrow .ensures .0 .1, c .before .before .before .before .before .before .before .before .before .before .before .before .before .pre .1 .0 .few-faces)
+
+hand-add-side : (t : ℕ) → hand-lts.Need-add-side (hand-calls t) (hand-at t) hand.Post hand-Inv-loop hand-μ-loop
+hand-add-side t c = omega (arith, c .before .before .before .before .before .before .before .before .before .narrow .ensures .0 .1, c .before .before .before .before .before .before .before .before .before .before .before .before .before .pre .1 .0 .few-faces)
+
+hand-mul-side-2 : (t : ℕ) → hand-lts.Need-mul-side-2 (hand-calls t) (hand-at t) hand.Post hand-Inv-loop hand-μ-loop
+hand-mul-side-2 t c = omega (arith, c .before .before .before .before .before .before .before .before .before .narrow .ensures .0 .1, c .before .before .before .before .before .before .before .before .before .before .before .before .before .pre .1 .0 .few-faces)
+
+hand-shared-slice-read-side : (t : ℕ) → hand-lts.Need-shared-slice-read-side (hand-calls t) (hand-at t) hand.Post hand-Inv-loop hand-μ-loop
+hand-shared-slice-read-side t c = omega (arith, c .before .before .before .before .before .before .before .before .before .before .narrow .ensures .0 .1)
+
+hand-cast-side : (t : ℕ) → hand-lts.Need-cast-side (hand-calls t) (hand-at t) hand.Post hand-Inv-loop hand-μ-loop
+hand-cast-side t c = omega (arith, c .before .before .before .before .before .before .before .before .before .before .before .before .before .before .pre .1 .0 .few-faces, following-exists t (c .before .before .before .before .before .before .before .before .before .before))
+
+some-follow : (t : ℕ) (c : hand-lts.Else1 (hand-calls t) (hand-at t) hand.Post hand-Inv-loop hand-μ-loop) → 1 ≤ c .before .before .narrow .result .more
 some-follow t c = let none = c .if1 .left in omega arith
 
-hand-enum-told : (t : ℕ) → hand-lts.Need-enum-told (hand-calls t) (hand-at t) hand.Post
-hand-enum-told t c = search needs
+hand-sub-after : (t : ℕ) → hand-lts.Need-sub-after (hand-calls t) (hand-at t) hand.Post hand-Inv-loop hand-μ-loop
+hand-sub-after t c = some-follow t (c .before .before .before .before .before .before .before .before .before)
 
-hand-cross-requires-2 : (t : ℕ) → hand-lts.Need-cross-requires-2 (hand-calls t) (hand-at t) hand.Post
-hand-cross-requires-2 t c κs =
-    let s = c .before .before .before .before .before .before .before .before in (
-      omega (arith, s .pre .0),
-      (s .pre .1 .0 .0, (s .pre .1 .1 .0, subst (Room (s .args .at) (length (now (s .args .table)))) (hands-end t (c .before)) (s .pre .1 .1 .1))),
-    )
+hand-loop-less : (t : ℕ) → hand-lts.Need-loop-less (hand-calls t) (hand-at t) hand.Post hand-Inv-loop hand-μ-loop
+hand-loop-less t c = omega (arith, some-follow t (c .before .before .before .before .before .before .before .before .before), c .before .before .before .before .before .before .before .before .before .before .before .narrow .ensures .0 .0 .no-more)
 
-hand-enum-told-2 : (t : ℕ) → hand-lts.Need-enum-told-2 (hand-calls t) (hand-at t) hand.Post
-hand-enum-told-2 t c = search needs
-
-hand-mul-n : (t : ℕ) → hand-lts.Need-mul-n (hand-calls t) (hand-at t) hand.Post
-hand-mul-n t c = omega (arith, c .before .before .before .before .before .before .before .pre .1 .1 .0 .0)
-
-hand-add-n : (t : ℕ) → hand-lts.Need-add-n (hand-calls t) (hand-at t) hand.Post
-hand-add-n t c = omega (arith, c .before .before .before .before .before .before .before .pre .1 .1 .0 .0)
-
-hand-mul-n-2 : (t : ℕ) → hand-lts.Need-mul-n-2 (hand-calls t) (hand-at t) hand.Post
-hand-mul-n-2 t c = omega (arith, c .before .before .before .before .before .before .before .pre .1 .1 .0 .0)
-
-hand-shared-slice-read-n : (t : ℕ) → hand-lts.Need-shared-slice-read-n (hand-calls t) (hand-at t) hand.Post
-hand-shared-slice-read-n t c = omega (arith, c .before .before .before .before .before .before .before .before .pre .1 .1 .0 .0)
-
-hand-cast-n : (t : ℕ) → hand-lts.Need-cast-n (hand-calls t) (hand-at t) hand.Post
-hand-cast-n t c = let s = c .before .before .before .before .before .before .before .before in omega (arith, s .pre .1 .0 .0 .few-faces, after-exists t s)
-
-hand-sub-hand-on : (t : ℕ) → hand-lts.Need-sub-hand-on (hand-calls t) (hand-at t) hand.Post
-hand-sub-hand-on t c = some-follow t (c .before .before .before .before .before .before)
-
-hand-hand-on-requires : (t : ℕ) → hand-lts.Need-hand-on-requires (hand-calls t) (hand-at t) hand.Post
-hand-hand-on-requires t c κs =
-    let s = c .before .before .before .before .before .before .before .before .before in (
-      omega (arith, s .pre .0, some-follow t (c .before .before .before .before .before .before)),
-      ((s .pre .1 .0 .0, omega (arith, s .pre .1 .0 .1)), ((after-exists t s, s .pre .1 .1 .0 .1, s .pre .1 .1 .0 .2), subst (Room (s .args .at) (length (now (s .args .table)))) (hands-skip t (c .before .before)) (s .pre .1 .1 .1))),
-    )
-
-hand-enum-told-3 : (t : ℕ) → hand-lts.Need-enum-told-3 (hand-calls t) (hand-at t) hand.Post
-hand-enum-told-3 t c = search needs
-
-first-fits : (t : ℕ) (c : hand-lts.After-enum-told3 (hand-calls t) (hand-at t) hand.Post) →
-    let s = c .before .before .before .before .before .before .before in
-    Room (s .args .at) (length (now (s .args .table))) (follow (floor t s) (s .args .unentered) (s .args .e) (s .args .r) (end t s))
-first-fits t c = room-for-the-first _ _ (hands-two t c) (c .before .before .before .before .before .before .before .pre .1 .1 .1)
-
-second-fits : (t : ℕ) (c : hand-lts.After-cross3 (hand-calls t) (hand-at t) hand.Post) →
-    let s = c .before .before .before .before .before .before .before .before .before in
-    Room (s .args .at + 3 * c .cross3 .result .rows) (length (c .cross3 .last .1 .1 .0)) (fan (floor t s) (follow (floor t s) (s .args .unentered)) (s .args .more - 1) (after t s) (end t s) (s .args .l))
-second-fits t c =
-    let s = c .before .before .before .before .before .before .before .before .before in
-    room-for-the-second _ _ (hands-two t (c .before .before)) (s .pre .1 .1 .1) (c .cross3 .ensures .0) (c .cross3 .kept .1 .1 .0)
-
-hand-cross-requires-3 : (t : ℕ) → hand-lts.Need-cross-requires-3 (hand-calls t) (hand-at t) hand.Post
-hand-cross-requires-3 t c κs =
-    let s = c .before .before .before .before .before .before .before .before in
-    (omega (arith, s .pre .0), (s .pre .1 .0 .0, ((s .pre .1 .1 .0 .0, s .pre .1 .1 .0 .1, end-exists t s), first-fits t (c .before))))
-
-hand-mul-n-3 : (t : ℕ) → hand-lts.Need-mul-n-3 (hand-calls t) (hand-at t) hand.Post
-hand-mul-n-3 t c = omega (arith, c .before .before .before .before .before .before .before .before .before .before .before .pre .1 .1 .0 .0)
-
-hand-add-n-2 : (t : ℕ) → hand-lts.Need-add-n-2 (hand-calls t) (hand-at t) hand.Post
-hand-add-n-2 t c = omega (arith, c .before .before .before .before .before .before .before .before .before .before .before .pre .1 .1 .0 .0)
-
-hand-mul-n-4 : (t : ℕ) → hand-lts.Need-mul-n-4 (hand-calls t) (hand-at t) hand.Post
-hand-mul-n-4 t c = omega (arith, c .before .before .before .before .before .before .before .before .before .before .before .pre .1 .1 .0 .0)
-
-hand-shared-slice-read-n-2 : (t : ℕ) → hand-lts.Need-shared-slice-read-n-2 (hand-calls t) (hand-at t) hand.Post
-hand-shared-slice-read-n-2 t c = omega (arith, c .before .before .before .before .before .before .before .before .before .before .before .before .pre .1 .1 .0 .0)
-
-hand-cast-n-2 : (t : ℕ) → hand-lts.Need-cast-n-2 (hand-calls t) (hand-at t) hand.Post
-hand-cast-n-2 t c = let s = c .before .before .before .before .before .before .before .before .before .before .before .before in omega (arith, s .pre .1 .0 .0 .few-faces, after-exists t s)
-
-hand-mul-after : (t : ℕ) → hand-lts.Need-mul-after (hand-calls t) (hand-at t) hand.Post
-hand-mul-after t c = omega (arith, second-fits t (c .before .before .before .before) .1 .0, c .before .before .before .before .cross3 .kept .1 .1 .0)
-
-hand-add-after : (t : ℕ) → hand-lts.Need-add-after (hand-calls t) (hand-at t) hand.Post
-hand-add-after t c = omega (arith, second-fits t (c .before .before .before .before) .1 .0, c .before .before .before .before .cross3 .kept .1 .1 .0)
-
-hand-sub-hand-on-2 : (t : ℕ) → hand-lts.Need-sub-hand-on-2 (hand-calls t) (hand-at t) hand.Post
-hand-sub-hand-on-2 t c = some-follow t (c .before .before .before .before .before .before .before .before .before .before .before)
-
-hand-hand-on-requires-2 : (t : ℕ) → hand-lts.Need-hand-on-requires-2 (hand-calls t) (hand-at t) hand.Post
-hand-hand-on-requires-2 t c κs =
-    let s = c .before .before .before .before .before .before .before .before .before .before .before .before .before .before in (
-      omega (arith, s .pre .0, some-follow t (c .before .before .before .before .before .before .before .before .before .before .before)),
-      ((s .pre .1 .0 .0, omega (arith, s .pre .1 .0 .1)), ((after-exists t s, end-exists t s, s .pre .1 .1 .0 .2), second-fits t (c .before .before .before .before .before))),
-    )
-
-hand-add-t36 : (t : ℕ) → hand-lts.Need-add-t36 (hand-calls t) (hand-at t) hand.Post
-hand-add-t36 t c =
-    let x = c .before .before .before .before .before .before .before .before .before .before in
-    let s = c .before .before .before .before .before .before .before .before .before .before .before .before .before .before .before .before .before .before .before in
-    omega (arith, s .good .1 .1 .0 .0, x .cross3 .kept .1 .1 .0, second-fits t x .1 .0, c .before .before .before .before .hand-on2 .ensures .0)
-
-hand-add-t37 : (t : ℕ) → hand-lts.Need-add-t37 (hand-calls t) (hand-at t) hand.Post
-hand-add-t37 t c =
-    let y = c .before .before .before .before .before .before in
-    let x = c .before .before .before .before .before .before .before .before .before .before .before .before in
-    omega (arith, first-fits t (x .before .before) .1 .1, x .cross3 .ensures .1 .0, second-fits t x .1 .1, y .hand-on2 .ensures .1 .0)
-
-hand-same-length-2 : (t : ℕ) → hand-lts.Need-same-length-2 (hand-calls t) (hand-at t) hand.Post
-hand-same-length-2 t c = c .before .before .cross2 .kept .1 .1 .0
-
-hand-returns-2 : (t : ℕ) → hand-lts.Need-returns-2 (hand-calls t) (hand-at t) hand.Post
-hand-returns-2 t c = same-written _ _ _ _ _ (hands-end t (c .before .before .before .before)) (c .before .before .cross2 .ensures)
-
-hand-same-length-3 : (t : ℕ) → hand-lts.Need-same-length-3 (hand-calls t) (hand-at t) hand.Post
-hand-same-length-3 t c = c .before .before .hand-on .kept .1 .1 .0
-
-hand-returns-3 : (t : ℕ) → hand-lts.Need-returns-3 (hand-calls t) (hand-at t) hand.Post
-hand-returns-3 t c = same-written _ _ _ _ _ (hands-skip t (c .before .before .before .before .before)) (c .before .before .hand-on .ensures)
-
-hand-same-length-4 : (t : ℕ) → hand-lts.Need-same-length-4 (hand-calls t) (hand-at t) hand.Post
-hand-same-length-4 t c = c .before .before .before .before .before .before .hand-on2 .kept .1 .1 .0 ∙ c .before .before .before .before .before .before .before .before .before .before .before .before .cross3 .kept .1 .1 .0
-
-hand-returns-4 : (t : ℕ) → hand-lts.Need-returns-4 (hand-calls t) (hand-at t) hand.Post
-hand-returns-4 t c =
-    let y = c .before .before .before .before .before .before in
-    let x = c .before .before .before .before .before .before .before .before .before .before .before .before in
-    both-written _ _ _ _ _ _ (hands-two t (x .before .before)) (x .cross3 .ensures) (y .hand-on2 .ensures)
+hand-loop-again : (t : ℕ) → hand-lts.Need-loop-again (hand-calls t) (hand-at t) hand.Post hand-Inv-loop hand-μ-loop
+hand-loop-again t c = (followed t (c .before .before .before .before .before .before), (following-exists t (c .before .before .before .before .before .before .before .before .before .before .before), end-exists t (c .before .before .before .before .before .before .before .before .before .before .before)))
 
 pub +cross+hand-on-spec : {M : Type 1} → statement M
 +cross+hand-on-spec =
@@ -453,6 +390,11 @@ pub +cross+hand-on-spec : {M : Type 1} → statement M
     (cross-calls t)
     (cross-at t)
     cross.Post
+    cross-Inv-loop
+    cross-μ-loop
+    (cross-loop-holds t)
+    (cross-mul-end t)
+    (cross-add-end t)
     (cross-mul-across t)
     (cross-add-across t)
     (cross-mul-across-2 t)
@@ -466,8 +408,11 @@ pub +cross+hand-on-spec : {M : Type 1} → statement M
     (cross-add-table-2 t)
     (cross-mul-table-3 t)
     (cross-slice-write-table-3 t)
+    (cross-add-t27 t)
     (cross-same-length t)
     (cross-returns t)
+    (cross-sub-cells t)
+    (cross-add-crossings t)
     (cross-cast-g t)
     (cross-mul-g t)
     (cross-add-more t)
@@ -478,54 +423,34 @@ pub +cross+hand-on-spec : {M : Type 1} → statement M
     (cross-mul-e t)
     (cross-shared-slice-read-e t)
     (cross-cast-e t)
-    (cross-narrow-requires t)
-    (cross-sub-cross t)
-    (cross-cross-requires t)
-    (cross-add-t32 t)
-    (cross-same-length-2 t)
-    (cross-returns-2 t)
-    (cross-sub-hand-on t)
     (cross-hand-on-requires t)
-    (cross-add-t18 t)
-    (cross-same-length-3 t)
-    (cross-returns-3 t))
+    (cross-add-rows t)
+    (cross-add-crossings-2 t)
+    (cross-loop-less t)
+    (cross-loop-again t))
     λ t. hand-lts.spec
     (hand-calls t)
     (hand-at t)
     hand.Post
-    (hand-cross-requires t)
+    hand-Inv-loop
+    hand-μ-loop
+    (hand-loop-holds t)
+    (hand-narrow-requires t)
     (hand-same-length t)
     (hand-returns t)
     (hand-mul-v t)
     (hand-mul-v-2 t)
     (hand-shared-slice-read-v t)
-    (hand-place-requires t)
-    (hand-enum-told t)
-    (hand-cross-requires-2 t)
-    (hand-enum-told-2 t)
-    (hand-mul-n t)
-    (hand-add-n t)
-    (hand-mul-n-2 t)
-    (hand-shared-slice-read-n t)
-    (hand-cast-n t)
-    (hand-sub-hand-on t)
-    (hand-hand-on-requires t)
-    (hand-enum-told-3 t)
-    (hand-cross-requires-3 t)
-    (hand-mul-n-3 t)
-    (hand-add-n-2 t)
-    (hand-mul-n-4 t)
-    (hand-shared-slice-read-n-2 t)
-    (hand-cast-n-2 t)
-    (hand-mul-after t)
-    (hand-add-after t)
-    (hand-sub-hand-on-2 t)
-    (hand-hand-on-requires-2 t)
-    (hand-add-t36 t)
-    (hand-add-t37 t)
-    (hand-same-length-2 t)
-    (hand-returns-2 t)
-    (hand-same-length-3 t)
-    (hand-returns-3 t)
-    (hand-same-length-4 t)
-    (hand-returns-4 t)
+    (hand-mul-cross t)
+    (hand-add-cross t)
+    (hand-cross-requires t)
+    (hand-add-rows t)
+    (hand-add-crossings t)
+    (hand-mul-side t)
+    (hand-add-side t)
+    (hand-mul-side-2 t)
+    (hand-shared-slice-read-side t)
+    (hand-cast-side t)
+    (hand-sub-after t)
+    (hand-loop-less t)
+    (hand-loop-again t)

@@ -1,6 +1,6 @@
 -- `expand::narrow` meets its contract: each side that is left out ends on or right of the right limit, and the one after which none is handed on ends on
 -- or left of the left limit.
-use mathlib.Core.Path.{subst, sym}
+use mathlib.Core.Path.{refl, subst, sym}
 use Prim.Native.Nat.{_+_, _*_, _<_}
 use native.Mathlib.Omega.{arith}
 use lib.IntN.{ℤ}
@@ -12,15 +12,15 @@ use Rattle.exact.proofs.Order.{𝟘, le-leZ, lt-leZ, ltZ-true, ltZ-false}
 use Rattle.exact.proofs.Bounds.{handed}
 use Rattle.expand.specs.Floor.{floor-of}
 use Rattle.expand.specs.Narrows.{Narrows}
-use Rattle.expand.proofs.Expansion.{narrows-none, narrows-one-more, narrows-to-one, is-right-of-r, is-left-of-l}
+use Rattle.expand.proofs.Expansion.{narrows-none, narrows-one-more, narrows-to-one, is-right-of-r, is-left-of-l, is-between}
 use Rattle.expand.proofs.narrow.Statement.{statement}
 use Rattle.expand.proofs.narrow.Tie as tie
 
 abbrev Inv-loop : tie.InvT-loop
-Inv-loop seen lines e more r l side₀ left₀ side left = Narrows (floor-of seen lines) r l more e left side × (4 * side + 3 < length lines)
+Inv-loop seen lines e more r l side₀ after₀ side after = Narrows (floor-of seen lines) r l more e after side × (4 * side + 3 < length lines)
 
 abbrev μ-loop : tie.MeasureT-loop
-μ-loop seen lines e more r l side₀ left₀ side left = left
+μ-loop seen lines e more r l side₀ after₀ side after = after
 
 loop-holds : tie.Need-loop-holds Inv-loop μ-loop
 loop-holds c = let s = c .before in (narrows-none (floor-of (now (s .args .seen)) (now (s .args .lines))) (s .args .r) (s .args .l) (s .args .more) (s .args .e), s .pre .1 .0)
@@ -45,14 +45,17 @@ turn-requires-2 c κs =
     (s .pre .0 .corners, (s .pre .0 .end-exists _ (c .before .before .before .before .loop .inv .1), s .pre .1 .2))
 
 returns : tie.Need-returns Inv-loop μ-loop
-returns c = c .before .before .before .before .before .before .loop .inv
+returns c =
+    let past-right = subst (λ (z : ℤ). 𝟘 <ℤ z) (handed w64 (c .before .before .before .turn .ok) (c .before .before .before .turn .ensures)) (ltZ-true _ _ (c .before .before .if1 .taken)) in
+    let before-left = subst (λ (z : ℤ). 𝟘 <ℤ z) (handed w64 (c .before .turn2 .ok) (c .before .turn2 .ensures)) (ltZ-true _ _ (c .if2 .taken)) in
+    (c .before .before .before .before .before .before .loop .inv, λ h. sym (is-between _ _ _ _ (lt-leZ past-right) (lt-leZ before-left)))
 
 returns-2 : tie.Need-returns-2 Inv-loop μ-loop
 returns-2 c =
     let i = c .before .before .before .before .before .before .loop in
     let past-right = subst (λ (z : ℤ). 𝟘 <ℤ z) (handed w64 (c .before .before .before .turn .ok) (c .before .before .before .turn .ensures)) (ltZ-true _ _ (c .before .before .if1 .taken)) in
     let at-left = subst (λ (z : ℤ). z ≤ℤ 𝟘) (handed w64 (c .before .turn2 .ok) (c .before .turn2 .ensures)) (ltZ-false _ _ (c .if2 .left)) in
-    (narrows-to-one _ _ _ _ _ (i .inv .0) (c .before .before .before .before .before .loop-test .taken) (sym (is-left-of-l _ _ _ _ (lt-leZ past-right) (le-leZ at-left))), i .inv .1)
+    ((narrows-to-one _ _ _ _ _ (i .inv .0) (c .before .before .before .before .before .loop-test .taken) (sym (is-left-of-l _ _ _ _ (lt-leZ past-right) (le-leZ at-left))), i .inv .1), λ h. absurd (h refl))
 
 mul-side : tie.Need-mul-side Inv-loop μ-loop
 mul-side c = omega (arith, c .before .before .before .before .loop .inv .1, c .before .before .before .before .before .before .pre .0 .few-faces)
@@ -77,8 +80,8 @@ next-there c =
 cast-side : tie.Need-cast-side Inv-loop μ-loop
 cast-side c = omega (arith, next-there c, c .before .before .before .before .before .before .before .pre .0 .few-faces)
 
-sub-left : tie.Need-sub-left Inv-loop μ-loop
-sub-left c = c .before .before .before .before .loop-test .taken
+sub-after : tie.Need-sub-after Inv-loop μ-loop
+sub-after c = c .before .before .before .before .loop-test .taken
 
 loop-less : tie.Need-loop-less Inv-loop μ-loop
 loop-less c = omega (arith, c .before .before .before .before .loop-test .taken)
@@ -92,7 +95,7 @@ loop-again c =
     )
 
 returns-3 : tie.Need-returns-3 Inv-loop μ-loop
-returns-3 c = c .before .loop .inv
+returns-3 c = (c .before .loop .inv, λ h. absurd (h (omega (arith, c .loop-test .left))))
 
 pub narrow-spec : {M : Type 1} → statement M
 narrow-spec =
@@ -113,7 +116,7 @@ narrow-spec =
     mul-side-2
     shared-slice-read-side
     cast-side
-    sub-left
+    sub-after
     loop-less
     loop-again
     returns-3)

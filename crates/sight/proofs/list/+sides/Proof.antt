@@ -1,5 +1,5 @@
 -- The proof of the cycle of calls {sides}: each call has one side fewer to follow.
-use mathlib.Core.Path.{_≡_, subst, _∙_}
+use mathlib.Core.Path.{_≡_, refl, sym, subst, _∙_}
 use Prim.Native.Nat.{ℕ, _+_, _*_, _-_, _^_, _<_, _≤_}
 use native.Mathlib.Omega.{arith}
 use borrow.Fn.Kinds.{In}
@@ -8,7 +8,8 @@ use denote.Ref.{now}
 use lib.ListN.{length}
 use Rattle.fan.specs.Sight.{Sight, crossings}
 use Rattle.fan.specs.Sight.Sight.{both}
-use Rattle.expand.proofs.Expansion.{Room, room-for-the-second, same-written, both-written}
+use Rattle.expand.specs.Remains.{Remains}
+use Rattle.expand.proofs.Expansion.{Room, Written, all-remains, second-remains, none-remains, room-remains}
 use Rattle.sight.specs.CellTree.{side-tree, cell-tree}
 use Rattle.sight.proofs.CellTree.{the-last-side, one-side-and-more, room-for-a-side}
 use Rattle.sight.proofs.list.sides.Reads as sides
@@ -71,7 +72,9 @@ sides-same-length : (t : ℕ) → sides-lts.Need-same-length (sides-calls t) (si
 sides-same-length t c = c .before .before .before .cross .kept .1 .1 .0
 
 sides-returns : (t : ℕ) → sides-lts.Need-returns (sides-calls t) (sides-at t) sides.Post
-sides-returns t c = let s = c .before .before .before .before .before .before .before .before .before .before in same-written _ _ _ _ _ (the-last-side (now (s .args .seen)) (now (s .args .lines)) (now (s .args .faces)) (s .args .unentered) (s .args .f) (c .if1 .taken)) (c .before .before .before .cross .ensures)
+sides-returns t c =
+    let s = c .before .before .before .before .before .before .before .before .before .before in
+    subst (Written _ _ _ _ _) (sym (the-last-side (now (s .args .seen)) (now (s .args .lines)) (now (s .args .faces)) (s .args .unentered) (s .args .f) (c .if1 .taken))) (c .before .before .before .cross .ensures)
 
 -- what is followed after the first side
 abbrev rest : (t : ℕ) → sides-lts.Start (sides-calls t) (sides-at t) sides.Post → Sight
@@ -80,30 +83,30 @@ rest t s = cell-tree (now (s .args .seen)) (now (s .args .lines)) (now (s .args 
 is-both : (t : ℕ) (c : sides-lts.Else1 (sides-calls t) (sides-at t) sides.Post) → let s = c .before .before .before .before .before .before .before .before .before .before in all t s ≡ both (one t s) (rest t s)
 is-both t c = let s = c .before .before .before .before .before .before .before .before .before .before in one-side-and-more (now (s .args .seen)) (now (s .args .lines)) (now (s .args .faces)) (s .args .unentered) (s .args .f) (s .args .more) (c .if1 .left)
 
+-- the first side's line is followed to its rows
+rest-remains : (t : ℕ) (c : sides-lts.Else1 (sides-calls t) (sides-at t) sides.Post) →
+    let s = c .before .before .before .before .before .before .before .before .before .before in
+    let x = c .before .before .before .cross in
+    Remains (now (s .args .table)) (s .args .at) (all t s) (x .last .1 .1 .0) (s .args .at + 3 * x .result .rows) (x .result .rows) (x .result .crossings) (rest t s)
+rest-remains t c =
+    let s = c .before .before .before .before .before .before .before .before .before .before in
+    let x = c .before .before .before .cross in
+    second-remains _ _ _ _ _ _ _ (all-remains _ _ _ (s .args .at) refl (s .pre .1 .1 .1 .0)) (is-both t c) (x .ensures) (x .kept .1 .1 .0) (omega arith) (omega arith) refl
+
 rest-fits : (t : ℕ) (c : sides-lts.Else1 (sides-calls t) (sides-at t) sides.Post) →
     let s = c .before .before .before .before .before .before .before .before .before .before in
-    let x = c .before .before .before in
-    Room (s .args .at + 3 * x .cross .result .rows) (length (x .cross .last .1 .1 .0)) (rest t s)
-rest-fits t c =
-    let s = c .before .before .before .before .before .before .before .before .before .before in
-    let x = c .before .before .before in
-    room-for-the-second _ _ (is-both t c) (s .pre .1 .1 .1) (x .cross .ensures .0) (x .cross .kept .1 .1 .0)
-
-one-fits : (t : ℕ) (s : sides-lts.Start (sides-calls t) (sides-at t) sides.Post) → Room (s .args .at) (length (now (s .args .table))) (one t s)
-one-fits t s = room-for-a-side _ _ _ _ _ _ _ (s .args .more) (s .pre .1 .1 .1)
+    let x = c .before .before .before .cross in
+    Room (s .args .at + 3 * x .result .rows) (length (x .last .1 .1 .0)) (rest t s) × (x .result .crossings + crossings (rest t s) < 2 ^ 63)
+rest-fits t c = room-remains _ _ _ _ _ _ _ (rest-remains t c) (c .before .before .before .before .before .before .before .before .before .before .pre .1 .1 .1)
 
 some-follow : (t : ℕ) (c : sides-lts.Else1 (sides-calls t) (sides-at t) sides.Post) → 1 ≤ c .before .before .before .before .before .before .before .before .before .before .args .more
 some-follow t c = let none = c .if1 .left in omega arith
 
-both-few : (t : ℕ) (c : sides-lts.Else1 (sides-calls t) (sides-at t) sides.Post) → let s = c .before .before .before .before .before .before .before .before .before .before in crossings (one t s) + crossings (rest t s) < 2 ^ 63
-unfolding crossings
-both-few t c = let s = c .before .before .before .before .before .before .before .before .before .before in subst (λ (u : Sight). crossings u < 2 ^ 63) (is-both t c) (s .pre .1 .1 .1 .1 .1)
-
 sides-mul-after : (t : ℕ) → sides-lts.Need-mul-after (sides-calls t) (sides-at t) sides.Post
-sides-mul-after t c = omega (arith, rest-fits t (c .before) .1 .0, c .before .before .before .before .cross .kept .1 .1 .0)
+sides-mul-after t c = omega (arith, rest-fits t (c .before) .0 .1 .0, c .before .before .before .before .cross .kept .1 .1 .0)
 
 sides-add-after : (t : ℕ) → sides-lts.Need-add-after (sides-calls t) (sides-at t) sides.Post
-sides-add-after t c = omega (arith, rest-fits t (c .before) .1 .0, c .before .before .before .before .cross .kept .1 .1 .0)
+sides-add-after t c = omega (arith, rest-fits t (c .before) .0 .1 .0, c .before .before .before .before .cross .kept .1 .1 .0)
 
 sides-add-sides : (t : ℕ) → sides-lts.Need-add-sides (sides-calls t) (sides-at t) sides.Post
 sides-add-sides t c = omega (arith, there t (c .before .before .before .before .before .before .before .before .before .before .before .before))
@@ -114,21 +117,21 @@ sides-sub-sides t c = some-follow t (c .before .before)
 sides-sides-requires : (t : ℕ) → sides-lts.Need-sides-requires (sides-calls t) (sides-at t) sides.Post
 sides-sides-requires t c κs =
     let s = c .before .before .before .before .before .before .before .before .before .before .before .before in
-    (omega (arith, s .pre .0, some-follow t (c .before .before)), (s .pre .1 .0, (omega (arith, s .pre .1 .1 .0, some-follow t (c .before .before)), rest-fits t (c .before .before))))
+    (omega (arith, s .pre .0, some-follow t (c .before .before)), (s .pre .1 .0, (omega (arith, s .pre .1 .1 .0, some-follow t (c .before .before)), rest-fits t (c .before .before) .0)))
 
 sides-add-t15 : (t : ℕ) → sides-lts.Need-add-t15 (sides-calls t) (sides-at t) sides.Post
 sides-add-t15 t c =
     let s = c .before .before .before .before .before .before .before .before .before .before .before .before .before .before .before .before .before in
-    omega (arith, s .good .1 .1 .1 .0 .0, c .before .before .before .before .before .before .before .before .before .before .cross .kept .1 .1 .0, rest-fits t (c .before .before .before .before .before .before .before) .1 .0, c .before .before .before .before .sides .ensures .0)
+    omega (arith, s .good .1 .1 .1 .0 .0, c .before .before .before .before .before .before .before .before .before .before .cross .kept .1 .1 .0, rest-fits t (c .before .before .before .before .before .before .before) .0 .1 .0, c .before .before .before .before .sides .ensures .0)
 
 sides-add-t14 : (t : ℕ) → sides-lts.Need-add-t14 (sides-calls t) (sides-at t) sides.Post
-sides-add-t14 t c = omega (arith, one-fits t (c .before .before .before .before .before .before .before .before .before .before .before .before .before .before .before .before .before .before .before) .1 .1, c .before .before .before .before .before .before .before .before .before .before .before .before .cross .ensures .1 .0, both-few t (c .before .before .before .before .before .before .before .before .before), c .before .before .before .before .before .before .sides .ensures .1 .0)
+sides-add-t14 t c = omega (arith, rest-fits t (c .before .before .before .before .before .before .before .before .before) .1, c .before .before .before .before .before .before .sides .ensures .1 .0)
 
 sides-same-length-2 : (t : ℕ) → sides-lts.Need-same-length-2 (sides-calls t) (sides-at t) sides.Post
 sides-same-length-2 t c = c .before .before .before .before .before .before .sides .kept .1 .1 .1 .0 ∙ c .before .before .before .before .before .before .before .before .before .before .before .before .cross .kept .1 .1 .0
 
 sides-returns-2 : (t : ℕ) → sides-lts.Need-returns-2 (sides-calls t) (sides-at t) sides.Post
-sides-returns-2 t c = both-written _ _ _ _ _ _ (is-both t (c .before .before .before .before .before .before .before .before .before)) (c .before .before .before .before .before .before .before .before .before .before .before .before .cross .ensures) (c .before .before .before .before .before .before .sides .ensures)
+sides-returns-2 t c = none-remains _ _ _ _ _ _ _ (rest-remains t (c .before .before .before .before .before .before .before .before .before)) (c .before .before .before .before .before .before .sides .ensures) refl refl
 
 pub +sides-spec : {M : Type 1} → statement M
 +sides-spec =
