@@ -1,16 +1,16 @@
 -- Laws of the plane, written by tools/certificate.py from tools/plane.laws: change the laws there, not here.
 use mathlib.Core.Path.{_≡_}
 use mathlib.Core.List.{[], _∷_}
-use lib.IntN.{negℤ, _+ℤ_, _*ℤ_}
+use lib.IntN.{pos, negℤ, _+ℤ_, _*ℤ_}
 use lib.Signed.{_<ℤ_, _≤ℤ_}
 use Rattle.exact.proofs.Order.{𝟘}
 use Rattle.exact.proofs.Solver.{solve, _⊕_, _⊗_}
-use Rattle.exact.proofs.Solver.Expr.{var, neg}
+use Rattle.exact.proofs.Solver.Expr.{var, neg, lit}
 use Rattle.exact.proofs.Certificate.{prove, refute, _≺_, _≼_, _≈_, _⊞_, _⊠_}
 use Rattle.exact.proofs.Certificate.Cert.{given, square, by}
 use Rattle.exact.proofs.Certificate.Proof.{only, both}
 use Rattle.plane.specs.Side.{Point, side}
-use Rattle.plane.specs.Cone.{minus, plus, cross, dot, Holds, Between, Spanned, Cone, Beyond, Earlier}
+use Rattle.plane.specs.Cone.{minus, plus, cross, dot, Holds, Between, Spanned, Cone, Beyond, Earlier, Opposite}
 use Rattle.plane.proofs.Quote.{coordinates, pt, 𝟘ᵉ, minusᵉ, plusᵉ, crossᵉ, dotᵉ, sideᵉ}
 
 pub side-turns-with-its-corners : (a b c : Point) → side a b c ≡ side b c a
@@ -334,3 +334,76 @@ later-corner-is-left-of-a-right-ray a v p b t h₁ h₂ h₃ h₄ h₅ h₆ h₇
 pub left-turned-is-not-left : (u v : Point) → 𝟘 ≤ℤ cross u v → cross v u ≤ℤ 𝟘
 unfolding cross
 left-turned-is-not-left u v h₁ = prove (coordinates (u ∷ v ∷ [])) ((𝟘ᵉ ≼ crossᵉ (pt 0) (pt 1)) ∷ []) (crossᵉ (pt 1) (pt 0) ≼ 𝟘ᵉ) (only (given 0 ⊞ given 1)) tt h₁
+
+-- a stand strictly within a line: its two ends lie in opposite directions, whichever is named first
+pub opposite-turns : (a b : Point) → Opposite a b → Opposite b a
+unfolding cross dot
+opposite-turns a b h₁ =
+    record {
+      along = prove (coordinates (a ∷ b ∷ [])) ((crossᵉ (pt 0) (pt 1) ≈ 𝟘ᵉ) ∷ []) (crossᵉ (pt 1) (pt 0) ≈ 𝟘ᵉ) (both (given 0 ⊞ by (lit (pos 1)) (given 1)) (given 0 ⊞ by (neg (lit (pos 1))) (given 1))) (tt, tt) (h₁ .along);
+      apart = prove (coordinates (a ∷ b ∷ [])) ((dotᵉ (pt 0) (pt 1) ≺ 𝟘ᵉ) ∷ []) (dotᵉ (pt 1) (pt 0) ≺ 𝟘ᵉ) (only (given 0 ⊞ given 1)) tt (h₁ .apart);
+    }
+
+pub opposite-has-length : (a b : Point) → Opposite a b → 𝟘 <ℤ dot a a
+unfolding dot
+opposite-has-length a b h₁ = prove (coordinates (a ∷ b ∷ [])) ((dotᵉ (pt 0) (pt 1) ≺ 𝟘ᵉ) ∷ []) (𝟘ᵉ ≺ dotᵉ (pt 0) (pt 0)) (only (square (crossᵉ (pt 0) (pt 1)) ⊞ given 1 ⊠ given 1 ⊞ given 0 ⊠ square (var 2) ⊞ given 0 ⊠ square (var 3))) tt (h₁ .apart)
+
+-- no direction is left of one end and not right of the other
+pub not-left-of-both-ends : (a b d : Point) → Opposite a b → 𝟘 <ℤ cross b d → 𝟘 ≤ℤ cross a d → ⊥
+unfolding cross dot
+not-left-of-both-ends a b d h₁ h₂ h₃ = refute (coordinates (a ∷ b ∷ d ∷ [])) ((crossᵉ (pt 0) (pt 1) ≈ 𝟘ᵉ) ∷ (dotᵉ (pt 0) (pt 1) ≺ 𝟘ᵉ) ∷ (𝟘ᵉ ≺ crossᵉ (pt 1) (pt 2)) ∷ (𝟘ᵉ ≼ crossᵉ (pt 0) (pt 2)) ∷ []) (given 2 ⊠ given 3 ⊞ given 4 ⊠ square (var 2) ⊞ given 4 ⊠ square (var 3) ⊞ by (dotᵉ (pt 1) (pt 2)) (given 1)) tt (h₁ .along) (h₁ .apart) h₂ h₃
+
+pub left-of-one-end-is-right-of-the-other : (a b d : Point) → Opposite a b → 𝟘 <ℤ cross b d → 𝟘 <ℤ cross d a
+unfolding cross dot
+left-of-one-end-is-right-of-the-other a b d h₁ h₂ = prove (coordinates (a ∷ b ∷ d ∷ [])) ((crossᵉ (pt 0) (pt 1) ≈ 𝟘ᵉ) ∷ (dotᵉ (pt 0) (pt 1) ≺ 𝟘ᵉ) ∷ (𝟘ᵉ ≺ crossᵉ (pt 1) (pt 2)) ∷ []) (𝟘ᵉ ≺ crossᵉ (pt 2) (pt 0)) (only (given 2 ⊠ given 3 ⊞ given 0 ⊠ square (var 2) ⊞ given 0 ⊠ square (var 3) ⊞ by (dotᵉ (pt 1) (pt 2)) (given 1))) tt (h₁ .along) (h₁ .apart) h₂
+
+pub right-of-one-end-is-left-of-the-other : (a b d : Point) → Opposite a b → cross b d <ℤ 𝟘 → 𝟘 <ℤ cross a d
+unfolding cross dot
+right-of-one-end-is-left-of-the-other a b d h₁ h₂ = prove (coordinates (a ∷ b ∷ d ∷ [])) ((crossᵉ (pt 0) (pt 1) ≈ 𝟘ᵉ) ∷ (dotᵉ (pt 0) (pt 1) ≺ 𝟘ᵉ) ∷ (crossᵉ (pt 1) (pt 2) ≺ 𝟘ᵉ) ∷ []) (𝟘ᵉ ≺ crossᵉ (pt 0) (pt 2)) (only (given 2 ⊠ given 3 ⊞ given 0 ⊠ square (var 2) ⊞ given 0 ⊠ square (var 3) ⊞ by (neg (dotᵉ (pt 1) (pt 2))) (given 1))) tt (h₁ .along) (h₁ .apart) h₂
+
+pub along-one-end-is-along-the-other : (a b d : Point) → Opposite a b → 𝟘 <ℤ dot b b → cross d b ≡ 𝟘 → cross d a ≡ 𝟘
+unfolding cross dot
+along-one-end-is-along-the-other a b d h₁ h₂ h₃ = prove (coordinates (a ∷ b ∷ d ∷ [])) ((crossᵉ (pt 0) (pt 1) ≈ 𝟘ᵉ) ∷ (𝟘ᵉ ≺ dotᵉ (pt 1) (pt 1)) ∷ (crossᵉ (pt 2) (pt 1) ≈ 𝟘ᵉ) ∷ []) (crossᵉ (pt 2) (pt 0) ≈ 𝟘ᵉ) (both (given 0 ⊠ given 2 ⊞ by (dotᵉ (pt 1) (pt 2)) (given 1) ⊞ by (neg (dotᵉ (pt 0) (pt 1))) (given 3)) (given 0 ⊠ given 2 ⊞ by (neg (dotᵉ (pt 1) (pt 2))) (given 1) ⊞ by (dotᵉ (pt 0) (pt 1)) (given 3))) (tt, tt) (h₁ .along) h₂ h₃
+
+pub away-from-one-end-is-towards-the-other : (a b d : Point) → Opposite a b → cross d b ≡ 𝟘 → dot d b <ℤ 𝟘 → 𝟘 <ℤ dot d a
+unfolding cross dot
+away-from-one-end-is-towards-the-other a b d h₁ h₂ h₃ = prove (coordinates (a ∷ b ∷ d ∷ [])) ((crossᵉ (pt 0) (pt 1) ≈ 𝟘ᵉ) ∷ (dotᵉ (pt 0) (pt 1) ≺ 𝟘ᵉ) ∷ (dotᵉ (pt 2) (pt 1) ≺ 𝟘ᵉ) ∷ []) (𝟘ᵉ ≺ dotᵉ (pt 2) (pt 0)) (only (given 2 ⊠ given 3 ⊞ given 0 ⊠ square (var 2) ⊞ given 0 ⊠ square (var 3) ⊞ by (crossᵉ (pt 1) (pt 2)) (given 1))) tt (h₁ .along) (h₁ .apart) h₃
+
+-- a corner beyond a line that holds the stand is left of the ray to the line's left end
+pub beyond-a-line-is-left-of-its-left-end : (a b v : Point) → Opposite a b → Beyond b a v → 𝟘 <ℤ cross b v
+unfolding cross dot
+beyond-a-line-is-left-of-its-left-end a b v h₁ h₂ = prove (coordinates (a ∷ b ∷ v ∷ [])) ((crossᵉ (pt 0) (pt 1) ≈ 𝟘ᵉ) ∷ (dotᵉ (pt 0) (pt 1) ≺ 𝟘ᵉ) ∷ (𝟘ᵉ ≺ crossᵉ (pt 0) (pt 1) ⊕ crossᵉ (pt 1) (pt 2) ⊕ crossᵉ (pt 2) (pt 0)) ∷ []) (𝟘ᵉ ≺ crossᵉ (pt 1) (pt 2)) (only (given 0 ⊠ given 2 ⊞ given 2 ⊠ given 3 ⊞ given 0 ⊠ square (var 0) ⊞ given 0 ⊠ square (var 1) ⊞ by (neg (dotᵉ (pt 0) (pt 1))) (given 1) ⊞ by (dotᵉ (pt 0) (pt 2)) (given 1))) tt (h₁ .along) (h₁ .apart) (h₂ .beyond)
+
+-- the line from r to l has both ends of a line that holds the stand strictly on its left: so it has the stand
+pub sides-beyond-a-line-turn-left : (a b r l : Point) → Opposite a b → Beyond l r a → Beyond l r b → 𝟘 <ℤ cross r l
+unfolding cross dot
+sides-beyond-a-line-turn-left a b r l h₁ h₂ h₃ = prove (coordinates (a ∷ b ∷ r ∷ l ∷ [])) ((crossᵉ (pt 0) (pt 1) ≈ 𝟘ᵉ) ∷ (dotᵉ (pt 0) (pt 1) ≺ 𝟘ᵉ) ∷ (𝟘ᵉ ≺ crossᵉ (pt 2) (pt 3) ⊕ crossᵉ (pt 3) (pt 0) ⊕ crossᵉ (pt 0) (pt 2)) ∷ (𝟘ᵉ ≺ crossᵉ (pt 2) (pt 3) ⊕ crossᵉ (pt 3) (pt 1) ⊕ crossᵉ (pt 1) (pt 2)) ∷ []) (𝟘ᵉ ≺ crossᵉ (pt 2) (pt 3)) (only (given 0 ⊠ given 2 ⊞ given 2 ⊠ given 3 ⊞ given 0 ⊠ square (var 0) ⊞ given 0 ⊠ square (var 1) ⊞ given 4 ⊠ square (var 0) ⊞ given 4 ⊠ square (var 1) ⊞ by (neg (dotᵉ (pt 0) (pt 2))) (given 1) ⊞ by (dotᵉ (pt 0) (pt 3)) (given 1))) tt (h₁ .along) (h₁ .apart) (h₂ .beyond) (h₃ .beyond)
+
+pub the-side-after-a-line-turns-left : (a r l : Point) → Opposite a r → Beyond l r a → 𝟘 <ℤ cross r l
+unfolding cross dot
+the-side-after-a-line-turns-left a r l h₁ h₂ = prove (coordinates (a ∷ r ∷ l ∷ [])) ((crossᵉ (pt 0) (pt 1) ≈ 𝟘ᵉ) ∷ (dotᵉ (pt 0) (pt 1) ≺ 𝟘ᵉ) ∷ (𝟘ᵉ ≺ crossᵉ (pt 1) (pt 2) ⊕ crossᵉ (pt 2) (pt 0) ⊕ crossᵉ (pt 0) (pt 1)) ∷ []) (𝟘ᵉ ≺ crossᵉ (pt 1) (pt 2)) (only (given 0 ⊠ given 2 ⊞ given 2 ⊠ given 3 ⊞ given 0 ⊠ square (var 0) ⊞ given 0 ⊠ square (var 1) ⊞ by (neg (dotᵉ (pt 0) (pt 1))) (given 1) ⊞ by (dotᵉ (pt 0) (pt 2)) (given 1))) tt (h₁ .along) (h₁ .apart) (h₂ .beyond)
+
+pub the-side-before-a-line-turns-left : (b r l : Point) → Opposite l b → Beyond l r b → 𝟘 <ℤ cross r l
+unfolding cross dot
+the-side-before-a-line-turns-left b r l h₁ h₂ = prove (coordinates (b ∷ r ∷ l ∷ [])) ((crossᵉ (pt 2) (pt 0) ≈ 𝟘ᵉ) ∷ (dotᵉ (pt 2) (pt 0) ≺ 𝟘ᵉ) ∷ (𝟘ᵉ ≺ crossᵉ (pt 1) (pt 2) ⊕ crossᵉ (pt 2) (pt 0) ⊕ crossᵉ (pt 0) (pt 1)) ∷ []) (𝟘ᵉ ≺ crossᵉ (pt 1) (pt 2)) (only (given 0 ⊠ given 2 ⊞ given 2 ⊠ given 3 ⊞ given 0 ⊠ square (var 0) ⊞ given 0 ⊠ square (var 1) ⊞ by (dotᵉ (pt 0) (pt 1)) (given 1) ⊞ by (neg (dotᵉ (pt 0) (pt 2))) (given 1))) tt (h₁ .along) (h₁ .apart) (h₂ .beyond)
+
+-- what is seen by a line on or left of a ray is not right of that ray
+pub spanned-is-not-right : (u a b d : Point) → 𝟘 ≤ℤ cross u a → 𝟘 ≤ℤ cross u b → 𝟘 <ℤ cross a b → 𝟘 ≤ℤ cross a d → 𝟘 <ℤ cross d b → 𝟘 ≤ℤ cross u d
+unfolding cross
+spanned-is-not-right u a b d h₁ h₂ h₃ h₄ h₅ = prove (coordinates (u ∷ a ∷ b ∷ d ∷ [])) ((𝟘ᵉ ≼ crossᵉ (pt 0) (pt 1)) ∷ (𝟘ᵉ ≼ crossᵉ (pt 0) (pt 2)) ∷ (𝟘ᵉ ≺ crossᵉ (pt 1) (pt 2)) ∷ (𝟘ᵉ ≼ crossᵉ (pt 1) (pt 3)) ∷ (𝟘ᵉ ≺ crossᵉ (pt 3) (pt 2)) ∷ []) (𝟘ᵉ ≼ crossᵉ (pt 0) (pt 3)) (only (given 0 ⊠ given 3 ⊞ given 1 ⊠ given 5 ⊞ given 2 ⊠ given 4)) tt h₁ h₂ h₃ h₄ h₅
+
+pub spanned-from-the-left-is-left : (u a b d : Point) → 𝟘 <ℤ cross u a → 𝟘 ≤ℤ cross u b → 𝟘 <ℤ cross a b → 𝟘 ≤ℤ cross a d → 𝟘 <ℤ cross d b → 𝟘 <ℤ cross u d
+unfolding cross
+spanned-from-the-left-is-left u a b d h₁ h₂ h₃ h₄ h₅ = prove (coordinates (u ∷ a ∷ b ∷ d ∷ [])) ((𝟘ᵉ ≺ crossᵉ (pt 0) (pt 1)) ∷ (𝟘ᵉ ≼ crossᵉ (pt 0) (pt 2)) ∷ (𝟘ᵉ ≺ crossᵉ (pt 1) (pt 2)) ∷ (𝟘ᵉ ≼ crossᵉ (pt 1) (pt 3)) ∷ (𝟘ᵉ ≺ crossᵉ (pt 3) (pt 2)) ∷ []) (𝟘ᵉ ≺ crossᵉ (pt 0) (pt 3)) (only (given 0 ⊠ given 3 ⊞ given 1 ⊠ given 5 ⊞ given 2 ⊠ given 4)) tt h₁ h₂ h₃ h₄ h₅
+
+pub spanned-to-the-left-is-left : (u a b d : Point) → 𝟘 ≤ℤ cross u a → 𝟘 <ℤ cross u b → 𝟘 <ℤ cross a b → Holds a b d → 𝟘 <ℤ cross u d
+unfolding cross
+spanned-to-the-left-is-left u a b d h₁ h₂ h₃ h₄ = prove (coordinates (u ∷ a ∷ b ∷ d ∷ [])) ((𝟘ᵉ ≼ crossᵉ (pt 0) (pt 1)) ∷ (𝟘ᵉ ≺ crossᵉ (pt 0) (pt 2)) ∷ (𝟘ᵉ ≺ crossᵉ (pt 1) (pt 2)) ∷ (𝟘ᵉ ≺ crossᵉ (pt 1) (pt 3)) ∷ (𝟘ᵉ ≺ crossᵉ (pt 3) (pt 2)) ∷ []) (𝟘ᵉ ≺ crossᵉ (pt 0) (pt 3)) (only (given 0 ⊠ given 3 ⊞ given 1 ⊠ given 5 ⊞ given 2 ⊠ given 4)) tt h₁ h₂ h₃ (h₄ .right) (h₄ .left)
+
+pub left-of-the-other-end-is-right : (a b v : Point) → Opposite a b → 𝟘 <ℤ cross a v → cross b v <ℤ 𝟘
+unfolding cross dot
+left-of-the-other-end-is-right a b v h₁ h₂ = prove (coordinates (a ∷ b ∷ v ∷ [])) ((crossᵉ (pt 0) (pt 1) ≈ 𝟘ᵉ) ∷ (dotᵉ (pt 0) (pt 1) ≺ 𝟘ᵉ) ∷ (𝟘ᵉ ≺ crossᵉ (pt 0) (pt 2)) ∷ []) (crossᵉ (pt 1) (pt 2) ≺ 𝟘ᵉ) (only (given 2 ⊠ given 3 ⊞ given 0 ⊠ square (var 0) ⊞ given 0 ⊠ square (var 1) ⊞ by (neg (dotᵉ (pt 0) (pt 2))) (given 1))) tt (h₁ .along) (h₁ .apart) h₂
+
+pub a-ray-along-a-line-has-one-side-left : (u d b c : Point) → cross u d ≡ 𝟘 → 𝟘 <ℤ cross u b → 𝟘 <ℤ cross d b → cross u c <ℤ 𝟘 → 𝟘 <ℤ cross d c → ⊥
+unfolding cross
+a-ray-along-a-line-has-one-side-left u d b c h₁ h₂ h₃ h₄ h₅ = refute (coordinates (u ∷ d ∷ b ∷ c ∷ [])) ((crossᵉ (pt 0) (pt 1) ≈ 𝟘ᵉ) ∷ (𝟘ᵉ ≺ crossᵉ (pt 0) (pt 2)) ∷ (𝟘ᵉ ≺ crossᵉ (pt 1) (pt 2)) ∷ (crossᵉ (pt 0) (pt 3) ≺ 𝟘ᵉ) ∷ (𝟘ᵉ ≺ crossᵉ (pt 1) (pt 3)) ∷ []) (given 2 ⊠ given 5 ⊞ given 3 ⊠ given 4 ⊞ by (crossᵉ (pt 2) (pt 3)) (given 1)) tt h₁ h₂ h₃ h₄ h₅

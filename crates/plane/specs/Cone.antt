@@ -58,3 +58,8 @@ pub record Beyond (a b v : Point) : Type 0 where
 -- the ray d crosses the line from a to b at the time (a×b) / (a×d + d×b): before the line from a′ to b′, cross-multiplied
 pub record Earlier (d a b a′ b′ : Point) : Type 0 where
   pub earlier : (cross a b *ℤ (cross a′ d +ℤ cross d b′)) <ℤ (cross a′ b′ *ℤ (cross a d +ℤ cross d b))
+
+-- a and b lie in opposite directions: the stand is strictly within the line from one to the other
+pub record Opposite (a b : Point) : Type 0 where
+  pub along : cross a b ≡ pos 0
+  pub apart : dot a b <ℤ pos 0
