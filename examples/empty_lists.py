@@ -47,7 +47,7 @@ def main(library):
     expect(ROOM, none, "read", *FILE, *NULL, *NULL, *NULL)
     expect(0, [4, 2, 0, TRIANGLES, 12], "read", *FILE, *PLAN, *NULL)
     for form, stand in STANDS.items():
-        expect(0, none, f"find_{form}", *PLAN, *NULL, KIND, *stand)
+        expect(0, none, f"find_{form}", *PLAN, *NULL, KIND, SETTING, *stand)
         expect(ROOM, none, f"list_{form}", *PLAN, *NULL, KIND, SETTING, *stand, *NULL)
         expect(0, listed, f"list_{form}", *PLAN, *NULL, KIND, SETTING, *stand, *TABLE)
         change = f"change_{form}", *PLAN, *ONE_DOOR, KIND, SETTING, *stand, *NULL, DOOR, SHUT

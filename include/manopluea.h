@@ -59,7 +59,7 @@ extern "C" {
 #endif
 
 /* Counts up where a function, a number or a promise of this header changes. */
-#define MANOPLUEA_VERSION 3
+#define MANOPLUEA_VERSION 4
 
 /* The limits of a plan. A coordinate lies between -MANOPLUEA_MOST_COORDINATE and MANOPLUEA_MOST_COORDINATE. */
 #define MANOPLUEA_LEAST_CORNERS 3
@@ -116,7 +116,8 @@ enum manopluea_number {
     MANOPLUEA_DOOR = 6,      /* its face does not exist or is wall, or an earlier door names the line; least door */
     MANOPLUEA_SETTING = 7,   /* a bit at or above the door count */
     MANOPLUEA_STAND = 8,     /* number or corner not accepted */
-    MANOPLUEA_LINE = 9,      /* strictly inside no cell, on some cell's border */
+    MANOPLUEA_LINE = 9,      /* on some cell's border, strictly inside no cell and strictly within no free side; for
+                                the door change, also a door whose line the stand is strictly within */
     MANOPLUEA_OUTSIDE = 10,  /* inside or on no cell */
     MANOPLUEA_ROOM = 11,     /* a table below 3*corners numbers, or for a morning below 3*corners*stands; replies below
                                 3*stands; a file or a list below what is written; a text below MANOPLUEA_TEXT */
@@ -150,8 +151,17 @@ void manopluea_write(const int32_t *corners, size_t corners_length,
                      uint8_t *file, size_t file_length,
                      uint64_t *reply, size_t reply_length);
 
-/* Finding. Replies 0 to 6 and 8 to 10. On 0 the first value is the stand's cell: the least-numbered cell that holds
- * it strictly inside, which is strictly left of every side. Writes to the reply only.
+/* Finding. Replies 0 to 10. On 0 the first value is the stand's cell. The second is 0 where the stand is strictly
+ * inside that cell and 1 where it is strictly within a side of it; the third is the number of that side in its cell,
+ * and 0 where the stand is inside. Writes to the reply only.
+ *
+ * A stand that some cell holds strictly inside, which is strictly left of every side, is inside the least-numbered such
+ * cell. Any other stand that is strictly within a free side, which is on its line and strictly between its two ends, is
+ * on the least such side of the least-numbered cell that has one. Any other stand on a border is refused with 9: on a
+ * corner, on a wall, or on the line of a shut door.
+ *
+ * Bit i of the setting is one while door i is shut; both faces of a shut door count as wall. A side is free where its
+ * neighbour is a cell and no shut door is on its line.
  *
  * The stand is a point, or an offset from a corner, in millimetres. A number is accepted exactly when it is a whole
  * number of millimetres within the coordinate limits; minus zero reads as 0. For an offset the corner must exist, and
@@ -159,21 +169,23 @@ void manopluea_write(const int32_t *corners, size_t corners_length,
 void manopluea_find_point(const int32_t *corners, size_t corners_length,
                           const uint16_t *cells, size_t cells_length,
                           const uint16_t *doors, size_t doors_length, uint16_t kind,
-                          double x, double y,
+                          uint64_t setting, double x, double y,
                           uint64_t *reply, size_t reply_length);
 
 void manopluea_find_offset(const int32_t *corners, size_t corners_length,
                            const uint16_t *cells, size_t cells_length,
                            const uint16_t *doors, size_t doors_length, uint16_t kind,
-                           uint16_t corner, double dx, double dy,
+                           uint64_t setting, uint16_t corner, double dx, double dy,
                            uint64_t *reply, size_t reply_length);
 
 /* The listing. Replies 0 to 11. On 0 the first two values are row count and crossings, and the table holds three
  * numbers a row from its beginning on: face (on the side seen), right limit, left limit. Rows never outnumber
  * corners.
  *
- * Bit i of the setting is one while door i is shut; both faces of a shut door count as wall. The stand is as for
- * finding. */
+ * Setting and stand are as for finding. From a stand strictly inside a cell, the sides of that cell are followed to
+ * their rows in order. From a stand strictly within a free side, the other sides of the cell found are followed in
+ * order after it, then the other sides of the neighbour likewise, in order after its own side of that line. The line
+ * stood on is not counted as crossed. */
 void manopluea_list_point(const int32_t *corners, size_t corners_length,
                           const uint16_t *cells, size_t cells_length,
                           const uint16_t *doors, size_t doors_length, uint16_t kind,
@@ -202,7 +214,7 @@ void manopluea_list_offset(const int32_t *corners, size_t corners_length,
  * crossings. The table holds the rows of all stands from its beginning on, one stand after another in the order given.
  * A refused stand has counts 0 and no row, and stops no other. The first two values are the sums of the row counts and
  * of the crossings. Each stand's reply, counts and rows are those of the listing from it, with a table of 3*corners
- * numbers. */
+ * numbers, wherever it is: strictly inside a cell, or strictly within a free side. */
 void manopluea_list_stands(const int32_t *corners, size_t corners_length,
                            const uint16_t *cells, size_t cells_length,
                            const uint16_t *doors, size_t doors_length, uint16_t kind,
@@ -215,7 +227,11 @@ void manopluea_list_stands(const int32_t *corners, size_t corners_length,
 /* The door change. Replies 0 to 13. The given list is the one that is true under the setting, three numbers a row; a
  * list that differs from it in length or any number is refused with 13, and a door that does not exist or is already
  * as wished with 12. On 0 the values and the table are those of the listing with that door shut or open as wished.
- * The given list and the table do not overlap. */
+ * The given list and the table do not overlap.
+ *
+ * From a stand that is found strictly within a side, a door that exists and whose line holds the stand strictly within
+ * is refused with 9, also where it is already as wished: that is before the room, the state of the door and the given
+ * list are looked at. From a stand strictly inside a cell no door is refused so. */
 void manopluea_change_point(const int32_t *corners, size_t corners_length,
                             const uint16_t *cells, size_t cells_length,
                             const uint16_t *doors, size_t doors_length, uint16_t kind,

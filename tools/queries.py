@@ -44,7 +44,8 @@ def inputs():
         "runs/offset_from_corner_2_with_the_door_shut.in": offset(2, -4, -7, setting=1) + plan(),
         "runs/refused_cut_off_query.in": point(6, 3)[:-1],
         "runs/refused_cell_0_turned.in": point(6, 3) + plan(cells=[(0, 2, 1, WALL, WALL, 1), CELLS[1]]),
-        "runs/refused_stand_on_a_line.in": point(5, 5) + plan(),
+        "runs/refused_stand_on_a_line.in": point(5, 5, setting=1) + plan(),
+        "runs/stand_in_the_doorway.in": point(5, 5) + plan(),
     }
 
 

@@ -108,10 +108,10 @@ static void serve_one(void)
         manopluea_write(corners, n, cells, m, doors, k, kind, file, f, reply, r);
         break;
     case FIND_POINT:
-        manopluea_find_point(corners, n, cells, m, doors, k, kind, asked.x, asked.y, reply, r);
+        manopluea_find_point(corners, n, cells, m, doors, k, kind, asked.setting, asked.x, asked.y, reply, r);
         break;
     case FIND_OFFSET:
-        manopluea_find_offset(corners, n, cells, m, doors, k, kind, corner, asked.x, asked.y, reply, r);
+        manopluea_find_offset(corners, n, cells, m, doors, k, kind, asked.setting, corner, asked.x, asked.y, reply, r);
         break;
     case LIST_POINT:
         manopluea_list_point(corners, n, cells, m, doors, k, kind, asked.setting, asked.x, asked.y, table, t, reply, r);

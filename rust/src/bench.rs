@@ -182,7 +182,7 @@ fn calls_of<'a>(floor: &'a Floor, calls: &'a dyn Calls) -> [Call<'a>; 5] {
     calls_on(
         floor,
         |lists| calls.check(lists),
-        |lists, stand| calls.find(lists, stand),
+        |lists, setting, stand| calls.find(lists, setting, stand),
         |lists, setting, stand, table| calls.list(lists, setting, stand, table),
         |lists, change, table| calls.change(lists, change, table),
     )
@@ -193,7 +193,7 @@ fn calls_of<'a>(floor: &'a Floor, calls: &'a dyn Calls) -> [Call<'a>; 5] {
 fn calls_on<'a, Checked, Found, Listed>(
     floor: &'a Floor,
     check: impl Fn(Lists<'a>) -> Checked + 'a,
-    find: impl Fn(Lists<'a>, Stand) -> Found + 'a,
+    find: impl Fn(Lists<'a>, u64, Stand) -> Found + 'a,
     list: impl Fn(Lists<'a>, u64, Stand, &mut [u16]) -> Listed + Copy + 'a,
     change: impl Fn(Lists<'a>, DoorChange<'a>, &mut [u16]) -> Listed + 'a,
 ) -> [Call<'a>; 5] {
@@ -217,7 +217,7 @@ fn calls_on<'a, Checked, Found, Listed>(
             black_box(check(lists));
         }),
         Box::new(move || {
-            black_box(find(lists, stand));
+            black_box(find(lists, 0, stand));
         }),
         Box::new(list_under(0)),
         Box::new(list_under(1 << floor.door)),
@@ -264,7 +264,7 @@ fn merged_of<'a>(floor: &'a Floor, calls: &'a dyn Calls) -> [Call<'a>; 6] {
     merged_on(
         floor,
         |lists| calls.check(lists),
-        |lists, stand| calls.find(lists, stand),
+        |lists, setting, stand| calls.find(lists, setting, stand),
         |lists, setting, stand, table| calls.list(lists, setting, stand, table),
     )
 }
@@ -273,7 +273,7 @@ fn merged_of<'a>(floor: &'a Floor, calls: &'a dyn Calls) -> [Call<'a>; 6] {
 fn merged_on<'a, Checked, Found, Listed>(
     floor: &'a Floor,
     check: impl Fn(Lists<'a>) -> Checked + Copy + 'a,
-    find: impl Fn(Lists<'a>, Stand) -> Found + Copy + 'a,
+    find: impl Fn(Lists<'a>, u64, Stand) -> Found + Copy + 'a,
     list: impl Fn(Lists<'a>, u64, Stand, &mut [u16]) -> Listed + Copy + 'a,
 ) -> [Call<'a>; 6] {
     let on = |plan: &'a Plan| -> [Call<'a>; 3] {
@@ -284,7 +284,7 @@ fn merged_on<'a, Checked, Found, Listed>(
                 black_box(check(lists));
             }),
             Box::new(move || {
-                black_box(find(lists, stand));
+                black_box(find(lists, 0, stand));
             }),
             Box::new(move || {
                 black_box(list(lists, 0, stand, &mut table));

@@ -85,8 +85,9 @@ pub struct DoorChange<'a> {
 /// A refusal has the values 0.
 ///
 /// Values of reply 0: corners, cells, doors (check, read, write), and then the
-/// kind that was read (read); the cell (find); rows, crossings (list, change);
-/// their sums (list_stands). Those that a call has no use for are 0.
+/// kind that was read (read); the cell, 1 where the stand is within a side of it,
+/// and that side (find); rows, crossings (list, change); their sums
+/// (list_stands). Those that a call has no use for are 0.
 #[derive(Clone, Copy, Debug, PartialEq, Eq)]
 pub struct Reply {
     pub number: u32,
@@ -201,7 +202,7 @@ pub trait Calls: Sync {
 
     fn write(&self, lists: Lists<'_>, file: &mut [u8]) -> Reply;
 
-    fn find(&self, lists: Lists<'_>, stand: Stand) -> Reply;
+    fn find(&self, lists: Lists<'_>, setting: u64, stand: Stand) -> Reply;
 
     /// Three numbers a row go into the table: face, right limit, left limit.
     fn list(&self, lists: Lists<'_>, setting: u64, stand: Stand, table: &mut [u16]) -> Reply;

@@ -35,6 +35,19 @@ pub struct Tally {
     pub either: u64,
     pub rows: u64,
     pub crossings: u64,
+    pub sides: Sides,
+}
+
+/// How often stands on a side came up.
+#[derive(Clone, Copy, Debug, Default, PartialEq, Eq)]
+pub struct Sides {
+    /// In finding.
+    pub found: u64,
+    /// Of the directions of demand 2, and of the door changes of demand 3.
+    pub directions: u64,
+    pub changes: u64,
+    /// Changes refused because the stand is strictly within the door's line.
+    pub own_doors: u64,
 }
 
 /// The public calls, in the order of the tally.
@@ -102,6 +115,10 @@ impl Tally {
         self.either += other.either;
         self.rows += other.rows;
         self.crossings += other.crossings;
+        self.sides.found += other.sides.found;
+        self.sides.directions += other.sides.directions;
+        self.sides.changes += other.sides.changes;
+        self.sides.own_doors += other.sides.own_doors;
         self
     }
 
@@ -144,6 +161,13 @@ impl fmt::Display for Tally {
         writeln!(f, "rows {} crossings {}", self.rows, self.crossings)?;
         writeln!(f, "demand 2: {} directions", self.directions)?;
         writeln!(f, "demand 3: {} door changes", self.changes)?;
+        let sides = &self.sides;
+        writeln!(
+            f,
+            "on a side: {} stands found, {} of the directions, {} of the door changes; {} changes of \
+             a door there refused",
+            sides.found, sides.directions, sides.changes, sides.own_doors
+        )?;
         writeln!(f, "in either kind: {} plans of triangles", self.either)
     }
 }

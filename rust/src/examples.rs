@@ -1,4 +1,5 @@
-//! The twelve measured examples of document 01, and plan Q in larger cells.
+//! The twelve measured examples of document 01, h as request A4 of document 02 has
+//! it, and plan Q in larger cells.
 
 use crate::calls::{Calls, Plan, Stand, POLYGONS, TRIANGLES};
 use crate::paper::{Row, WALL};
@@ -69,7 +70,8 @@ pub fn all() -> Vec<Example> {
     let q = plan_q;
     let at = Stand::Point;
     let beside = at(6.0, 3.0);
-    let a = listed(&[[0, 0, 1], [1, 1, 2], [4, 2, 3], [5, 3, 0]], 1);
+    let seen_from_a = [[0, 0, 1], [1, 1, 2], [4, 2, 3], [5, 3, 0]];
+    let a = listed(&seen_from_a, 1);
     let b = listed(&[[0, 0, 1], [1, 1, 2], [2, 2, 0]], 0);
     let d = [[0, 0, 1], [1, 1, 2], [7, 2, 4], [8, 4, 3], [5, 3, 0]];
     let e = listed(&[[0, 0, 1], [1, 1, 2], [7, 2, 3], [5, 3, 0]], 2);
@@ -83,7 +85,7 @@ pub fn all() -> Vec<Example> {
         ('e', plan_q_and([-6, 17]), beside, 0, e),
         ('f', plan_q_and([14, 17]), beside, 0, f.clone()),
         ('g', plan_q_and([30, 11]), beside, 0, f),
-        ('h', q(), at(5.0, 5.0), 0, refused(9)),
+        ('h', q(), at(5.0, 5.0), 0, listed(&seen_from_a, 0)),
         ('i', q(), at(11.0, 5.0), 0, refused(10)),
         ('j', q(), at(6.5, 3.0), 0, refused(8)),
         ('k', q(), at(6.0, -0.0), 0, refused(9)),

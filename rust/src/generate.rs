@@ -5,6 +5,7 @@ mod damage;
 mod dice;
 mod extremes;
 mod floors;
+mod lines;
 mod merge;
 mod mesh;
 mod morning;
@@ -12,7 +13,8 @@ mod stands;
 
 pub use dice::Dice;
 pub use extremes::{fullest, longest_fans, most_splits};
-pub use floors::{cathedral, corridor, deepest, fence, largest};
+pub use floors::{cathedral, corridor, deepest, fence, largest, spot_at, steps_between};
+pub use lines::{Lines, OnLine};
 pub use merge::{in_other_kind, Merged};
 pub use mesh::{Mesh, Spot};
 pub use stands::inside;
@@ -114,13 +116,25 @@ const LARGEST_EVERY: usize = 400;
 /// One in so many cases is filled up to a limit of corners or cells.
 const FULL_EVERY: usize = 300;
 
+/// So many cases in a hundred have stands on lines of the plan.
+const ON_LINES: usize = 30;
+
 /// The case with this number in the run with this seed.
 pub fn case(seed: u64, number: u64) -> Case {
     let dice = &mut Dice::for_case(seed, number);
-    // The morning has dice of its own, so that all else that a seed gives is
-    // what it gave before there were mornings.
+    // The morning has dice of its own, and so have stands on lines: all else is
+    // what a seed gave before there were mornings, and a case without stands on
+    // lines is what it gave before there were those.
     let aside = &mut Dice::for_case(!seed, number);
+    let other = &mut Dice::for_case(seed ^ 1 << 63, number);
     let mut mesh = floor(dice);
+    let on_lines = other.percent(ON_LINES);
+    if on_lines && other.percent(40) {
+        mesh = floors::with_lines(other);
+    }
+    if on_lines && other.percent(70) {
+        floors::spread(&mut mesh, other);
+    }
     let mut stand = stands::random(&mesh, dice);
     let mut stands = morning::random(&mesh, aside);
     if dice.percent(15) {
@@ -130,12 +144,34 @@ pub fn case(seed: u64, number: u64) -> Case {
         morning::map(&mut stands, &map);
     }
     let mut plan = plan(&mesh, dice);
-    let directions = directions(&mesh, stand, dice);
+    let lines = on_lines.then(|| Lines::new(&plan));
+    let on_line = lines.as_ref().and_then(|lines| lines.random(other));
+    if let Some(OnLine { at, .. }) = on_line {
+        stand = stands::as_stand(&mesh, at, other);
+    }
+    if let Some(lines) = lines {
+        morning::put_on_lines(&mut stands, &mesh, &lines, other);
+    }
+    let mut directions = directions(&mesh, stand, dice);
+    if let Some(OnLine { at, ends, .. }) = on_line {
+        directions.extend(ends.map(|end| just_beside(at, end, other)));
+        directions.retain(|d| (d.x, d.y) != (0, 0));
+    }
     if dice.percent(20) {
         damage::damage_plan(&mut plan, dice);
     }
-    let setting = setting(plan.doors.len(), dice);
-    let (door, shut) = wish(plan.doors.len(), setting, dice);
+    let mut setting = setting(plan.doors.len(), dice);
+    let (mut door, mut shut) = wish(plan.doors.len(), setting, dice);
+    // Damage can leave fewer doors.
+    let own = on_line.and_then(|on_line| on_line.door);
+    if let Some(own) = own.filter(|&own| own < plan.doors.len().min(64)) {
+        if other.percent(20) {
+            setting ^= 1 << own;
+        }
+        if other.percent(40) {
+            (door, shut) = (own, other.percent(50));
+        }
+    }
     let scene = Scene {
         plan,
         setting,
@@ -317,9 +353,15 @@ fn direction(mesh: &Mesh, q: Spot, dice: &mut Dice) -> Direction {
             y: dice.between(-size, size),
         };
     }
-    // So far beyond the corner, a unit more or less passes just beside it.
-    let far = 1 << 30;
     let c = dice.pick(&mesh.corners);
+    just_beside(q, c, dice)
+}
+
+/// A direction from one spot that passes another as closely as can be, or meets
+/// it.
+fn just_beside(q: Spot, c: Spot, dice: &mut Dice) -> Direction {
+    // So far beyond the spot, a unit more or less passes just beside it.
+    let far = 1 << 30;
     Direction {
         x: (c[0] - q[0]) * far + dice.between(-1, 1),
         y: (c[1] - q[1]) * far + dice.between(-1, 1),

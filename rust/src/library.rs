@@ -30,6 +30,14 @@ pub struct Listed {
     pub crossings: u64,
 }
 
+/// Where a stand is: strictly inside a cell, or strictly within a side of it that
+/// is free.
+#[derive(Clone, Copy, Debug, PartialEq, Eq)]
+pub enum Footing {
+    Inside { cell: usize },
+    Side { cell: usize, side: usize },
+}
+
 fn counts(reply: Reply) -> Result<Counts, Refusal> {
     let [corners, cells, doors, ..] = reply.answer()?.map(|count| count as usize);
     Ok(Counts {
@@ -73,10 +81,14 @@ pub fn write(lists: Lists<'_>, file: &mut [u8]) -> Result<Counts, Refusal> {
     counts(Proved.write(lists, file))
 }
 
-/// The stand's cell.
-pub fn find(lists: Lists<'_>, stand: Stand) -> Result<usize, Refusal> {
-    let [cell, ..] = Proved.find(lists, stand).answer()?;
-    Ok(cell as usize)
+/// Where the stand is.
+pub fn find(lists: Lists<'_>, setting: u64, stand: Stand) -> Result<Footing, Refusal> {
+    let reply = Proved.find(lists, setting, stand);
+    let [cell, on_side, side, ..] = reply.answer()?.map(|value| value as usize);
+    Ok(match on_side {
+        0 => Footing::Inside { cell },
+        _ => Footing::Side { cell, side },
+    })
 }
 
 /// The listing: three numbers a row, from the beginning of the table.
@@ -221,13 +233,23 @@ mod tests {
     #[test]
     fn a_refusal_has_its_place() {
         let mut plan = plan_q();
-        assert_eq!(find(plan.lists(), Stand::Point(6.0, 3.0)), Ok(0));
+        let found = find(plan.lists(), 2, Stand::Point(0.5, 0.0));
+        assert_eq!(found, Err(Refusal::Setting));
         plan.doors.push(3);
         assert_eq!(check(plan.lists()), Err(Refusal::Door(1)));
         plan.cells[6..9].reverse();
         assert_eq!(check(plan.lists()), Err(Refusal::Cell(1)));
         plan.corners[5] = 536_870_913;
         assert_eq!(check(plan.lists()), Err(Refusal::Corner(2)));
+    }
+
+    #[test]
+    fn a_stand_is_inside_a_cell_or_on_a_side() {
+        let plan = plan_q();
+        let at = |setting, x, y| find(plan.lists(), setting, Stand::Point(x, y));
+        assert_eq!(at(0, 3.0, 6.0), Ok(Footing::Inside { cell: 1 }));
+        assert_eq!(at(0, 5.0, 5.0), Ok(Footing::Side { cell: 0, side: 2 }));
+        assert_eq!(at(1, 5.0, 5.0), Err(Refusal::Line));
     }
 
     /// Offsets are told from points, whatever their corner; a stand that is

@@ -20,6 +20,7 @@ pub use plan::{cut_cells, Cell, Floor, Point, CELLS, COORDINATES, CORNERS, DOORS
 pub use printing::{print, query, MOST_INPUT};
 pub use runs::change_by_runs;
 pub use sight::{Direction, Listing, Row, View, Walk};
+pub use stand::{is_within, millimetres, Place};
 
 use crate::calls::{Calls, DoorChange, Lists, Refusal, Reply, Stand, Values};
 use morning::Morning;
@@ -46,8 +47,8 @@ impl Calls for Paper {
         write(lists, file)
     }
 
-    fn find(&self, lists: Lists<'_>, stand: Stand) -> Reply {
-        find(lists, stand)
+    fn find(&self, lists: Lists<'_>, setting: u64, stand: Stand) -> Reply {
+        find(lists, setting, stand)
     }
 
     fn list(&self, lists: Lists<'_>, setting: u64, stand: Stand, table: &mut [u16]) -> Reply {
@@ -86,8 +87,8 @@ pub fn write(lists: Lists<'_>, file: &mut [u8]) -> Reply {
     reply(write_checked(lists, file))
 }
 
-pub fn find(lists: Lists<'_>, stand: Stand) -> Reply {
-    reply(find_checked(lists, stand))
+pub fn find(lists: Lists<'_>, setting: u64, stand: Stand) -> Reply {
+    reply(find_checked(lists, setting, stand))
 }
 
 pub fn list(lists: Lists<'_>, setting: u64, stand: Stand, table: &mut [u16]) -> Reply {
@@ -147,11 +148,16 @@ fn write_checked(lists: Lists<'_>, file: &mut [u8]) -> Result<Values, Refusal> {
     Ok(counts(&floor))
 }
 
-fn find_checked(lists: Lists<'_>, stand: Stand) -> Result<Values, Refusal> {
+fn find_checked(lists: Lists<'_>, setting: u64, stand: Stand) -> Result<Values, Refusal> {
     let floor = Floor::check(lists)?;
-    let q = stand::millimetres(&floor, stand)?;
-    let cell = stand::cell_of(&floor, q)?;
-    Ok([cell as u64, 0, 0, 0, 0])
+    let [cell, on_side, side] = match View::new(&floor, setting, stand)?.place() {
+        Place::Inside(cell) => [cell, 0, 0],
+        Place::Within(face) => {
+            let cell = floor.cell_with(face);
+            [cell, 1, usize::from(face - floor.faces(cell).start)]
+        }
+    };
+    Ok([cell as u64, on_side as u64, side as u64, 0, 0])
 }
 
 fn list_checked(
@@ -180,6 +186,9 @@ fn change_checked(
     } = asked;
     let floor = Floor::check(lists)?;
     let before = View::new(&floor, setting, stand)?;
+    if before.is_in_doorway(door) {
+        return Err(Refusal::Line);
+    }
     room_for_rows(&floor, table)?;
     if door >= floor.doors().len() || (setting >> door & 1 == 1) == shut {
         return Err(Refusal::Change);

@@ -35,6 +35,13 @@ pub struct Plan<'a> {
     backs: Vec<u16>,
 }
 
+/// Where a stand is: strictly inside a cell, or strictly within a free side of it.
+#[derive(Clone, Copy, Debug, PartialEq, Eq)]
+pub enum Footing {
+    Inside { cell: usize },
+    Side { cell: usize, side: usize },
+}
+
 /// Row count and crossings.
 #[derive(Clone, Copy, Debug, Default, PartialEq, Eq)]
 pub struct Counts {
@@ -64,9 +71,11 @@ fn is_outside(corner: [i32; 2]) -> bool {
         .any(|&number| !COORDINATES.contains(&i64::from(number)))
 }
 
-pub fn find(lists: Lists<'_>, stand: Stand) -> Result<usize, Refusal> {
-    let (_, cell) = check(lists)?.find(stand)?;
-    Ok(cell)
+pub fn find(lists: Lists<'_>, setting: u64, stand: Stand) -> Result<Footing, Refusal> {
+    let plan = check(lists)?;
+    plan.check_setting(setting)?;
+    let (_, footing) = plan.find(setting, stand)?;
+    Ok(footing)
 }
 
 pub fn list(
@@ -76,8 +85,10 @@ pub fn list(
     table: &mut [u16],
 ) -> Result<Counts, Refusal> {
     let plan = check(lists)?;
-    let (q, cell) = plan.view(setting, stand, table)?;
-    Ok(plan.list_from(&plan.lines(setting), q, cell, table))
+    plan.check_setting(setting)?;
+    let (q, footing) = plan.find(setting, stand)?;
+    plan.check_room(table)?;
+    Ok(plan.list_from(&plan.lines(setting), q, footing, table))
 }
 
 pub fn list_stands(
@@ -107,10 +118,10 @@ pub fn list_stands(
     for (&numbers, reply) in stands.iter().zip(replies) {
         let found = stand_of(numbers)
             .ok_or(Refusal::Stand)
-            .and_then(|stand| plan.find(stand));
+            .and_then(|stand| plan.find(setting, stand));
         *reply = match found {
-            Ok((q, cell)) => {
-                let counts = plan.list_from(&lines, q, cell, &mut table[3 * sums.rows..]);
+            Ok((q, footing)) => {
+                let counts = plan.list_from(&lines, q, footing, &mut table[3 * sums.rows..]);
                 sums.rows += counts.rows;
                 sums.crossings += counts.crossings;
                 [0, counts.rows as u64, counts.crossings]
@@ -127,17 +138,22 @@ pub fn change(
     table: &mut [u16],
 ) -> Result<Counts, Refusal> {
     let plan = check(lists)?;
-    let (q, cell) = plan.view(asked.setting, asked.stand, table)?;
+    plan.check_setting(asked.setting)?;
+    let (q, footing) = plan.find(asked.setting, asked.stand)?;
+    if plan.is_in_doorway(q, footing, asked.door) {
+        return Err(Refusal::Line);
+    }
+    plan.check_room(table)?;
     if asked.door >= plan.doors.len() || (asked.setting >> asked.door & 1 == 1) == asked.shut {
         return Err(Refusal::Change);
     }
     let mut old = vec![0; 3 * plan.corners.len()];
-    let Counts { rows, .. } = plan.list_from(&plan.lines(asked.setting), q, cell, &mut old);
+    let Counts { rows, .. } = plan.list_from(&plan.lines(asked.setting), q, footing, &mut old);
     if old[..3 * rows] != *asked.given {
         return Err(Refusal::Rows);
     }
     let lines = plan.lines(asked.setting ^ 1 << asked.door);
-    Ok(plan.list_from(&lines, q, cell, table))
+    Ok(plan.list_from(&lines, q, footing, table))
 }
 
 impl<'a> Cut<'a> {
@@ -337,15 +353,63 @@ impl Plan<'_> {
         }
     }
 
-    fn cell_of(&self, q: Point) -> Result<usize, Refusal> {
+    fn locate(&self, setting: u64, q: Point) -> Result<Footing, Refusal> {
         let mut cells = 0..self.cell_count();
         if let Some(cell) = cells.find(|&cell| self.least_side_value(cell, q) > 0) {
-            return Ok(cell);
+            return Ok(Footing::Inside { cell });
         }
-        if (0..self.cell_count()).any(|cell| self.least_side_value(cell, q) == 0) {
-            return Err(Refusal::Line);
+        let mut is_on_border = false;
+        for cell in 0..self.cell_count() {
+            if self.least_side_value(cell, q) == 0 {
+                is_on_border = true;
+                let mut sides = 0..self.faces_of(cell).len();
+                if let Some(side) = sides.find(|&side| self.is_within_free(setting, q, cell, side))
+                {
+                    return Ok(Footing::Side { cell, side });
+                }
+            }
         }
-        Err(Refusal::Outside)
+        Err(if is_on_border {
+            Refusal::Line
+        } else {
+            Refusal::Outside
+        })
+    }
+
+    fn is_within_free(&self, setting: u64, q: Point, cell: usize, side: usize) -> bool {
+        let all = self.faces_of(cell);
+        self.is_within(q, &self.faces[all.clone()], side) && self.is_free(setting, all.start + side)
+    }
+
+    /// Whether the stand is on a side's line, and the ends of the side are in
+    /// opposite directions.
+    fn is_within(&self, q: Point, faces: &[[u16; 2]], side: usize) -> bool {
+        let a = self.corner(faces[side][0]);
+        let b = self.corner(faces[next(side, faces.len())][0]);
+        let dot = (a[0] - q[0]) * (b[0] - q[0]) + (a[1] - q[1]) * (b[1] - q[1]);
+        side_value(a, b, q) == 0 && dot < 0
+    }
+
+    /// Whether sight passes a face: it is no wall, and no shut door is on its line.
+    fn is_free(&self, setting: u64, face: usize) -> bool {
+        let back = self.backs[face];
+        let mut doors = self.doors.iter().enumerate();
+        back != WALL
+            && !doors.any(|(door, &at)| {
+                setting >> door & 1 == 1 && (usize::from(at) == face || at == back)
+            })
+    }
+
+    /// Whether the stand is on a side, and strictly within the line of a door.
+    fn is_in_doorway(&self, q: Point, footing: Footing, door: usize) -> bool {
+        let (Footing::Side { .. }, Some(&face)) = (footing, self.doors.get(door)) else {
+            return false;
+        };
+        // The cell beyond a door's back face is the door's own.
+        let [_, cell] = self.faces[usize::from(self.backs[usize::from(face)])];
+        let all = self.faces_of(cell.into());
+        let side = usize::from(face) - all.start;
+        self.is_within(q, &self.faces[all], side)
     }
 
     /// The least of the side values of a cell's sides with the stand.
@@ -361,25 +425,22 @@ impl Plan<'_> {
         least
     }
 
-    /// The stand and its cell.
-    fn find(&self, stand: Stand) -> Result<(Point, usize), Refusal> {
+    /// The stand, and where it is under a setting that is right.
+    fn find(&self, setting: u64, stand: Stand) -> Result<(Point, Footing), Refusal> {
         let q = self.millimetres(stand)?;
-        Ok((q, self.cell_of(q)?))
+        Ok((q, self.locate(setting, q)?))
     }
 
-    /// The same, where the setting is right and the table long enough for a
-    /// listing.
-    fn view(&self, setting: u64, stand: Stand, table: &[u16]) -> Result<(Point, usize), Refusal> {
-        self.check_setting(setting)?;
-        let (q, cell) = self.find(stand)?;
+    /// Whether a table is long enough for a listing.
+    fn check_room(&self, table: &[u16]) -> Result<(), Refusal> {
         if table.len() < 3 * self.corners.len() {
             return Err(Refusal::Room);
         }
-        Ok((q, cell))
+        Ok(())
     }
 
-    /// Follows the sides of the stand's cell.
-    fn list_from(&self, lines: &[Line], q: Point, cell: usize, table: &mut [u16]) -> Counts {
+    /// Follows the sides of the stand's cell, or of both cells at its side.
+    fn list_from(&self, lines: &[Line], q: Point, footing: Footing, table: &mut [u16]) -> Counts {
         // A difference of two coordinates fits 32 bits.
         let from_stand = |&[x, y]: &[i32; 2]| [x - q[0] as i32, y - q[1] as i32];
         let corners: Vec<[i32; 2]> = self.corners.iter().map(from_stand).collect();
@@ -389,9 +450,22 @@ impl Plan<'_> {
             table,
             counts: Counts::default(),
         };
-        for face in self.faces_of(cell) {
+        let mut follow = |face: usize| {
             let [start, _] = self.faces[face];
             sight.cross(face as u16, start, lines[face].left_end);
+        };
+        match footing {
+            Footing::Inside { cell } => self.faces_of(cell).for_each(follow),
+            Footing::Side { cell, side } => {
+                let face = self.faces_of(cell).start + side;
+                for stood_on in [face, self.backs[face].into()] {
+                    let mut other = usize::from(lines[stood_on].next);
+                    while other != stood_on {
+                        follow(other);
+                        other = lines[other].next.into();
+                    }
+                }
+            }
         }
         sight.counts
     }
@@ -573,7 +647,7 @@ mod tests {
 
     #[test]
     fn plain_replies_are_the_paper_programs() {
-        let mut changed = 0;
+        let (mut changed, mut on_side) = (0, 0);
         for number in 0..4_000 {
             let case = generate::case(17, number);
             let (scene, lists) = (&case.scene, case.scene.plan.lists());
@@ -582,9 +656,13 @@ mod tests {
                 [corners, cells, doors, 0, 0]
             });
             assert_eq!(reply(checked), paper::check(lists), "{number}");
-            let found = find(lists, scene.stand).map(|cell| [cell as u64, 0, 0, 0, 0]);
-            assert_eq!(reply(found), paper::find(lists, scene.stand), "{number}");
             let (setting, stand) = (scene.setting, scene.stand);
+            let found = find(lists, setting, stand).map(|footing| match footing {
+                Footing::Inside { cell } => [cell as u64, 0, 0, 0, 0],
+                Footing::Side { cell, side } => [cell as u64, 1, side as u64, 0, 0],
+            });
+            on_side += found.map_or(0, |[_, on_side, ..]| on_side);
+            assert_eq!(reply(found), paper::find(lists, setting, stand), "{number}");
             assert_eq!(
                 with_table(&case, |table| counts(list(lists, setting, stand, table))),
                 with_table(&case, |table| paper::list(lists, setting, stand, table)),
@@ -611,5 +689,6 @@ mod tests {
             changed += usize::from(plain.0.number == 0);
         }
         assert!(changed > 500, "only {changed} changes");
+        assert!(on_side > 300, "only {on_side} stands on a side");
     }
 }

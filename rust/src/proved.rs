@@ -66,8 +66,8 @@ impl Calls for Proved {
         replied(|seven| c::write(lists, file, seven))
     }
 
-    fn find(&self, lists: Lists<'_>, stand: Stand) -> Reply {
-        replied(|seven| c::find(lists, stand, seven))
+    fn find(&self, lists: Lists<'_>, setting: u64, stand: Stand) -> Reply {
+        replied(|seven| c::find(lists, setting, stand, seven))
     }
 
     fn list(&self, lists: Lists<'_>, setting: u64, stand: Stand, table: &mut [u16]) -> Reply {
@@ -126,7 +126,7 @@ mod tests {
             c::read(&file, &mut corners, &mut cells, &mut doors, &mut short);
             c::write(lists, &mut bytes, &mut short);
             for stand in [Stand::Point(6.0, 3.0), Stand::Offset(0, 6.0, 3.0)] {
-                c::find(lists, stand, &mut short);
+                c::find(lists, 0, stand, &mut short);
                 c::list(lists, 0, stand, &mut table, &mut short);
                 let stands = stand.numbers();
                 c::list_stands(lists, 0, &stands, &mut table, &mut replies, &mut short);

@@ -1,10 +1,11 @@
 //! Every function of `include/manopluea.h` on the deepest floor known, in either
 //! kind, on those with the longest fans and the most splits and on the fullest
-//! plan, with a stack of so many bytes. A stack that is too small ends the process.
+//! plan, inside the cell that all is seen from and on its free side, with a stack
+//! of so many bytes. A stack that is too small ends the process.
 
 use crate::calls::{Calls, DoorChange, Plan, Stand, POINT};
-use crate::generate::{self, in_other_kind, query_record, Spot};
-use crate::paper::{self, Paper, DOORS, MOST_STANDS};
+use crate::generate::{self, in_other_kind, query_record, spot_at, steps_between, Spot};
+use crate::paper::{self, Floor, Paper, Place, View, DOORS, MOST_STANDS, WALL};
 use crate::proved::{on_stack, Proved};
 
 /// Asks each function, and compares with the paper program.
@@ -24,8 +25,30 @@ pub fn ask_every_function(bytes: usize) -> Result<(), String> {
     ask_on("the fullest plan", &fullest, spot, bytes)
 }
 
+/// Of the spots strictly within the free sides of the cell that a stand is inside,
+/// the one nearest to the stand.
+pub fn doorway(plan: &Plan, [x, y]: Spot) -> Option<Spot> {
+    let floor = Floor::check(plan.lists()).ok()?;
+    let view = View::new(&floor, 0, Stand::Point(x as f64, y as f64)).ok()?;
+    let Place::Inside(cell) = view.place() else {
+        return None;
+    };
+    let across = floor.across_under(0).ok()?;
+    let free = floor.faces(cell);
+    free.filter(|&face| across[usize::from(face)] != WALL)
+        .flat_map(|face| {
+            let ends = floor.ends(face).map(|corner| {
+                let at = floor.corner(corner);
+                [at.x, at.y]
+            });
+            let (steps, _) = steps_between(ends);
+            (1..steps).map(move |step| spot_at(ends, step))
+        })
+        .min_by_key(|at| (at[0] - x).pow(2) + (at[1] - y).pow(2))
+}
+
 /// Asks each function about a plan with as many doors as there may be.
-fn ask_on(name: &str, plan: &Plan, [x, y]: Spot, bytes: usize) -> Result<(), String> {
+fn ask_on(name: &str, plan: &Plan, inside: Spot, bytes: usize) -> Result<(), String> {
     println!("on {name}:");
     let (lists, last) = (plan.lists(), DOORS.end() - 1);
     let file = paper::encode(lists);
@@ -46,13 +69,17 @@ fn ask_on(name: &str, plan: &Plan, [x, y]: Spot, bytes: usize) -> Result<(), Str
         let mut written = vec![0; file.len()];
         (calls.write(lists, &mut written), written)
     })?;
-    let offset = [
-        x - i64::from(plan.corners[0]),
-        y - i64::from(plan.corners[1]),
-    ];
-    let [[x, y], [dx, dy]] = [[x, y], offset].map(|at| at.map(|number| number as f64));
-    for stand in [Stand::Point(x, y), Stand::Offset(0, dx, dy)] {
-        same("find", bytes, |calls| calls.find(lists, stand))?;
+    let point = |at: Spot| {
+        let [x, y] = at.map(|number| number as f64);
+        Stand::Point(x, y)
+    };
+    let offset = |[x, y]: Spot| {
+        let [from_x, from_y] = [0, 1].map(|axis| i64::from(plan.corners[axis]));
+        Stand::Offset(0, (x - from_x) as f64, (y - from_y) as f64)
+    };
+    let on_side = doorway(plan, inside).ok_or("no spot is on a free side")?;
+    for stand in [point(inside), offset(inside), point(on_side)] {
+        same("find", bytes, |calls| calls.find(lists, 0, stand))?;
         same("list", bytes, |calls| {
             let mut table = table();
             (calls.list(lists, 0, stand, &mut table), table)

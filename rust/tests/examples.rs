@@ -3,7 +3,7 @@
 use manopluea_compare::calls::{Plan, Stand};
 use manopluea_compare::examples::{all, plan_q, plan_q_as_one_cell};
 use manopluea_compare::generate::query_record;
-use manopluea_compare::paper::{self, Direction, Floor, Paper, View};
+use manopluea_compare::paper::{self, Direction, Floor, Paper, Place, View};
 
 #[test]
 fn the_twelve_examples() {
@@ -41,6 +41,16 @@ fn plan_q_as_one_cell_printed() {
     assert_eq!(printed(Stand::Point(6.0, 3.0), 0, &plan), expected);
     // On what was the line between its triangles.
     assert_eq!(printed(Stand::Point(5.0, 5.0), 0, &plan), expected);
+}
+
+/// On the line of its door: the rows of the same four walls, and no crossing.
+#[test]
+fn plan_q_printed_from_its_doorway() {
+    let expected = "rows 4 crossings 0\n0 0 1\n1 1 2\n4 2 3\n5 3 0\n";
+    let (q, stand) = (plan_q(), Stand::Point(5.0, 5.0));
+    assert_eq!(printed(stand, 0, &q), expected);
+    assert_eq!(printed(Stand::Offset(1, -5.0, 5.0), 0, &q), expected);
+    assert_eq!(printed(stand, 1, &q), "refused 9 0\n");
 }
 
 #[test]
@@ -90,4 +100,23 @@ fn a_walk_over_plan_q() {
     assert!(view.meets_corner(Direction { x: 4, y: 7 }));
     assert!(!view.meets_corner(Direction { x: -4, y: -7 }));
     assert_eq!(view.walk(Direction { x: 4, y: 7 }), None);
+}
+
+/// It starts in whichever of the two cells the direction enters.
+#[test]
+fn walks_from_a_doorway_of_plan_q() {
+    let q = plan_q();
+    let floor = Floor::check(q.lists()).unwrap();
+    let view = View::new(&floor, 0, Stand::Point(5.0, 5.0)).unwrap();
+    assert_eq!(view.place(), Place::Within(2));
+    for (d, end) in [([1, -2], 0), ([2, -1], 1), ([-1, 2], 4), ([-2, 1], 5)] {
+        let walk = view.walk(Direction { x: d[0], y: d[1] }).unwrap();
+        assert_eq!((walk.route, walk.end), (vec![], end), "{d:?}");
+    }
+    // Along the line the ray meets one of its ends.
+    for d in [[3, 3], [-1, -1]] {
+        let d = Direction { x: d[0], y: d[1] };
+        assert!(view.meets_corner(d));
+        assert_eq!(view.walk(d), None);
+    }
 }

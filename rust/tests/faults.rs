@@ -8,20 +8,24 @@ use manopluea_compare::calls::{
 use manopluea_compare::compare::{compare, compare_program, Asked, Mismatch, Trial};
 use manopluea_compare::generate::in_other_kind;
 use manopluea_compare::paper::{
-    self, cut_cells, Cell, Floor, Paper, Row, View, CELLS, CORNERS, DOORS, MOST_STANDS, WALL,
+    self, cut_cells, is_within, millimetres, Cell, Floor, Paper, Place, Point, Row, View, CELLS,
+    CORNERS, DOORS, MOST_STANDS, WALL,
 };
 
-/// The enum of the faults, the list of all of them, and those in the expansion.
+/// The enum of the faults, the list of all of them, those in the expansion, and
+/// those in where a stand is found.
 macro_rules! faults {
-    (expansion { $($slip:ident,)* } elsewhere { $($fault:ident,)* }) => {
+    (expansion { $($slip:ident,)* } place { $($found:ident,)* } elsewhere { $($fault:ident,)* }) => {
         #[derive(Clone, Copy, Debug, PartialEq, Eq)]
         enum Fault {
             $($slip,)*
+            $($found,)*
             $($fault,)*
         }
 
-        const ALL: &[Fault] = &[$(Fault::$slip,)* $(Fault::$fault,)*];
+        const ALL: &[Fault] = &[$(Fault::$slip,)* $(Fault::$found,)* $(Fault::$fault,)*];
         const IN_EXPANSION: &[Fault] = &[$(Fault::$slip,)*];
+        const IN_PLACE: &[Fault] = &[$(Fault::$found,)*];
     };
 }
 
@@ -36,6 +40,20 @@ faults! {
         DoorIsWallFromOneFace,
         FanGoesOnAfterTheLeftLimit,
         SidesFromTheLeftEnd,
+        // From a stand on a side.
+        LineStoodOnIsCrossed,
+        NeighboursSidesComeFirst,
+        NeighboursSidesAreLeftOut,
+        OtherSidesInTheirOwnOrder,
+    }
+    place {
+        ShutDoorIsFree,
+        ShutDoorIsFreeFromItsOtherFace,
+        WallIsFree,
+        EndIsWithin,
+        WholeLineIsWithin,
+        HighestSideIsFound,
+        SideComesBeforeInside,
     }
     elsewhere {
         // In larger cells.
@@ -64,6 +82,7 @@ faults! {
         RefusedStandHasRows,
         RowsStandAtFixedPlaces,
         LastStandForTheSums,
+        MorningKnowsNoSides,
         RepliesAreTurnedRound,
         RestOfRepliesIsCleared,
         RefusalClearsReplies,
@@ -83,11 +102,23 @@ faults! {
         OneRunIsShut,
         GivenListIsTrusted,
         ChangeComesBeforeRoom,
+        DoorOfTheLineMayBeChanged,
+        OnlyTheDoorOfTheSideFoundIsRefused,
+        DoorOfTheLineStaysAsItIs,
+        RoomComesBeforeDoorOfTheLine,
+        MissingDoorIsRefusedFromASide,
+        DoorOfALineIsRefusedFromInside,
         // In the stand and the finding.
         StandIsTruncated,
         OffsetHasNoBound,
         HighestCellIsFound,
         LineIsOutside,
+        StandOnASideIsRefused,
+        SideIsNumberedAsItsFace,
+        SideIsTheNeighbours,
+        SideOfAStandInsideIsLeft,
+        FindingTakesAnySetting,
+        StandComesBeforeSetting,
         // In the files.
         LengthHasASign,
         ReaderWritesBeforeRoom,
@@ -167,19 +198,52 @@ impl Calls for Faulty {
         reply
     }
 
-    fn find(&self, lists: Lists<'_>, stand: Stand) -> Reply {
-        let reply = Paper.find(lists, self.stand(lists, stand));
+    fn find(&self, lists: Lists<'_>, setting: u64, stand: Stand) -> Reply {
+        let stand = self.stand(lists, stand);
+        let mut reply = Paper.find(lists, setting, stand);
+        let [cell, on_side, side, ..] = reply.values;
         match self.0 {
-            LineIsOutside if reply.number == 9 => refused(10),
-            HighestCellIsFound if reply.number == 0 => highest_cell(lists, stand),
-            CellIsItsFirstThreeCorners if reply.number == 0 => first_triangle(lists, stand),
-            _ => reply,
+            LineIsOutside if reply.number == 9 => return refused(10),
+            FindingTakesAnySetting if reply.number == 7 => return Paper.find(lists, 0, stand),
+            StandComesBeforeSetting if reply.number == 7 => {
+                let open = Paper.find(lists, 0, stand);
+                if open.number != 0 {
+                    return open;
+                }
+            }
+            _ if reply.number != 0 => {}
+            HighestCellIsFound if on_side == 0 => return highest_cell(lists, stand),
+            CellIsItsFirstThreeCorners if on_side == 0 => return first_triangle(lists, stand),
+            SideOfAStandInsideIsLeft if on_side == 0 => reply.values[2] = 1,
+            StandOnASideIsRefused if on_side == 1 => return refused(9),
+            SideIsNumberedAsItsFace if on_side == 1 => {
+                reply.values[2] = side_face(lists, cell, side).into();
+            }
+            SideIsTheNeighbours if on_side == 1 => {
+                let floor = Floor::check(lists).expect("it passed the check");
+                let across = floor.across_under(setting).expect("it is right");
+                let back = across[usize::from(side_face(lists, cell, side))];
+                let there = floor.cell_with(back);
+                reply.values[2] = (back - floor.faces(there).start).into();
+            }
+            _ => {}
+        }
+        match found_by(self.0, lists, setting, stand) {
+            Some((_, place)) => found_reply(lists, place),
+            None => reply,
         }
     }
 
     fn list(&self, lists: Lists<'_>, setting: u64, stand: Stand, table: &mut [u16]) -> Reply {
         let before = table.to_vec();
         let stand = self.stand(lists, stand);
+        if let Some((q, place)) = found_by(self.0, lists, setting, stand) {
+            if table.len() < 3 * (lists.corners.len() / 2) {
+                return refused(11);
+            }
+            let (rows, crossings) = expand_from(lists, setting, q, place, self.0);
+            return hand_back(&rows, crossings, &before, table);
+        }
         let mut reply = Paper.list(lists, setting, stand, table);
         match self.0 {
             RefusalClearsTable if reply.number != 0 => table.fill(0),
@@ -229,7 +293,10 @@ impl Calls for Faulty {
     ) -> Reply {
         let before = Morning::lent(table, replies);
         let (corners, count) = (lists.corners.len() / 2, stands.len() / 3);
-        let read = self.stands(stands);
+        let mut read = self.stands(stands);
+        if self.0 == MorningKnowsNoSides {
+            move_to_corners(lists, setting, &mut read);
+        }
         let mut reply = Paper.list_stands(lists, setting, &read, table, replies);
         match self.0 {
             RefusalClearsReplies if reply.number != 0 => replies.fill(0),
@@ -288,6 +355,7 @@ impl Calls for Faulty {
     }
 
     fn change(&self, lists: Lists<'_>, mut asked: DoorChange<'_>, table: &mut [u16]) -> Reply {
+        let before = table.to_vec();
         asked.stand = self.stand(lists, asked.stand);
         let DoorChange {
             setting,
@@ -297,7 +365,38 @@ impl Calls for Faulty {
             shut,
         } = asked;
         let mut reply = paper::change(lists, asked, table);
+        let doorway = Doorway::of(lists, asked);
+        let is_short = table.len() < 3 * (lists.corners.len() / 2);
         match self.0 {
+            DoorOfTheLineMayBeChanged if doorway.is_some() => {
+                reply = change_from_a_side(lists, asked, table);
+            }
+            OnlyTheDoorOfTheSideFoundIsRefused
+                if doorway.is_some_and(|doorway| !doorway.is_found) =>
+            {
+                reply = change_from_a_side(lists, asked, table);
+            }
+            DoorOfTheLineStaysAsItIs
+                if doorway.is_some_and(|doorway| doorway.is_as_wished) && !is_short =>
+            {
+                reply = refused(12);
+            }
+            RoomComesBeforeDoorOfTheLine if doorway.is_some() && is_short => reply = refused(11),
+            MissingDoorIsRefusedFromASide if reply.number == 12 && door >= lists.doors.len() => {
+                let [_, on_side, ..] = Paper.find(lists, setting, stand).values;
+                if on_side == 1 {
+                    reply = refused(9);
+                }
+            }
+            DoorOfALineIsRefusedFromInside if [0, 11, 12, 13].contains(&reply.number) => {
+                let floor = Floor::check(lists).expect("it passed the check");
+                let q = millimetres(&floor, stand).expect("the stand was found");
+                let line = lists.doors.get(door);
+                if line.is_some_and(|&face| is_within(&floor, face, q)) {
+                    table.copy_from_slice(&before);
+                    reply = refused(9);
+                }
+            }
             OldListIsCopied if reply.number == 0 => {
                 table[..given.len()].copy_from_slice(given);
                 reply.values[0] = (given.len() / 3) as u64;
@@ -553,7 +652,127 @@ fn find_walled(lists: Lists<'_>, cells: &[u16], kind: u16, stand: Stand) -> Repl
         kind,
         ..lists
     };
-    Paper.find(walled, stand)
+    Paper.find(walled, 0, stand)
+}
+
+/// The face of a cell's side.
+fn side_face(lists: Lists<'_>, cell: u64, side: u64) -> u16 {
+    let floor = Floor::check(lists).expect("it passed the check");
+    floor.faces(cell as usize).start + side as u16
+}
+
+/// Finding's reply for a place.
+fn found_reply(lists: Lists<'_>, place: Place) -> Reply {
+    let floor = Floor::check(lists).expect("it passed the check");
+    match place {
+        Place::Inside(cell) => Reply::done([cell as u64]),
+        Place::Within(face) => {
+            let cell = floor.cell_with(face);
+            Reply::done([cell as u64, 1, (face - floor.faces(cell).start).into()])
+        }
+    }
+}
+
+/// The stand, and where a slip in the place has it; none where it has it where it
+/// is, or where the plan, the setting or the stand is refused before that.
+fn found_by(slip: Fault, lists: Lists<'_>, setting: u64, stand: Stand) -> Option<(Point, Place)> {
+    if !IN_PLACE.contains(&slip) {
+        return None;
+    }
+    let floor = Floor::check(lists).ok()?;
+    let across = floor.across_under(setting).ok()?;
+    let open = floor.across_under(0).ok()?;
+    let q = millimetres(&floor, stand).ok()?;
+    let truth = View::new(&floor, setting, stand);
+    let is_on_border = matches!(&truth, Err(refusal) if refusal.reply().number == 9);
+    let is_found = |face: &u16| {
+        let [a, b] = floor.ends(*face).map(|corner| floor.corner(corner));
+        let turn = i128::from(b.x - a.x) * i128::from(q.y - a.y)
+            - i128::from(b.y - a.y) * i128::from(q.x - a.x);
+        let is_held = match slip {
+            EndIsWithin => is_within(&floor, *face, q) || q == a || q == b,
+            WholeLineIsWithin => turn == 0 && q != a && q != b,
+            _ => is_within(&floor, *face, q),
+        };
+        let at = usize::from(*face);
+        let is_free = match slip {
+            ShutDoorIsFree => open[at] != WALL,
+            ShutDoorIsFreeFromItsOtherFace => {
+                across[at] != WALL || open[at] != WALL && !lists.doors.contains(face)
+            }
+            WallIsFree => true,
+            _ => across[at] != WALL,
+        };
+        is_held && is_free
+    };
+    let mut faces = (0..floor.cell_count()).flat_map(|cell| floor.faces(cell));
+    let found = match (slip, truth) {
+        (HighestSideIsFound, Ok(view)) if matches!(view.place(), Place::Within(_)) => {
+            faces.rfind(is_found)
+        }
+        (HighestSideIsFound, _) => None,
+        (SideComesBeforeInside, Ok(_)) => faces.find(is_found),
+        _ if is_on_border => faces.find(is_found),
+        _ => None,
+    };
+    found.map(|face| (q, Place::Within(face)))
+}
+
+/// Puts stands that are on a side onto a corner, where they are refused.
+fn move_to_corners(lists: Lists<'_>, setting: u64, stands: &mut [f64]) {
+    let (stands, _) = stands.as_chunks_mut::<3>();
+    for numbers in stands {
+        if let Some(stand) = paper::stand_of(*numbers) {
+            let reply = Paper.find(lists, setting, stand);
+            if reply.number == 0 && reply.values[1] == 1 {
+                let floor = Floor::check(lists).expect("it passed the check");
+                let at = floor.corner(floor.ends(0)[0]);
+                *numbers = [POINT, at.x as f64, at.y as f64];
+            }
+        }
+    }
+}
+
+/// A door whose line the stand, which is on a side, is strictly within.
+#[derive(Clone, Copy)]
+struct Doorway {
+    /// It is the line of the side that is found.
+    is_found: bool,
+    is_as_wished: bool,
+}
+
+impl Doorway {
+    fn of(lists: Lists<'_>, asked: DoorChange<'_>) -> Option<Doorway> {
+        let floor = Floor::check(lists).ok()?;
+        let view = View::new(&floor, asked.setting, asked.stand).ok()?;
+        let Place::Within(face) = view.place() else {
+            return None;
+        };
+        view.is_in_doorway(asked.door).then(|| Doorway {
+            is_found: floor.door_faces(asked.door).contains(&face),
+            is_as_wished: (asked.setting >> asked.door & 1 == 1) == asked.shut,
+        })
+    }
+}
+
+/// The change of a door whose line the stand is on, as if it were any other.
+fn change_from_a_side(lists: Lists<'_>, asked: DoorChange<'_>, table: &mut [u16]) -> Reply {
+    let floor = Floor::check(lists).expect("it passed the check");
+    let view = View::new(&floor, asked.setting, asked.stand).expect("the stand was found");
+    if table.len() < 3 * floor.corners().len() {
+        return refused(11);
+    }
+    if (asked.setting >> asked.door & 1 == 1) == asked.shut {
+        return refused(12);
+    }
+    if view.list().rows.as_flattened() != asked.given {
+        return refused(13);
+    }
+    let setting = asked.setting ^ 1 << asked.door;
+    let slip = DoorOfTheLineMayBeChanged;
+    let (rows, crossings) = expand_from(lists, setting, view.stand(), view.place(), slip);
+    let before = table.to_vec();
+    hand_back(&rows, crossings, &before, table)
 }
 
 /// Refuses a door that has the same two corners as an earlier one, as two
@@ -620,26 +839,64 @@ fn expand(lists: Lists<'_>, setting: u64, stand: Stand, slip: Fault) -> Option<(
     }
     let floor = Floor::check(lists).ok()?;
     let view = View::new(&floor, setting, stand).ok()?;
-    let q = view.stand();
+    let (q, place) = (view.stand(), view.place());
+    Some(expand_from(lists, setting, q, place, slip))
+}
+
+fn expand_from(
+    lists: Lists<'_>,
+    setting: u64,
+    q: Point,
+    place: Place,
+    slip: Fault,
+) -> (Vec<Row>, u64) {
+    let floor = Floor::check(lists).expect("it passed the check");
     let mut sight = Sight {
         floor: &floor,
         q: [q.x, q.y],
-        across: across(&floor, lists, setting, slip)?,
+        across: across(&floor, lists, setting, slip).expect("the setting is right"),
         slip,
         rows: Vec::new(),
         crossings: 0,
     };
-    let faces = floor.faces(view.cell());
-    for face in faces.clone() {
+    let is_on_side = matches!(place, Place::Within(_));
+    sight.crossings += u64::from(slip == LineStoodOnIsCrossed && is_on_side);
+    for (at, face) in around(&floor, place, slip).into_iter().enumerate() {
         let [right, left] = floor.ends(face);
         let row = [face, right, left];
-        if slip == OtherSidesAreWalls && face != faces.start {
+        if slip == OtherSidesAreWalls && at > 0 {
             sight.rows.push(row);
         } else {
             sight.follow(row, 0);
         }
     }
-    Some((sight.rows, sight.crossings))
+    (sight.rows, sight.crossings)
+}
+
+/// The sides that are followed first. A door on a line stood on does not matter
+/// any more, and a wall has no neighbour.
+fn around(floor: &Floor, place: Place, slip: Fault) -> Vec<u16> {
+    let face = match place {
+        Place::Inside(cell) => return floor.faces(cell).collect(),
+        Place::Within(face) => face,
+    };
+    let others = |face: u16| -> Vec<u16> {
+        let all = floor.faces(floor.cell_with(face));
+        match slip {
+            OtherSidesInTheirOwnOrder => all.filter(|&other| other != face).collect(),
+            _ => floor.others(face).collect(),
+        }
+    };
+    let open = floor.across_under(0).expect("no door is shut");
+    let there = match open[usize::from(face)] {
+        WALL => Vec::new(),
+        back => others(back),
+    };
+    match slip {
+        NeighboursSidesComeFirst => [there, others(face)].concat(),
+        NeighboursSidesAreLeftOut => others(face),
+        _ => [others(face), there].concat(),
+    }
 }
 
 fn across(floor: &Floor, lists: Lists<'_>, setting: u64, slip: Fault) -> Option<Vec<u16>> {
@@ -779,6 +1036,9 @@ fn a_mismatch_is_made_small() {
         CornerOnLimitIsBetween,
         LineEndsBecomeLimits,
         OldListIsCopied,
+        LineStoodOnIsCrossed,
+        SideComesBeforeInside,
+        DoorOfTheLineMayBeChanged,
     ] {
         match mismatch(fault).trial {
             Trial::Lists(scene, _) => {

@@ -4,10 +4,11 @@
 use manopluea_compare::calls::{Refusal, Stand, POINT, POLYGONS, TRIANGLES};
 use manopluea_compare::generate::{self, in_other_kind};
 use manopluea_compare::paper::{
-    self, encode, Direction, Floor, View, CELLS, COORDINATES, CORNERS, DOORS, MOST_INPUT,
+    self, encode, Direction, Floor, Place, View, CELLS, COORDINATES, CORNERS, DOORS, MOST_INPUT,
     MOST_STANDS, SIDES, WALL,
 };
 use manopluea_compare::proved::{MOST_TEXT, REPLY};
+use manopluea_compare::stack::doorway;
 use std::process::{Command, Output};
 
 const HEADER: &str = include_str!("../../include/manopluea.h");
@@ -118,6 +119,22 @@ fn no_floor_is_deeper_than_the_deepest() {
         let walk = view.walk(west).expect("it ends at a wall");
         assert_eq!(walk.route.len(), CELLS.end() - 1);
     }
+}
+
+/// From a side two cells are not entered any more: all the others are.
+#[test]
+fn no_floor_is_deeper_from_a_side() {
+    let (mesh, inside) = generate::deepest();
+    let plan = mesh.plan(&[]);
+    let [x, y] = doorway(&plan, inside).expect("a line leads on");
+    let floor = Floor::check(plan.lists()).expect("the paper program accepts it");
+    let stand = Stand::Point(x as f64, y as f64);
+    let view = View::new(&floor, 0, stand).expect("the stand is on a free side");
+    assert!(matches!(view.place(), Place::Within(_)));
+    let west = Direction { x: -1, y: 0 };
+    assert!(!view.meets_corner(west));
+    let walk = view.walk(west).expect("it ends at a wall");
+    assert_eq!(walk.route.len(), CELLS.end() - 2);
 }
 
 /// Every function on the deepest floors known and on the fullest plan, in a process

@@ -23,8 +23,13 @@ fn both<T: PartialEq + std::fmt::Debug>(ask: impl Fn(&dyn Calls) -> T) -> T {
     paper
 }
 
+fn find_under(plan: &Plan, setting: u64, stand: Stand) -> Reply {
+    both(|calls| calls.find(plan.lists(), setting, stand))
+}
+
+/// With every door open.
 fn find(plan: &Plan, stand: Stand) -> Reply {
-    both(|calls| calls.find(plan.lists(), stand))
+    find_under(plan, 0, stand)
 }
 
 fn list(plan: &Plan, setting: u64, stand: Stand, room: usize) -> (Reply, Vec<u16>) {
@@ -84,7 +89,8 @@ fn check(plan: &Plan) -> Reply {
     if reply.number == 0 {
         assert_eq!(write(plan, file.len()).1, file);
     } else {
-        assert_eq!(find(plan, Stand::Point(f64::NAN, 0.0)), reply, "finding");
+        let stand = Stand::Point(f64::NAN, 0.0);
+        assert_eq!(find_under(plan, !0, stand), reply, "finding");
     }
     let lengths = [plan.corners.len(), plan.cells.len(), plan.doors.len()];
     let (read, lists) = read(&file, lengths);
@@ -429,6 +435,32 @@ fn settings_with_high_bits() {
     );
 }
 
+#[test]
+fn finding_is_given_the_setting() {
+    let beside = Stand::Point(10.0, 1.0);
+    let bit = 1 << 63;
+    for setting in [0, 1, bit, !0] {
+        let reply = find_under(&strip(100, 64), setting, beside);
+        assert_eq!(reply, Reply::done([0]), "{setting:#x}");
+    }
+    // It comes before the stand, whatever that is, and after the plan.
+    for stand in [
+        beside,
+        Stand::Point(f64::NAN, 0.5),
+        Stand::Point(20.0, 0.0),
+        Stand::Point(0.0, 900.0),
+        Stand::Point(15.0, 50.0),
+        Stand::Offset(65_535, 1.0, 1.0),
+    ] {
+        for (doors, setting) in [(63, bit), (63, !0), (0, 1), (0, bit), (1, 2), (62, 1 << 62)] {
+            let reply = find_under(&strip(100, doors), setting, stand);
+            assert_eq!(reply, Reply::refused(7, 0), "{doors}, {setting:#x}");
+        }
+        let reply = find_under(&strip(100, 65), bit, stand);
+        assert_eq!(reply, Reply::refused(2, 0));
+    }
+}
+
 /// Numbers, and whether each is accepted as millimetres.
 fn numbers() -> Vec<(f64, bool)> {
     let limit = f64::from(LIMIT);
@@ -524,7 +556,7 @@ fn offsets() {
     assert_eq!(reply(0, limit + 1.0, 5.0), Reply::refused(8, 0));
     assert_eq!(reply(2, -limit - 1.0, -5.0), Reply::refused(8, 0));
     // At the limits themselves.
-    assert_eq!(reply(0, limit, limit), Reply::refused(9, 0));
+    assert_eq!(reply(0, limit, limit), Reply::done([0, 1, 2]));
     assert_eq!(reply(2, -limit, -limit + 1.0), Reply::done([1, 0, 0]));
     assert_eq!(reply(0, 0.0, -0.0), Reply::refused(9, 0));
     // The corner is the count, or 65,535.
@@ -547,7 +579,7 @@ fn offsets() {
 #[test]
 fn stands_on_corners_and_lines_and_beside_them() {
     let at = |x: i32, y: i32| find(&plan_q(), Stand::Point(f64::from(x), f64::from(y)));
-    // Corners, walls and the free line.
+    // Corners and walls.
     for [x, y] in [
         [0, 0],
         [10, 0],
@@ -556,10 +588,17 @@ fn stands_on_corners_and_lines_and_beside_them() {
         [5, 0],
         [10, 5],
         [0, 5],
-        [5, 5],
-        [1, 1],
+        [1, 0],
+        [9, 10],
     ] {
         assert_eq!(at(x, y), Reply::refused(9, 0), "({x}, {y})");
+    }
+    // The free line, from end to end; with its door shut it is a wall too.
+    for x in 1..10 {
+        assert_eq!(at(x, x), Reply::done([0, 1, 2]), "({x}, {x})");
+        let stand = Stand::Point(x.into(), x.into());
+        let shut = find_under(&plan_q(), 1, stand);
+        assert_eq!(shut, Reply::refused(9, 0), "({x}, {x})");
     }
     // A millimetre off them.
     for [x, y] in [
@@ -711,7 +750,7 @@ fn mornings_of_any_count_of_stands() {
 const OF_EACH_REPLY: [(u64, [f64; 3]); 4] = [
     (0, BESIDE),
     (8, [POINT, 6.5, 3.0]),
-    (9, [POINT, 5.0, 5.0]),
+    (9, [POINT, 5.0, 0.0]),
     (10, [POINT, 11.0, 5.0]),
 ];
 
@@ -1184,7 +1223,10 @@ fn cells_of_several_sizes() {
     for (cell, x) in [(0, 5), (1, 15), (2, 35), (3, 55)] {
         assert_eq!(at(x, 0), Reply::done([cell]), "{x}");
     }
-    for [x, y] in [[10, 0], [20, 0], [50, 0], [35, 20], [25, 15], [65, 5]] {
+    for (cell, side, x) in [(0, 1, 10), (1, 1, 20), (2, 3, 50)] {
+        assert_eq!(at(x, 0), Reply::done([cell, 1, side]), "{x}");
+    }
+    for [x, y] in [[10, 10], [20, -10], [35, 20], [25, 15], [65, 5]] {
         assert_eq!(at(x, y), Reply::refused(9, 0), "({x}, {y})");
     }
     for [x, y] in [[-1, 0], [35, 21], [25, 16], [15, 11], [71, 0]] {
@@ -1736,4 +1778,456 @@ fn the_printing_program_takes_either_kind() {
     assert_eq!(printed(&wrong, beside), "refused 1 0\n");
     wrong.kind = 6;
     assert_eq!(printed(&wrong, beside), "refused 1 0\n");
+}
+
+/// The stand of example h.
+const IN_DOORWAY: Stand = Stand::Point(5.0, 5.0);
+
+#[test]
+fn the_doorway_of_plan_q() {
+    let plan = plan_q();
+    for stand in [IN_DOORWAY, Stand::Offset(2, -5.0, -5.0)] {
+        assert_eq!(find(&plan, stand), Reply::done([0, 1, 2]));
+        let listed = list(&plan, 0, stand, 12);
+        assert_eq!(listed, (Reply::done([4, 0]), SEEN.to_vec()));
+        assert_eq!(list(&plan, 0, stand, 11).0, Reply::refused(11, 0));
+        // Shut, the line is a wall: example k's reply, and before the room.
+        for room in [12, 11, 0] {
+            assert_eq!(list(&plan, 1, stand, room).0, Reply::refused(9, 0));
+        }
+    }
+    // Named from its other face the door shuts the same line.
+    let mut other_face = plan_q();
+    other_face.doors = vec![3];
+    assert_eq!(find(&other_face, IN_DOORWAY), Reply::done([0, 1, 2]));
+    let shut = find_under(&other_face, 1, IN_DOORWAY);
+    assert_eq!(shut, Reply::refused(9, 0));
+    let printed = |setting| {
+        let input = [query_record(setting, IN_DOORWAY), encode(plan.lists())].concat();
+        String::from_utf8(both(|calls| calls.print(&input))).expect("it prints letters and digits")
+    };
+    let rows = "0 0 1\n1 1 2\n4 2 3\n5 3 0\n";
+    assert_eq!(printed(0), format!("rows 4 crossings 0\n{rows}"));
+    assert_eq!(printed(1), "refused 9 0\n");
+    assert_eq!(printed(2), "refused 7 0\n");
+}
+
+/// Without a door, and from end to end: strictly between the ends, on them, and
+/// beyond them on the same line.
+#[test]
+fn a_free_line_without_a_door() {
+    let mut plan = plan_q();
+    plan.doors.clear();
+    for x in 1..10 {
+        let stand = Stand::Point(x.into(), x.into());
+        assert_eq!(find(&plan, stand), Reply::done([0, 1, 2]), "{x}");
+        let listed = list(&plan, 0, stand, 12);
+        assert_eq!(listed, (Reply::done([4, 0]), SEEN.to_vec()), "{x}");
+    }
+    for (x, number) in [(0, 9), (10, 9), (-1, 10), (11, 10)] {
+        let stand = Stand::Point(x.into(), x.into());
+        assert_eq!(find(&plan, stand), Reply::refused(number, 0), "{x}");
+        assert_eq!(list(&plan, 0, stand, 12).0.number, number, "{x}");
+    }
+    // A wall that goes straight on from a free line is none.
+    let corners = [[0, 0], [10, 0], [0, 10], [0, -10], [20, 0], [20, 10]];
+    let plan = polygons(
+        &corners,
+        &[
+            (&[0, 1, 2], &[1, WALL, WALL]),
+            (&[1, 0, 3], &[0, WALL, WALL]),
+            (&[1, 4, 5], &[WALL, WALL, WALL]),
+        ],
+    );
+    let at = |x: i32| find(&plan, Stand::Point(x.into(), 0.0));
+    assert_eq!([1, 5, 9].map(at), [Reply::done([0, 1, 0]); 3]);
+    assert_eq!([0, 10, 11, 15, 20].map(at), [Reply::refused(9, 0); 5]);
+    assert_eq!([-1, 21].map(at), [Reply::refused(10, 0); 2]);
+}
+
+/// A cell's corners and neighbours, turned by some sides.
+fn turned([corners, neighbours]: [[u16; 3]; 2], by: usize) -> Vec<u16> {
+    let turn = |mut numbers: [u16; 3]| {
+        numbers.rotate_left(by);
+        numbers
+    };
+    [turn(corners), turn(neighbours)].concat()
+}
+
+/// The sides come in order after the one stood on, and the neighbour's after its
+/// own, whatever their numbers in their cells are.
+#[test]
+fn sides_in_order_after_the_one_stood_on() {
+    // The walls of plan Q in order from corner 0.
+    let walls = [[0, 1], [1, 2], [2, 3], [3, 0]];
+    for first in 0..3 {
+        for second in 0..3 {
+            let cells = [
+                turned([[2, 0, 1], [1, WALL, WALL]], first),
+                turned([[0, 2, 3], [0, WALL, WALL]], second),
+            ];
+            let plan = Plan {
+                cells: cells.concat(),
+                doors: vec![],
+                ..plan_q()
+            };
+            let side = (3 - first) % 3;
+            let found = find(&plan, IN_DOORWAY);
+            assert_eq!(found, Reply::done([0, 1, side as u64]));
+            let face = |cell: usize, on: usize, turn: usize| 3 * cell + (3 + on - turn) % 3;
+            let faces = [
+                face(0, 1, first),
+                face(0, 2, first),
+                face(1, 1, second),
+                face(1, 2, second),
+            ];
+            let rows: Vec<u16> = faces
+                .iter()
+                .zip(walls)
+                .flat_map(|(&face, [right, left])| [face as u16, right, left])
+                .collect();
+            let listed = list(&plan, 0, IN_DOORWAY, 12);
+            assert_eq!(listed, (Reply::done([4, 0]), rows));
+        }
+    }
+}
+
+/// The change's reply with a table of so many numbers, which a refusal leaves as
+/// it was.
+fn change_in(plan: &Plan, asked: DoorChange<'_>, room: usize) -> u32 {
+    let before = vec![u16::from(FILL); room];
+    let (reply, table) = both(|calls| {
+        let mut table = before.clone();
+        (calls.change(plan.lists(), asked, &mut table), table)
+    });
+    assert_ne!(reply.number, 0);
+    assert_eq!((table, reply), (before, Reply::refused(reply.number, 0)));
+    reply.number
+}
+
+/// The door of the line that is stood on is refused with 9: open or shut, to be
+/// changed or as wished, before the room and before the given list.
+#[test]
+fn the_door_of_the_doorway_stays() {
+    let plan = plan_q();
+    let asked = DoorChange {
+        setting: 0,
+        stand: IN_DOORWAY,
+        given: &SEEN,
+        door: 0,
+        shut: true,
+    };
+    for shut in [true, false] {
+        for given in [&SEEN[..], &SEEN[..9], &[]] {
+            for setting in [0, 1] {
+                let asked = DoorChange {
+                    setting,
+                    given,
+                    shut,
+                    ..asked
+                };
+                for room in [12, 13, 11, 0] {
+                    assert_eq!(change_in(&plan, asked, room), 9);
+                }
+            }
+        }
+        // A door that does not exist is none that the stand is within.
+        for door in [1, 2, 63, 64, 65_535, usize::MAX] {
+            let asked = DoorChange {
+                door,
+                shut,
+                ..asked
+            };
+            assert_eq!(change_in(&plan, asked, 12), 12, "{door}");
+            assert_eq!(change_in(&plan, asked, 11), 11, "{door}");
+        }
+        let asked = DoorChange {
+            setting: 2,
+            shut,
+            ..asked
+        };
+        assert_eq!(change_in(&plan, asked, 12), 7);
+    }
+    // From inside a cell it is changed as before.
+    assert_eq!(toggle(&plan, 0, Stand::Point(5.0, 4.0), 0).len(), 9);
+}
+
+/// Every line of the hall with its midpoint, and its door.
+const LINES_OF_HALL: [([i32; 2], [u64; 2], Option<usize>); 5] = [
+    ([5, 5], [0, 1], Some(1)),
+    ([-5, 5], [0, 2], Some(2)),
+    ([5, 15], [1, 1], None),
+    ([-5, 15], [2, 1], None),
+    ([0, 20], [3, 1], Some(0)),
+];
+
+/// From every line of the hall under every setting: the doors elsewhere are
+/// changed, also those of the two cells at the line.
+#[test]
+fn other_doors_from_a_side() {
+    let plan = hall();
+    let mut changed = 0;
+    for ([x, y], [cell, side], own) in LINES_OF_HALL {
+        let stand = Stand::Point(x.into(), y.into());
+        for setting in 0..8 {
+            let is_shut = own.is_some_and(|door| setting >> door & 1 == 1);
+            let found = find_under(&plan, setting, stand);
+            if is_shut {
+                assert_eq!(found, Reply::refused(9, 0), "({x}, {y})");
+                continue;
+            }
+            assert_eq!(found, Reply::done([cell, 1, side]), "({x}, {y})");
+            let given = rows(&plan, setting, stand);
+            for door in 0..3 {
+                if Some(door) == own {
+                    for shut in [false, true] {
+                        let asked = DoorChange {
+                            setting,
+                            stand,
+                            given: &given,
+                            door,
+                            shut,
+                        };
+                        assert_eq!(change_in(&plan, asked, 18), 9, "({x}, {y})");
+                    }
+                } else {
+                    toggle(&plan, setting, stand, door);
+                    changed += 1;
+                }
+            }
+        }
+    }
+    assert_eq!(changed, 3 * 4 * 2 + 2 * 8 * 3);
+    // On the far door, with a corner of the plan straight ahead: the wall behind it
+    // is seen on its right and on its left.
+    let (reply, table) = list(&plan, 0, Stand::Point(0.0, 20.0), 18);
+    assert_eq!(reply, Reply::done([6, 4]));
+    let expected = [
+        [8, 4, 0],
+        [0, 0, 2],
+        [0, 2, 1],
+        [3, 1, 3],
+        [13, 3, 5],
+        [14, 5, 4],
+    ];
+    assert_eq!(table, *expected.as_flattened());
+}
+
+/// From the line between a triangle and a cell of four corners, through all the
+/// others; corners 5 and 10 lie on the limits.
+#[test]
+fn a_line_between_larger_cells() {
+    let plan = row_of_cells();
+    let stand = Stand::Point(10.0, 0.0);
+    let (reply, table) = list(&plan, 0, stand, 42);
+    assert_eq!(reply, Reply::done([12, 2]));
+    let expected = [
+        [2, 2, 0],
+        [0, 0, 1],
+        [3, 1, 3],
+        [8, 3, 6],
+        [9, 6, 7],
+        [15, 7, 11],
+        [16, 11, 12],
+        [17, 12, 13],
+        [18, 13, 8],
+        [11, 8, 9],
+        [12, 9, 4],
+        [5, 4, 2],
+    ];
+    assert_eq!(table[..36], *expected.as_flattened());
+    // With every other door shut: the sides of the two cells, and nothing more.
+    let (reply, table) = list(&plan, 0b110, stand, 42);
+    assert_eq!(reply, Reply::done([5, 0]));
+    let expected = [[2, 2, 0], [0, 0, 1], [3, 1, 3], [4, 3, 4], [5, 4, 2]];
+    assert_eq!(table[..15], *expected.as_flattened());
+    // From the line between the octagon, found first, and the cell of five.
+    let stand = Stand::Point(50.0, 0.0);
+    assert_eq!(find(&plan, stand), Reply::done([2, 1, 3]));
+    let (reply, table) = list(&plan, 0b010, stand, 42);
+    assert_eq!(reply, Reply::done([11, 0]));
+    let octagon = [
+        [11, 8, 9],
+        [12, 9, 10],
+        [13, 10, 4],
+        [14, 4, 3],
+        [7, 3, 5],
+        [8, 5, 6],
+        [9, 6, 7],
+    ];
+    let behind = [[15, 7, 11], [16, 11, 12], [17, 12, 13], [18, 13, 8]];
+    let expected = [octagon.as_flattened(), behind.as_flattened()].concat();
+    assert_eq!(table[..33], expected);
+    // Every door but the line's own, under every setting.
+    for (x, own) in [(10, 0), (20, 1), (50, 2)] {
+        for y in [-9, -1, 0, 4, 9] {
+            let stand = Stand::Point(x.into(), y.into());
+            for setting in (0..8).filter(|setting| setting >> own & 1 == 0) {
+                for door in (0..3).filter(|&door| door != own) {
+                    toggle(&plan, setting, stand, door);
+                }
+            }
+        }
+    }
+}
+
+/// Plan Q, and another cell between walls that has its corners at these spots.
+fn plan_q_below(spots: [[i32; 2]; 3]) -> Plan {
+    let mut plan = plan_q();
+    plan.corners.extend(spots.as_flattened());
+    plan.cells.extend([4, 5, 6, WALL, WALL, WALL]);
+    plan
+}
+
+/// A cell on top that holds the stand strictly inside wins, whatever its number;
+/// one that has it on its border does not.
+#[test]
+fn a_cell_on_top_of_a_doorway() {
+    let plan = plan_q_below([[-5, -5], [20, -5], [-5, 20]]);
+    let seen = [6, 4, 5, 7, 5, 6, 8, 6, 4];
+    for setting in [0, 1] {
+        let found = find_under(&plan, setting, IN_DOORWAY);
+        assert_eq!(found, Reply::done([2, 0, 0]));
+        let (reply, table) = list(&plan, setting, IN_DOORWAY, 21);
+        assert_eq!((reply, &table[..9]), (Reply::done([3, 0]), &seen[..]));
+        // The door's line holds the stand, and it is changed all the same.
+        assert_eq!(toggle(&plan, setting, IN_DOORWAY, 0), seen);
+        let asked = DoorChange {
+            setting,
+            stand: IN_DOORWAY,
+            given: &seen,
+            door: 0,
+            shut: setting == 1,
+        };
+        assert_eq!(change_in(&plan, asked, 21), 12);
+        assert_eq!(change_in(&plan, asked, 20), 11);
+    }
+    // (8, 8) is outside of it, and on the side of plan Q.
+    assert_eq!(find(&plan, Stand::Point(8.0, 8.0)), Reply::done([0, 1, 2]));
+    // The stand on its wall, and on its corner.
+    for spots in [[[5, 0], [20, 5], [5, 20]], [[5, 5], [20, 5], [5, 20]]] {
+        let plan = plan_q_below(spots);
+        assert_eq!(find(&plan, IN_DOORWAY), Reply::done([0, 1, 2]), "{spots:?}");
+        let shut = find_under(&plan, 1, IN_DOORWAY);
+        assert_eq!(shut, Reply::refused(9, 0), "{spots:?}");
+    }
+}
+
+/// Plan Q twice in the same place: the least free side is found, and no door is
+/// changed whose line holds the stand, whichever of the two it is on.
+#[test]
+fn doorways_on_top_of_each_other() {
+    let mut plan = plan_q();
+    plan.cells
+        .extend([0, 1, 2, WALL, WALL, 3, 0, 2, 3, 2, WALL, WALL]);
+    plan.doors = vec![2, 9];
+    assert_eq!(check(&plan), Reply::done([4, 4, 2]));
+    let second = [6, 0, 1, 7, 1, 2, 10, 2, 3, 11, 3, 0];
+    for (setting, cell, seen) in [(0, 0, SEEN), (1, 2, second), (2, 0, SEEN)] {
+        let found = find_under(&plan, setting, IN_DOORWAY);
+        assert_eq!(found, Reply::done([cell, 1, 2]), "{setting}");
+        let listed = list(&plan, setting, IN_DOORWAY, 12);
+        assert_eq!(listed, (Reply::done([4, 0]), seen.to_vec()), "{setting}");
+        for door in [0, 1] {
+            for shut in [false, true] {
+                let asked = DoorChange {
+                    setting,
+                    stand: IN_DOORWAY,
+                    given: &seen,
+                    door,
+                    shut,
+                };
+                assert_eq!(change_in(&plan, asked, 12), 9, "{setting}, {door}");
+            }
+        }
+    }
+    let shut = find_under(&plan, 3, IN_DOORWAY);
+    assert_eq!(shut, Reply::refused(9, 0));
+}
+
+#[test]
+fn a_morning_with_stands_on_a_side() {
+    let plan = plan_q();
+    let asked: [([f64; 3], [u64; 3]); 10] = [
+        ([POINT, 11.0, 5.0], [10, 0, 0]),
+        ([POINT, 5.0, 5.0], [0, 4, 0]),
+        ([POINT, 0.0, 0.0], [9, 0, 0]),
+        ([2.0, -9.0, -9.0], [0, 4, 0]),
+        (BESIDE, [0, 4, 1]),
+        ([POINT, 6.0, -0.0], [9, 0, 0]),
+        ([0.0, 9.0, 9.0], [0, 4, 0]),
+        ([POINT, 5.5, 5.5], [8, 0, 0]),
+        ([9.0, 5.0, 5.0], [8, 0, 0]),
+        ([POINT, 1.0, 1.0], [0, 4, 0]),
+    ];
+    let stands: Vec<f64> = asked.iter().flat_map(|(numbers, _)| *numbers).collect();
+    let own: Vec<[u64; 3]> = asked.iter().map(|(_, own)| *own).collect();
+    let room = enough(&plan, &stands).map(|length| length + 2);
+    let expected = Morning::new(Reply::done([20, 1]), room, &SEEN.repeat(5), &own);
+    assert_eq!(list_stands(&plan, 0, &stands, room), expected);
+    // With the door shut they are refused, and the one inside is not.
+    let own: Vec<[u64; 3]> = own
+        .iter()
+        .map(|&[number, _, crossings]| match (number, crossings) {
+            (0, 0) => [9, 0, 0],
+            (0, _) => [0, 3, 0],
+            _ => [number, 0, 0],
+        })
+        .collect();
+    let shut = [0, 0, 1, 1, 1, 2, 2, 2, 0];
+    let expected = Morning::new(Reply::done([3, 0]), room, &shut, &own);
+    assert_eq!(list_stands(&plan, 1, &stands, room), expected);
+    // Room is asked for each, and a wrong setting refuses them all.
+    let short = [room[0] - 3, room[1]];
+    assert_eq!(
+        list_stands(&plan, 0, &stands, short),
+        Morning::refused(11, 0, short)
+    );
+    assert_eq!(
+        list_stands(&plan, 2, &stands, room),
+        Morning::refused(7, 0, room)
+    );
+}
+
+/// From end to end of the coordinates, and a millimetre from the ends.
+#[test]
+fn a_doorway_from_end_to_end_of_the_coordinates() {
+    let plan = widest();
+    for at in [0, 1, LIMIT - 1, 1 - LIMIT, 12_345_678] {
+        let stand = Stand::Point(at.into(), at.into());
+        assert_eq!(find(&plan, stand), Reply::done([0, 1, 2]), "{at}");
+        let listed = list(&plan, 0, stand, 12);
+        assert_eq!(listed, (Reply::done([4, 0]), SEEN.to_vec()), "{at}");
+        assert_eq!(find_under(&plan, 1, stand), Reply::refused(9, 0), "{at}");
+    }
+    for at in [LIMIT, -LIMIT] {
+        let stand = Stand::Point(at.into(), at.into());
+        assert_eq!(find(&plan, stand), Reply::refused(9, 0), "{at}");
+    }
+    // A line that is all but straight on: a millimetre beside it is inside.
+    let limit = f64::from(LIMIT);
+    let at = |x, y| find(&plan, Stand::Point(x, y));
+    assert_eq!(at(limit - 1.0, limit - 2.0), Reply::done([0, 0, 0]));
+    assert_eq!(at(limit - 2.0, limit - 1.0), Reply::done([1, 0, 0]));
+}
+
+/// From each line of a strip everything is seen through every other line.
+#[test]
+fn every_line_of_a_strip() {
+    let plan = strip(100, 64);
+    for line in [0, 1, 31, 62, 63, 64, 98] {
+        let x = 10 * (line + 1) + 5;
+        let stand = Stand::Point(x.into(), 50.0);
+        let found = find(&plan, stand);
+        assert_eq!(found, Reply::done([line as u64, 1, 1]), "line {line}");
+        let (reply, _) = list(&plan, 0, stand, 306);
+        assert_eq!(reply, Reply::done([102, 98]), "line {line}");
+        for door in (0..64).filter(|&door| door != line as usize).step_by(9) {
+            toggle(&plan, 0, stand, door);
+            toggle(&plan, 1 << door, stand, door);
+        }
+    }
+    let stand = Stand::Point(15.0, 50.0);
+    let (reply, _) = list(&strip(2_046, 64), 0, stand, 3 * 2_048);
+    assert_eq!(reply, Reply::done([2_048, 2_044, 0]));
 }

@@ -3,7 +3,7 @@
 use manopluea_compare::calls::{Stand, TRIANGLES};
 use manopluea_compare::compare::{compare, Tally};
 use manopluea_compare::generate::{self, Dice, Merged};
-use manopluea_compare::paper::{change_by_runs, Floor, Paper, View, WALL};
+use manopluea_compare::paper::{change_by_runs, Floor, Paper, Place, View, WALL};
 
 fn run(seed: u64, count: u64) -> Tally {
     compare(&Paper, &Paper, seed, count).unwrap_or_else(|mismatch| panic!("{mismatch}"))
@@ -20,7 +20,7 @@ fn every_reply_number_comes_up_in_every_call_that_has_it() {
         assert_eq!(numbers(0), [0, 1, 2, 3, 4, 5, 6], "check");
         assert_eq!(numbers(1), [0, 1, 2, 3, 4, 5, 6, 11], "read");
         assert_eq!(numbers(2), [0, 1, 2, 3, 4, 5, 6, 11], "write");
-        assert_eq!(numbers(3), [0, 1, 2, 3, 4, 5, 6, 8, 9, 10], "find");
+        assert_eq!(numbers(3), (0..=10).collect::<Vec<_>>(), "find");
         assert_eq!(numbers(4), (0..=11).collect::<Vec<_>>(), "list");
         assert_eq!(numbers(5), [0, 1, 2, 3, 4, 5, 6, 7, 11], "stands");
         assert_eq!(numbers(6), (0..=13).collect::<Vec<_>>(), "change");
@@ -33,6 +33,12 @@ fn every_reply_number_comes_up_in_every_call_that_has_it() {
         assert_eq!(numbers, expected, "call {call}");
     }
     assert!(tally.directions > 8_000 && tally.changes > 1_000 && tally.either > 2_000);
+    let sides = tally.sides;
+    assert!(
+        sides.found > 500 && sides.directions > 3_000 && sides.changes > 200,
+        "{sides:?}"
+    );
+    assert!(sides.own_doors > 100, "{sides:?}");
 }
 
 /// At the first place of a morning, at those between, and at the last.
@@ -64,28 +70,36 @@ fn each_view(seed: u64, count: u64, mut look: impl FnMut(&generate::Scene, &Floo
 
 #[test]
 fn rows_and_crossings_keep_their_bounds() {
-    let mut most_rows = 0;
-    let mut all_corners_seen = 0;
-    each_view(2, 4_000, |_, floor, view| {
+    // Of stands inside a cell, and on a side.
+    let (mut most_rows, mut all_corners_seen) = ([0; 2], [0; 2]);
+    each_view(2, 6_000, |_, floor, view| {
         let listing = view.list();
         let (rows, corners) = (listing.rows.len(), floor.corners().len());
+        let on_side = usize::from(matches!(view.place(), Place::Within(_)));
         assert!(rows <= corners);
-        assert!(listing.crossings <= (rows * (floor.cell_count() - 1)) as u64);
-        most_rows = most_rows.max(rows);
-        all_corners_seen += usize::from(rows == corners);
+        let not_entered = floor.cell_count() - 1 - on_side;
+        assert!(listing.crossings <= (rows * not_entered) as u64);
+        most_rows[on_side] = most_rows[on_side].max(rows);
+        all_corners_seen[on_side] += usize::from(rows == corners);
     });
-    assert!(most_rows > 100 && all_corners_seen > 100);
+    assert!(most_rows[0] > 100 && most_rows[1] > 30, "{most_rows:?}");
+    assert!(
+        all_corners_seen[0] > 100 && all_corners_seen[1] > 20,
+        "{all_corners_seen:?}"
+    );
 }
 
 #[test]
 fn the_change_by_runs_is_the_fresh_listing() {
-    let (mut shut, mut opened, mut doors_in_two_rows) = (0, 0, 0);
+    let (mut shut, mut opened, mut doors_in_two_rows, mut from_sides) = (0, 0, 0, 0);
     each_view(3, 4_000, |scene, floor, before| {
         let rows = before.list().rows;
-        for door in 0..scene.plan.doors.len().min(4) {
+        let doors = 0..scene.plan.doors.len();
+        for door in doors.filter(|&door| !before.is_in_doorway(door)).take(4) {
             let setting = scene.setting ^ 1 << door;
             let shuts = setting >> door & 1 == 1;
             let after = View::new(floor, setting, scene.stand).unwrap();
+            assert_eq!(after.place(), before.place());
             let fresh = after.list();
             let faces = floor.door_faces(door);
             assert_eq!(
@@ -101,9 +115,11 @@ fn the_change_by_runs_is_the_fresh_listing() {
             doors_in_two_rows += usize::from(in_two_rows);
             shut += usize::from(shuts);
             opened += usize::from(!shuts);
+            from_sides += usize::from(matches!(before.place(), Place::Within(_)));
         }
     });
     assert!(shut > 500 && opened > 500 && doors_in_two_rows > 20);
+    assert!(from_sides > 500, "{from_sides}");
 }
 
 /// A door seen to the right and to the left of a corner, by two routes: its
@@ -156,7 +172,12 @@ fn merged_cells_list_the_walls_of_their_triangles() {
                 continue;
             };
             // Of cells on top of each other another one can be the least.
-            if merged.cell_with(through_small.cell()) != through_large.cell() {
+            let (Place::Inside(small), Place::Inside(large)) =
+                (through_small.place(), through_large.place())
+            else {
+                continue;
+            };
+            if merged.cell_with(small) != large {
                 continue;
             }
             let (of_small, of_large) = (through_small.list(), through_large.list());
@@ -199,7 +220,7 @@ impl Ties {
             let [right, left] = floor.ends(face);
             [face, right, left]
         };
-        let mut waiting: Vec<[u16; 3]> = floor.faces(view.cell()).map(row).collect();
+        let mut waiting: Vec<[u16; 3]> = view.around().into_iter().map(row).collect();
         while let Some([face, mut right, left]) = waiting.pop() {
             let entered = across[usize::from(face)];
             if entered == WALL {
@@ -233,7 +254,7 @@ impl Ties {
 #[test]
 fn every_tie_comes_up_in_larger_cells() {
     let mut ties = Ties::default();
-    each_view(4, 6_000, |scene, floor, view| {
+    each_view(4, 9_000, |scene, floor, view| {
         let across = floor.across_under(scene.setting).unwrap();
         ties.count(floor, &across, view);
     });

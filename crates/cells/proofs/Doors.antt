@@ -21,3 +21,8 @@ module _ (ds : List ℕ) (f g e : ℕ) where
   pub names-neither : (getD ds e 0 ≡ f → ⊥) → (getD ds e 0 ≡ g → ⊥) → names ds f g e ≡ false
   unfolding names
   names-neither h k = simp (ne-eqb _ _ h, ne-eqb _ _ k)
+
+  -- where it does not name the face, the other face decides
+  pub names-by-the-back : (getD ds e 0 ≡ f → ⊥) → names ds f g e ≡ eqb (getD ds e 0) g
+  unfolding names
+  names-by-the-back h = simp (ne-eqb (getD ds e 0) f h)

@@ -1,6 +1,6 @@
 -- Laws of the least place: one step of a loop that seeks it, and what it says of the places before it.
 use mathlib.Core.Bool.{Bool, true, false}
-use mathlib.Core.Path.{_≡_, refl, sym, _∙_, ap, subst}
+use mathlib.Core.Path.{_≡_, refl, sym, _∙_, ap, ap₂, subst}
 use Prim.Native.Nat.{ℕ, zero, suc, _+_, _-_, _≤_, _<_}
 use native.Mathlib.Numerals.{add-one}
 use native.Mathlib.Decide.{decLt}
@@ -109,6 +109,20 @@ seek-passes {t} {n} {i} s zero h none = let same : i + zero ≡ i = omega arith 
 seek-passes {t} {n} {i} s (suc k) h none =
     let same : i + suc k ≡ i + k + 1 = omega arith in
     rw same (seek-goes-on (seek-passes s k (omega arith) (λ j l m. none j l (omega arith))) (omega arith) (none (i + k) (omega arith) (omega arith)))
+
+-- where the test holds at i and at no place before it, i is the least
+pub least-is : (t : ℕ → Bool) (n i : ℕ) → i < n → t i ≡ true → ((k : ℕ) → k < i → t k ≡ false) → i ≡ least t n 0
+least-is t n i h e none =
+    let same : 0 + i ≡ i = omega arith in
+    seek-found (subst (Seeks t n) same (seek-passes (seek-begins t n) i (omega arith) (λ j l m. none j (omega arith)))) h e
+
+-- two tests that agree at each of n places have the same least there
+pub least-by-the-same-test : (s t : ℕ → Bool) (n i : ℕ) → ((k : ℕ) → i ≤ k → k < i + n → s k ≡ t k) → least s n i ≡ least t n i
+unfolding least
+least-by-the-same-test s t zero i same = refl
+least-by-the-same-test s t (suc n) i same =
+    ap₂ (λ (b : Bool) (k : ℕ). elim b [ true ↦ i | false ↦ k ]) (same i (omega arith) (omega arith))
+    (least-by-the-same-test s t n (suc i) (λ k l m. same k (omega arith) (omega arith)))
 
 -- ---- a loop that seeks the least of the places from a on and before n has come to i
 

@@ -14,6 +14,10 @@ pub mod Cells
 pub mod Doors
 -- laws of right cells and of a sound plan, which all crates above use: counts, convex cells, the face on the other side, doors
 pub mod Plans
+-- a point strictly within a side is strictly left of every other side of the cell
+pub mod Within
+-- a point strictly within a line between two cells is strictly within no third one, unless cells overlap
+pub mod ThirdLine
 -- the check, way out by way out: what was found, and the reply
 pub mod Checks
 -- an accepted plan is sound, and the reply has its counts

@@ -14,3 +14,5 @@ pub mod Sound
 pub mod PlanQ
 -- a table of the faces on the other side
 pub mod Backed
+-- two cells overlap
+pub mod Overlap

@@ -16,9 +16,9 @@ use Rattle.cells.specs.Lists.{Cells, tabled, corner-count, cell-count, face-cou
 use Rattle.cells.specs.Cut.{cut, is-whole, cells-of}
 use Rattle.cells.specs.Check.{framed, checked}
 use Rattle.cells.specs.Backed.{Backed}
-use Rattle.cells.specs.Sound.{CornersNear, CornersExist, Numbered, Sound}
+use Rattle.cells.specs.Sound.{Sound}
 use Rattle.cells.proofs.Accepted.{accepted-is-sound}
-use Rattle.cells.proofs.Plans.{counts, corners-exist}
+use Rattle.cells.proofs.Plans.{counts}
 use Rattle.checking.specs.Sizes.{sizes-of}
 use Rattle.checking.specs.declared.Sizes.the-variants.{Of}
 use Rattle.checking.proofs.Measures.{counted-fit}
@@ -27,15 +27,15 @@ use Rattle.checking.proofs.Measures.{counted-fit}
 pub drawn-cells : {faces firsts : List ℕ} (k : ℕ) (ts : List ℕ) → faces ≡ cells-of k ts .faces → firsts ≡ cells-of k ts .firsts → tabled faces firsts ≡ cells-of k ts
 drawn-cells k ts e f = ap₂ tabled e f
 
--- what finding a stand asks of them
-pub corners-checked : {T : Cells} (k : ℕ) (cs : List ℤ) (ts ds : List ℕ) {p : Plan} → T ≡ cells-of k ts → checked k cs ts ds ≡ Accepted p → CornersNear cs × CornersExist cs T × Numbered T
-corners-checked k cs ts ds {p} e accepted =
-    let sound = accepted-is-sound k cs ts ds p accepted .0 in
-    subst (λ (T : Cells). CornersNear cs × CornersExist cs T × Numbered T) (sym e) (sound .corners, corners-exist (sound .numbered) (sound .cells), sound .numbered)
-
 -- of an accepted plan the faces on the other side stand in the table, whichever way its cells are told
 pub noted-backs : {T : Cells} (k : ℕ) (cs : List ℤ) (ts ds bs : List ℕ) → T ≡ cells-of k ts → (Sound cs (cells-of k ts) ds → Backed (cells-of k ts) bs) → Sound cs T ds → Backed T bs
 noted-backs k cs ts ds bs e noted sound = subst (λ (T : Cells). Backed T bs) (sym e) (noted (subst (λ (T : Cells). Sound cs T ds) e sound))
+
+-- so an accepted plan is as finding a stand asks, its cells as they were drawn
+pub plan-checked : {T : Cells} (k : ℕ) (cs : List ℤ) (ts ds bs : List ℕ) {p : Plan} → T ≡ cells-of k ts → checked k cs ts ds ≡ Accepted p → (Sound cs (cells-of k ts) ds → Backed (cells-of k ts) bs) → Sound cs T ds × Backed T bs
+plan-checked k cs ts ds bs {p} e accepted noted =
+    let sound = subst (λ (T : Cells). Sound cs T ds) (sym e) (accepted-is-sound k cs ts ds p accepted .0) in
+    (sound, noted-backs k cs ts ds bs e noted sound)
 
 -- room for the lines of the cells is room for them as they were drawn
 pub room-for-lines : {T : Cells} {n : ℕ} (k : ℕ) (ts : List ℕ) → T ≡ cells-of k ts → n ≡ 4 * face-count (cells-of k ts) → n ≡ 4 * face-count T

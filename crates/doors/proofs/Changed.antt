@@ -16,14 +16,15 @@ use Rattle.limits.specs.declared.Checked.the-variants as C
 use Rattle.setting.proofs.Settings.{shutting-keeps-within, opening-keeps-within}
 use Rattle.stand.specs.Spot.{stood}
 use Rattle.stand.specs.declared.spot.Stand.{Stand}
-use Rattle.sight.specs.Listing.{unless, view-of-spot, view-of-plan, viewed, listing-numbers, listed-from, listed}
-use Rattle.sight.specs.declared.view.View.{View}
+use Rattle.stand.specs.declared.locate.Footing.{Footing}
+use Rattle.sight.specs.Listing.{unless, view-of-place, view-of-spot, view-of-plan, viewed, refuse, no-room, rows-from, listing-numbers, listed-from, listed}
 use Rattle.sight.specs.declared.view.View.the-variants as O
 use Rattle.sight.specs.declared.list.Listed.{Listed}
 use Rattle.sight.specs.declared.list.Listed.the-variants as L
-use Rattle.sight.proofs.Views.{a-refusal-is-no-view}
-use Rattle.doors.specs.Change.{in-state, wished, changed-from, changed}
-use Rattle.doors.proofs.Changes.{is-the-same, is-another, no-such-door, already-so, not-true, change-made}
+use Rattle.sight.proofs.Views.{Viewed, plan-refused, a-refusal-is-no-view, view-says}
+use Rattle.doors.specs.Change.{in-state, wished, underfoot, changed-at, changed}
+use Rattle.doors.proofs.Changes.{is-the-same, is-another, no-such-door, already-so, not-true, change-made, by-tests}
+use Rattle.doors.proofs.SameFooting.{located-under-the-wished}
 
 -- a setting without a bit at or above the door count has none after one door's change
 pub the-wished-setting-is-not-wrong : (w i k : ℕ) (b : Bool) → i < k → wrong-setting w k ≡ false → wrong-setting (wished b w i) k ≡ false
@@ -37,47 +38,63 @@ the-wished-setting-is-not-wrong w i k b exists e = ap not (lt-ltb _ _ (by-state 
     by-state true = shutting-keeps-within w i k exists within
     by-state false = opening-keeps-within w i k within
 
-module _ (k : ℕ) (cs : List ℤ) (ts ds : List ℕ) (w : ℕ) (s : Stand) (given : List ℕ) (i : ℕ) (b : Bool) (table : List ℕ) {x y : ℤ} {c : ℕ} (view : viewed k cs ts ds w s (length table) ≡ O.From x y c) where
+module _ (k : ℕ) (cs : List ℤ) (ts ds : List ℕ) (w : ℕ) (s : Stand) (given : List ℕ) (i : ℕ) (b : Bool) (table : List ℕ) {x y : ℤ} {p : Footing} (view : viewed k cs ts ds w s ≡ O.From x y p) where
   abbrev q : Point
   q = record { x = x; y = y }
 
-  of-view : changed-from cs (cells-of k ts) ds w given i b table (O.From x y c) ≡ changed k cs ts ds w s given i b table
-  unfolding changed
-  of-view = ap (changed-from cs (cells-of k ts) ds w given i b table) (sym view)
+  -- a door underfoot, in whatever state and with whatever table
+  pub a-door-underfoot-is-refused : underfoot cs (cells-of k ts) ds i q p ≡ true → changed k cs ts ds w s given i b table ≡ (L.Refused R.Line, table)
+  a-door-underfoot-is-refused e = sym (by-tests k cs ts ds w s given i b table view (sym e) refl)
 
-  -- no such door
-  pub a-door-that-is-not-there-is-refused : length ds ≤ i → changed k cs ts ds w s given i b table ≡ (L.Refused R.Change, table)
-  a-door-that-is-not-there-is-refused h = sym (no-such-door cs (cells-of k ts) ds w given i b table q c h ∙ of-view)
+  module _ (clear : underfoot cs (cells-of k ts) ds i q p ≡ false) where
+    -- a table without room
+    pub a-short-table-is-refused : no-room cs table ≡ true → changed k cs ts ds w s given i b table ≡ (L.Refused R.Room, table)
+    a-short-table-is-refused e = sym (by-tests k cs ts ds w s given i b table view (sym clear) (sym e))
 
-  module _ (exists : i < length ds) where
-    -- already in that state
-    pub a-door-already-so-is-refused : in-state b w i ≡ true → changed k cs ts ds w s given i b table ≡ (L.Refused R.Change, table)
-    a-door-already-so-is-refused e = sym (already-so cs (cells-of k ts) ds w given i b table q c exists (sym e) ∙ of-view)
+    module _ (room : no-room cs table ≡ false) where
+      of-view : changed-at cs (cells-of k ts) ds w given i b table q p ≡ changed k cs ts ds w s given i b table
+      of-view = by-tests k cs ts ds w s given i b table view (sym clear) (sym room)
 
-    module _ (otherwise : in-state b w i ≡ false) where
-      -- a list that is not true is refused
-      pub a-list-that-is-not-true-is-refused : (given ≡ listing-numbers cs (cells-of k ts) ds w q c → ⊥) → changed k cs ts ds w s given i b table ≡ (L.Refused R.Rows, table)
-      a-list-that-is-not-true-is-refused apart = sym (not-true cs (cells-of k ts) ds w given i b table q c exists (sym otherwise) (is-another apart) refl ∙ of-view)
+      -- no such door
+      pub a-door-that-is-not-there-is-refused : length ds ≤ i → changed k cs ts ds w s given i b table ≡ (L.Refused R.Change, table)
+      a-door-that-is-not-there-is-refused h = sym (no-such-door cs (cells-of k ts) ds w given i b table q p h ∙ of-view)
 
-      -- the view is the same under the new setting
-      pub same-view : viewed k cs ts ds (wished b w i) s (length table) ≡ O.From x y c
-      unfolding viewed
-      same-view = by-plan (checked k cs ts ds) view
-        where
-          by-setting : (v : View) (t : Bool) → wrong-setting w (length ds) ≡ t → unless t R.Setting v ≡ O.From x y c → unless (wrong-setting (wished b w i) (length ds)) R.Setting v ≡ O.From x y c
-          by-setting v true h p = absurd (a-refusal-is-no-view p)
-          by-setting v false h p = ap (λ (t : Bool). unless t R.Setting v) (the-wished-setting-is-not-wrong w i (length ds) b exists h) ∙ p
+      module _ (exists : i < length ds) where
+        -- already in that state
+        pub a-door-already-so-is-refused : in-state b w i ≡ true → changed k cs ts ds w s given i b table ≡ (L.Refused R.Change, table)
+        a-door-already-so-is-refused e = sym (already-so cs (cells-of k ts) ds w given i b table q p exists (sym e) ∙ of-view)
 
-          by-plan : (v : Checked) → view-of-plan cs (cells-of k ts) ds w s (length table) v ≡ O.From x y c → view-of-plan cs (cells-of k ts) ds (wished b w i) s (length table) v ≡ O.From x y c
-          by-plan (C.Accepted p) e = by-setting (view-of-spot cs (cells-of k ts) (length table) (stood cs s)) (wrong-setting w (length ds)) refl e
-          by-plan (C.Refused r) e = absurd (a-refusal-is-no-view e)
+        module _ (otherwise : in-state b w i ≡ false) where
+          -- a list that is not true is refused
+          pub a-list-that-is-not-true-is-refused : (given ≡ listing-numbers cs (cells-of k ts) ds w q p → ⊥) → changed k cs ts ds w s given i b table ≡ (L.Refused R.Rows, table)
+          a-list-that-is-not-true-is-refused apart = sym (not-true cs (cells-of k ts) ds w given i b table q p exists (sym otherwise) (is-another apart) refl ∙ of-view)
 
-      -- from a true list the change gives what a fresh listing gives: rows, order, crossings and the table
-      pub the-change-is-a-fresh-listing : given ≡ listing-numbers cs (cells-of k ts) ds w q c → changed k cs ts ds w s given i b table ≡ listed k cs ts ds (wished b w i) s table
-      unfolding listed
-      the-change-is-a-fresh-listing same =
-          sym (change-made cs (cells-of k ts) ds w given i b table q c exists (sym otherwise) (is-the-same same) refl refl (refl, (refl, refl)) ∙ of-view)
-          ∙ ap (listed-from cs (cells-of k ts) ds (wished b w i) table) (sym same-view)
+          -- the view is the same under the new setting
+          pub same-view : viewed k cs ts ds (wished b w i) s ≡ O.From x y p
+          unfolding viewed
+          same-view = by-plan (checked k cs ts ds) refl
+            where
+              says : Viewed k cs ts ds w s x y p
+              says = view-says k cs ts ds w s view
+
+              by-spot : view-of-spot cs (cells-of k ts) ds (wished b w i) (stood cs s) ≡ O.From x y p
+              by-spot =
+                  ap (view-of-spot cs (cells-of k ts) ds (wished b w i)) (says .spotted .stand-is)
+                  ∙ ap (view-of-place x y) (located-under-the-wished (says .sound) q i exists w b (says .spotted .stand-place) clear)
+
+              by-plan : (v : Checked) → checked k cs ts ds ≡ v → view-of-plan cs (cells-of k ts) ds (wished b w i) s v ≡ O.From x y p
+              by-plan (C.Accepted a) e =
+                  ap (λ (t : Bool). unless t R.Setting (view-of-spot cs (cells-of k ts) ds (wished b w i) (stood cs s))) (the-wished-setting-is-not-wrong w i (length ds) b exists (says .setting-right))
+                  ∙ by-spot
+              by-plan (C.Refused r) e = absurd (a-refusal-is-no-view (plan-refused k cs ts ds w s e ∙ view))
+
+          -- from a true list the change gives what a fresh listing gives: rows, order, crossings and the table
+          pub the-change-is-a-fresh-listing : given ≡ listing-numbers cs (cells-of k ts) ds w q p → changed k cs ts ds w s given i b table ≡ listed k cs ts ds (wished b w i) s table
+          unfolding listed
+          the-change-is-a-fresh-listing same =
+              sym (change-made cs (cells-of k ts) ds w given i b table q p exists (sym otherwise) (is-the-same same) refl refl (refl, (refl, refl)) ∙ of-view)
+              ∙ ap (λ (t : Bool). refuse t R.Room table (rows-from cs (cells-of k ts) ds (wished b w i) table q p)) (sym room)
+              ∙ ap (listed-from cs (cells-of k ts) ds (wished b w i) table) (sym same-view)
 
 -- the promise of the door change leaves one reply and one table
 pub change-has-one-reply : (k : ℕ) (cs : List ℤ) (ts ds : List ℕ) (w : ℕ) (stand : Stand) (given : List ℕ) (i : ℕ) (b : Bool) (table : List ℕ) {r s : Listed × List ℕ} → r ≡ changed k cs ts ds w stand given i b table → s ≡ changed k cs ts ds w stand given i b table → r ≡ s

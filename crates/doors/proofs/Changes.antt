@@ -13,7 +13,7 @@ use mir.Syntax.{w64}
 use mir.Val.{toZ, ofZ}
 use Rattle.exact.proofs.Lent.{first-is-new}
 use Rattle.exact.proofs.Truth.{both-true}
-use Rattle.plane.specs.Side.{Point}
+use Rattle.plane.specs.Side.{Point, point}
 use Rattle.cells.specs.Lists.{Cells, corner-count}
 use Rattle.cells.specs.Cut.{cells-of}
 use Rattle.cells.specs.Sound.{Sound}
@@ -26,17 +26,17 @@ use Rattle.checking.specs.declared.Sizes.the-variants.{Refused as Sizes·Refuse
 use Rattle.checking.proofs.Measures.{refused-likewise}
 use Rattle.stand.specs.Find.{located}
 use Rattle.stand.specs.declared.spot.Stand.{Stand}
+use Rattle.stand.specs.declared.locate.Footing.{Footing}
 use Rattle.stand.specs.declared.locate.Found.the-variants as F
-use Rattle.stand.proofs.Finds.{as-read}
-use Rattle.stand.proofs.Located.{found-cell-holds-the-stand}
-use Rattle.sight.specs.Listing.{viewed, listing-numbers, listing-row-count, listing-crossings, listed-from}
+use Rattle.stand.proofs.Located.{found-place-holds-the-stand}
+use Rattle.sight.specs.Listing.{viewed, listing-numbers, listing-row-count, listing-crossings, refuse, no-room, rows-from}
 use Rattle.sight.specs.declared.view.View.the-variants as O
 use Rattle.sight.specs.declared.list.Listed.{Listed}
 use Rattle.sight.specs.declared.list.Listed.the-variants as L
 use Rattle.sight.proofs.Sightings.{rows-never-outnumber-corners}
-use Rattle.sight.proofs.Views.{plan-refused, view-says}
+use Rattle.sight.proofs.Views.{plan-refused, view-read, is-short, is-long}
 use Rattle.sight.proofs.Written.{the-numbers-are-three-a-row}
-use Rattle.doors.specs.Change.{same-list, in-state, wished, no-change, refuse, changed-from, changed}
+use Rattle.doors.specs.Change.{same-list, in-state, wished, no-change, underfoot, changed-at, changed-from, changed}
 
 pub same-is-true : (a : List ℕ) → same-list a a ≡ true
 unfolding same-list
@@ -67,48 +67,48 @@ module _ {cs : List ℤ} {T : Cells} {ds : List ℕ} (sound : Sound cs T ds) whe
       let most = counts _ _ _ (sound .in-size) .corners-at-most in
       omega arith
 
-  module _ (w : ℕ) (q : Point) (c : ℕ) (stands : located cs T q ≡ F.Cell c) where
-    pub numbers-fit : {n : ℕ} → n ≡ listing-row-count cs T ds w q c → 3 * n ≤ 3 * corner-count cs
+  module _ (w : ℕ) (q : Point) (p : Footing) (stands : located cs T ds w q ≡ F.At p) where
+    pub numbers-fit : {n : ℕ} → n ≡ listing-row-count cs T ds w q p → 3 * n ≤ 3 * corner-count cs
     numbers-fit e =
-        let most = rows-never-outnumber-corners sound w q c (found-cell-holds-the-stand cs (sound .numbered) q stands) in
+        let most = rows-never-outnumber-corners sound w q p (found-place-holds-the-stand cs (sound .numbered) ds w q stands) in
         omega arith
 
-    pub listed-anew : {n : ℕ} (table : List ℕ) {new : List ℕ} → n ≡ listing-row-count cs T ds w q c → 3 * corner-count cs ≤ length table
-        → new ≡ sets table 0 (listing-numbers cs T ds w q c) → take (3 * n) new ≡ listing-numbers cs T ds w q c
+    pub listed-anew : {n : ℕ} (table : List ℕ) {new : List ℕ} → n ≡ listing-row-count cs T ds w q p → 3 * corner-count cs ≤ length table
+        → new ≡ sets table 0 (listing-numbers cs T ds w q p) → take (3 * n) new ≡ listing-numbers cs T ds w q p
     listed-anew {n} table {new} e room is =
         let fit = numbers-fit e in
         ap (take (3 * n)) is
-        ∙ first-is-new table (listing-numbers cs T ds w q c) (3 * n) (the-numbers-are-three-a-row cs T ds w q c ∙ ap (λ (k : ℕ). 3 * k) (sym e)) (omega arith)
+        ∙ first-is-new table (listing-numbers cs T ds w q p) (3 * n) (the-numbers-are-three-a-row cs T ds w q p ∙ ap (λ (k : ℕ). 3 * k) (sym e)) (omega arith)
 
 -- ---- replies 12 and 13, or the list under the new setting
 
-module _ (cs : List ℤ) (T : Cells) (ds : List ℕ) (w : ℕ) (given : List ℕ) (i : ℕ) (b : Bool) (table : List ℕ) (q : Point) (c : ℕ) where
+module _ (cs : List ℤ) (T : Cells) (ds : List ℕ) (w : ℕ) (given : List ℕ) (i : ℕ) (b : Bool) (table : List ℕ) (q : Point) (p : Footing) where
   abbrev after : Bool → Listed × List ℕ
-  after t = refuse t R.Rows table (listed-from cs T ds (wished b w i) table (O.From (q .x) (q .y) c))
+  after t = refuse t R.Rows table (rows-from cs T ds (wished b w i) table q p)
 
-  pub no-such-door : length ds ≤ i → (L.Refused R.Change, table) ≡ changed-from cs T ds w given i b table (O.From (q .x) (q .y) c)
+  pub no-such-door : length ds ≤ i → (L.Refused R.Change, table) ≡ changed-at cs T ds w given i b table q p
   unfolding no-change
   no-such-door h =
-      ap (λ (t : Bool). refuse (not t || in-state b w i) R.Change table (after (not (same-list given (listing-numbers cs T ds w q c))))) (sym (le-ltb _ _ h))
+      ap (λ (t : Bool). refuse (not t || in-state b w i) R.Change table (after (not (same-list given (listing-numbers cs T ds w q p))))) (sym (le-ltb _ _ h))
 
   module _ (exists : i < length ds) where
-    by-state : {t : Bool} → t ≡ in-state b w i → refuse t R.Change table (after (not (same-list given (listing-numbers cs T ds w q c)))) ≡ changed-from cs T ds w given i b table (O.From (q .x) (q .y) c)
+    by-state : {t : Bool} → t ≡ in-state b w i → refuse t R.Change table (after (not (same-list given (listing-numbers cs T ds w q p)))) ≡ changed-at cs T ds w given i b table q p
     unfolding no-change
     by-state {t} e =
-        ap (λ (t : Bool). refuse t R.Change table (after (not (same-list given (listing-numbers cs T ds w q c))))) e
-        ∙ ap (λ (t : Bool). refuse (not t || in-state b w i) R.Change table (after (not (same-list given (listing-numbers cs T ds w q c))))) (sym (lt-ltb _ _ exists))
+        ap (λ (t : Bool). refuse t R.Change table (after (not (same-list given (listing-numbers cs T ds w q p))))) e
+        ∙ ap (λ (t : Bool). refuse (not t || in-state b w i) R.Change table (after (not (same-list given (listing-numbers cs T ds w q p))))) (sym (lt-ltb _ _ exists))
 
-    pub already-so : true ≡ in-state b w i → (L.Refused R.Change, table) ≡ changed-from cs T ds w given i b table (O.From (q .x) (q .y) c)
+    pub already-so : true ≡ in-state b w i → (L.Refused R.Change, table) ≡ changed-at cs T ds w given i b table q p
     already-so e = by-state e
 
     module _ (otherwise : false ≡ in-state b w i) where
-      pub not-true : {t : Bool} → t ≡ same-list given (listing-numbers cs T ds w q c) → not t ≡ true → (L.Refused R.Rows, table) ≡ changed-from cs T ds w given i b table (O.From (q .x) (q .y) c)
+      pub not-true : {t : Bool} → t ≡ same-list given (listing-numbers cs T ds w q p) → not t ≡ true → (L.Refused R.Rows, table) ≡ changed-at cs T ds w given i b table q p
       not-true e h = ap after (sym h) ∙ ap (λ (t : Bool). after (not t)) e ∙ by-state otherwise
 
-      pub change-made : {r p : ℕ} {new : List ℕ} {v : ℕ} {t : Bool} → t ≡ same-list given (listing-numbers cs T ds w q c) → not t ≡ false → v ≡ wished b w i → (r ≡ listing-row-count cs T ds v q c) × ((p ≡ listing-crossings cs T ds v q c) × (new ≡ sets table 0 (listing-numbers cs T ds v q c))) → (L.Rows r p, new) ≡ changed-from cs T ds w given i b table (O.From (q .x) (q .y) c)
+      pub change-made : {r m : ℕ} {new : List ℕ} {v : ℕ} {t : Bool} → t ≡ same-list given (listing-numbers cs T ds w q p) → not t ≡ false → v ≡ wished b w i → (r ≡ listing-row-count cs T ds v q p) × ((m ≡ listing-crossings cs T ds v q p) × (new ≡ sets table 0 (listing-numbers cs T ds v q p))) → (L.Rows r m, new) ≡ changed-at cs T ds w given i b table q p
       change-made e g f h =
           (λ k. (L.Rows (h .0 k) (h .1 .0 k), h .1 .1 k))
-          ∙ ap (λ (v : ℕ). listed-from cs T ds v table (O.From (q .x) (q .y) c)) f
+          ∙ ap (λ (v : ℕ). rows-from cs T ds v table q p) f
           ∙ ap after (sym g)
           ∙ ap (λ (t : Bool). after (not t)) e
           ∙ by-state otherwise
@@ -116,19 +116,43 @@ module _ (cs : List ℤ) (T : Cells) (ds : List ℕ) (w : ℕ) (given : List ℕ
 -- ---- the whole change
 
 module _ (k : ℕ) (cs : List ℤ) (ts ds : List ℕ) (w : ℕ) (s : Stand) (given : List ℕ) (i : ℕ) (b : Bool) (table : List ℕ) where
-  pub change-refused : {r : Refusal} → viewed k cs ts ds w s (length table) ≡ O.Refused r → (L.Refused r, table) ≡ changed k cs ts ds w s given i b table
+  pub change-refused : {r : Refusal} → viewed k cs ts ds w s ≡ O.Refused r → (L.Refused r, table) ≡ changed k cs ts ds w s given i b table
   unfolding changed
   change-refused e = ap (changed-from cs (cells-of k ts) ds w given i b table) (sym e)
 
   -- lists of which no cells are counted
   pub not-counted : {x : Sizes} {r : Refusal} → x ≡ sizes-of k cs ts ds → x ≡ Sizes·Refused r → (L.Refused r, table) ≡ changed k cs ts ds w s given i b table
-  not-counted is e = change-refused (sym (plan-refused k cs ts ds w s (length table) (sym (refused-likewise k cs ts ds is e))))
+  not-counted is e = change-refused (sym (plan-refused k cs ts ds w s (sym (refused-likewise k cs ts ds is e))))
 
-  -- T is the plan's cells as they were drawn, and the stand is as the code has read it
-  pub change-done : {x y : ℤ} {c : ℕ} {T : Cells} {reply : Listed × List ℕ} → viewed k cs ts ds w s (length table) ≡ O.From x y c → T ≡ cells-of k ts
-      → reply ≡ changed-from cs T ds w given i b table (O.From (toZ w64 (ofZ w64 x)) (toZ w64 (ofZ w64 y)) c) → reply ≡ changed k cs ts ds w s given i b table
-  unfolding changed
-  change-done {c = c} view drawn e =
-      e
-      ∙ ap₂ (λ (T : Cells) (q : Point). changed-from cs T ds w given i b table (O.From (q .x) (q .y) c)) drawn (as-read (view-says k cs ts ds w s (length table) view .stand-near))
-      ∙ ap (changed-from cs (cells-of k ts) ds w given i b table) (sym view)
+  module _ {x y : ℤ} {p : Footing} (view : viewed k cs ts ds w s ≡ O.From x y p) where
+    abbrev at : Point
+    at = record { x = x; y = y }
+
+    -- by whether the door is underfoot, and whether the table has room
+    pub by-tests : {u r : Bool} → u ≡ underfoot cs (cells-of k ts) ds i at p → r ≡ no-room cs table
+        → refuse u R.Line table (refuse r R.Room table (changed-at cs (cells-of k ts) ds w given i b table at p)) ≡ changed k cs ts ds w s given i b table
+    unfolding changed
+    by-tests e f =
+        ap₂ (λ (u r : Bool). refuse u R.Line table (refuse r R.Room table (changed-at cs (cells-of k ts) ds w given i b table at p))) e f
+        ∙ ap (changed-from cs (cells-of k ts) ds w given i b table) (sym view)
+
+    -- T is the plan's cells as they were drawn, and the stand is as the code has read it
+    module _ {T : Cells} (drawn : T ≡ cells-of k ts) where
+      abbrev read : Point
+      read = point (toZ w64 (ofZ w64 x) ∷ toZ w64 (ofZ w64 y) ∷ [])
+
+      underfoot-is : {u : Bool} → u ≡ underfoot cs T ds i read p → u ≡ underfoot cs (cells-of k ts) ds i at p
+      underfoot-is e = e ∙ ap₂ (λ (T : Cells) (q : Point). underfoot cs T ds i q p) drawn (view-read k cs ts ds w s view)
+
+      pub underfoot-refused : {u : Bool} → u ≡ underfoot cs T ds i read p → u ≡ true → (L.Refused R.Line, table) ≡ changed k cs ts ds w s given i b table
+      underfoot-refused e h = by-tests (sym h ∙ underfoot-is e) refl
+
+      pub room-refused : {u : Bool} → u ≡ underfoot cs T ds i read p → u ≡ false → length table < 3 * corner-count cs → (L.Refused R.Room, table) ≡ changed k cs ts ds w s given i b table
+      room-refused e h short = by-tests (sym h ∙ underfoot-is e) (sym (is-short cs table short))
+
+      pub change-done : {u : Bool} → u ≡ underfoot cs T ds i read p → u ≡ false → 3 * corner-count cs ≤ length table → {reply : Listed × List ℕ}
+          → reply ≡ changed-at cs T ds w given i b table read p → reply ≡ changed k cs ts ds w s given i b table
+      change-done e h room is =
+          is
+          ∙ ap₂ (λ (T : Cells) (q : Point). changed-at cs T ds w given i b table q p) drawn (view-read k cs ts ds w s view)
+          ∙ by-tests (sym h ∙ underfoot-is e) (sym (is-long cs table room))

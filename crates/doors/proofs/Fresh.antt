@@ -5,18 +5,19 @@ use Prim.Native.Nat.{ℕ}
 use lib.IntN.{ℤ}
 use Rattle.plane.specs.Side.{Point}
 use Rattle.cells.specs.Lists.{Cells}
+use Rattle.stand.specs.declared.locate.Footing.{Footing}
 use Rattle.fan.specs.Sight.{rows, numbers, crossings}
 use Rattle.sight.specs.Listing.{listing-rows, listing-numbers, listing-crossings, sight-from}
 
-module _ (cs : List ℤ) (T : Cells) (ds : List ℕ) (w : ℕ) (q : Point) (c : ℕ) where
-  pub rows-are : listing-rows cs T ds w q c ≡ rows (sight-from cs T ds w q c)
+module _ (cs : List ℤ) (T : Cells) (ds : List ℕ) (w : ℕ) (q : Point) (p : Footing) where
+  pub rows-are : listing-rows cs T ds w q p ≡ rows (sight-from cs T ds w q p)
   unfolding listing-rows rows
   rows-are = refl
 
-  pub numbers-are : listing-numbers cs T ds w q c ≡ numbers (sight-from cs T ds w q c)
+  pub numbers-are : listing-numbers cs T ds w q p ≡ numbers (sight-from cs T ds w q p)
   unfolding listing-numbers numbers
   numbers-are = refl
 
-  pub crossings-are : listing-crossings cs T ds w q c ≡ crossings (sight-from cs T ds w q c)
+  pub crossings-are : listing-crossings cs T ds w q p ≡ crossings (sight-from cs T ds w q p)
   unfolding listing-crossings crossings
   crossings-are = refl

@@ -1,35 +1,36 @@
--- Demand 3 (document 01, "Changing a door"): the listings of an accepted plan from a stand strictly inside its cell, with door i open and with it shut,
--- every other door as the setting has it.
+-- Demand 3 (document 01, "Changing a door"): the listings of an accepted plan from a stand, with door i open and with it shut, every other door as
+-- the setting has it.
 use mathlib.Core.Bool.{true, false}
 use mathlib.Core.List.{List, map}
 use mathlib.Core.Path.{_≡_, sym, _∙_, ap, subst}
-use Prim.Native.Nat.{ℕ, _+_, _-_, _<_}
+use Prim.Native.Nat.{ℕ, _+_, _<_}
 use lib.ListN.{length, getD}
 use lib.IntN.{ℤ}
 use Rattle.plane.specs.Side.{Point}
-use Rattle.cells.specs.Lists.{Cells, cell-count, face-count, first, next, start, back}
+use Rattle.cells.specs.Lists.{Cells, cell-count, face-count, next, start, back}
 use Rattle.cells.specs.Sound.{Sound}
 use Rattle.cells.proofs.Plans.{back-starts-at-the-finish, back-finishes-at-the-start, door-exists, door-is-free}
 use Rattle.setting.specs.Setting.{shut, with-shut, with-open, ends}
 use Rattle.setting.proofs.Settings.{opening-opens-the-door, opening-undoes-shutting, shutting-undoes-opening}
-use Rattle.stand.proofs.Located.{InCell}
-use Rattle.fan.specs.Sight.{Sight, numbers, crossings}
+use Rattle.stand.specs.declared.locate.Footing.{Footing}
+use Rattle.stand.proofs.Located.{Stands}
+use Rattle.fan.specs.Sight.{Sight, unentered, numbers, crossings}
 use Rattle.fan.specs.Once.{At}
 use Rattle.runs.specs.Route.{Routed, routed, way, row-numbers}
 use Rattle.runs.specs.Door.{is-door, same-to-door, on-door, untouched, those}
 use Rattle.runs.specs.Shutting.{Piece, runs, door-row, shut-rows, prune, crossings-left, crossings-lost}
 use Rattle.runs.specs.Opening.{open-rows}
 use Rattle.runs.proofs.Demand3 as Any
-use Rattle.runs.proofs.Demand3.{DoorChange, listed}
-use Rattle.runs.proofs.InThePlane.{faces-in-the-plane, sides-in-the-plane}
+use Rattle.runs.proofs.Demand3.{DoorChange}
+use Rattle.runs.proofs.InThePlane.{every-listed-row-has-its-own-way}
 use Rattle.runs.proofs.Routes.{routed-numbers-are-the-numbers, face-is-on-the-way}
-use Rattle.runs.proofs.Ways.{way-tells-the-place, every-row-has-its-own-way}
+use Rattle.runs.proofs.Ways.{way-tells-the-place}
 use Rattle.runs.proofs.SideSeen as Side
-use Rattle.sight.specs.Listing.{plan-floor, seen, sight-from}
-use Rattle.sight.proofs.PlanFloor.{plan-geometry, start-in-the-cell}
+use Rattle.sight.specs.Listing.{plan-floor, seen, standing, sight-from}
+use Rattle.sight.proofs.PlanFloor.{plan-geometry, stands-on-the-floor}
 use Rattle.doors.proofs.PlanDoors.{plan-change}
 
-module _ {cs : List ℤ} {T : Cells} {ds : List ℕ} (sound : Sound cs T ds) (q : Point) (c : ℕ) (stands : InCell cs T q c) (i : ℕ) (h : i < length ds) where
+module _ {cs : List ℤ} {T : Cells} {ds : List ℕ} (sound : Sound cs T ds) (q : Point) (p : Footing) (i : ℕ) (h : i < length ds) where
   -- the door's two faces
   abbrev f₀ : ℕ
   f₀ = getD ds i 0
@@ -39,50 +40,54 @@ module _ {cs : List ℤ} {T : Cells} {ds : List ℕ} (sound : Sound cs T ds) (q 
 
   -- what is seen under a setting, and its rows with their routes
   abbrev under : ℕ → Sight
-  under w = sight-from cs T ds w q c
+  under w = sight-from cs T ds w q p
 
   abbrev listing : ℕ → List Routed
-  listing w = routed (sight-from cs T ds w q c)
+  listing w = routed (sight-from cs T ds w q p)
 
-  change : (w : ℕ) → shut w i ≡ false → DoorChange (face-count T) f₀ g₀ (plan-floor cs T ds w q) (ends T ds (with-shut w i)) (cell-count T - 1) (first T c)
-  change w is-open = plan-change sound w q c stands i h is-open
+  -- how many crossings a route has at most
+  abbrev fuel : ℕ
+  fuel = unentered (cell-count T) (standing T p)
 
   -- ---- shutting an open door
 
-  module _ (w : ℕ) (is-open : shut w i ≡ false) where
+  module _ (w : ℕ) (stands : Stands cs T ds w q p) (is-open : shut w i ≡ false) where
+    change : DoorChange (face-count T) f₀ g₀ (plan-floor cs T ds w q) (ends T ds (with-shut w i)) (cell-count T) (standing T p)
+    change = plan-change sound w q p stands i h is-open
+
     -- on the tree: sight ends where the door was passed
     pub shutting-prunes : under (with-shut w i) ≡ prune f₀ g₀ (under w)
-    shutting-prunes = Any.shutting-prunes (change w is-open)
+    shutting-prunes = Any.shutting-prunes change
 
     -- the listing under the shut setting is the listing under the open one with each run replaced by one row
     pub shutting-replaces-each-run : listing (with-shut w i) ≡ shut-rows f₀ g₀ (listing w)
-    shutting-replaces-each-run = Any.shutting-replaces-each-run (change w is-open)
+    shutting-replaces-each-run = Any.shutting-replaces-each-run change
 
     pub shut-numbers-are-the-numbers : numbers (under (with-shut w i)) ≡ row-numbers (shut-rows f₀ g₀ (listing w))
-    shut-numbers-are-the-numbers = Any.shut-numbers-are-the-numbers (change w is-open)
+    shut-numbers-are-the-numbers = Any.shut-numbers-are-the-numbers change
 
     -- rows whose routes neither cross the door nor end on it stand in both lists, unaltered, in the same order
     pub untouched-rows-stand-in-both : those (untouched f₀ g₀) (listing (with-shut w i)) ≡ those (untouched f₀ g₀) (listing w)
-    untouched-rows-stand-in-both = Any.untouched-rows-stand-in-both (change w is-open)
+    untouched-rows-stand-in-both = Any.untouched-rows-stand-in-both change
 
     -- runs through the open door and rows on the shut door correspond one to one, in order
     pub rows-on-the-shut-door-are-the-runs : those (on-door f₀ g₀) (listing (with-shut w i)) ≡ map (door-row f₀ g₀) (runs f₀ g₀ (listing w))
-    rows-on-the-shut-door-are-the-runs = Any.rows-on-the-shut-door-are-the-runs (change w is-open)
+    rows-on-the-shut-door-are-the-runs = Any.rows-on-the-shut-door-are-the-runs change
 
     -- no two runs have the same route up to and including the door: two visits by different routes stay two rows
     pub runs-have-routes-of-their-own : {k k′ : Piece} {a b : ℕ} → At k (runs f₀ g₀ (listing w)) a → At k′ (runs f₀ g₀ (listing w)) b → same-to-door f₀ g₀ (k .first .route) (k′ .first .route) ≡ true → a ≡ b
-    runs-have-routes-of-their-own p r same = Any.runs-have-routes-of-their-own (change w is-open) p r same
+    runs-have-routes-of-their-own a r same = Any.runs-have-routes-of-their-own change a r same
 
     -- crossings once the door is shut, and while it is open
     pub crossings-once-shut : crossings (under (with-shut w i)) ≡ crossings-left f₀ g₀ (under w)
-    crossings-once-shut = Any.crossings-once-shut-are-those-left (change w is-open)
+    crossings-once-shut = Any.crossings-once-shut-are-those-left change
 
     pub crossings-while-open : crossings (under w) ≡ crossings (under (with-shut w i)) + crossings-lost f₀ g₀ (under w)
-    crossings-while-open = Any.crossings-while-open-are-those-and-the-lost (change w is-open)
+    crossings-while-open = Any.crossings-while-open-are-those-and-the-lost change
 
     -- the listing under the open setting is the listing under the shut one with each row on the door replaced by its run
-    pub shutting-is-undone : listing w ≡ open-rows (plan-floor cs T ds w q) f₀ g₀ (cell-count T - 1) (listing (with-shut w i))
-    shutting-is-undone = Any.opening-replaces-each-door-row (change w is-open)
+    pub shutting-is-undone : listing w ≡ open-rows (plan-floor cs T ds w q) f₀ g₀ fuel (listing (with-shut w i))
+    shutting-is-undone = Any.opening-replaces-each-door-row change
 
     -- shutting and then opening returns the first list
     pub shut-then-opened : listing (with-open (with-shut w i) i) ≡ listing w
@@ -90,21 +95,21 @@ module _ {cs : List ℤ} {T : Cells} {ds : List ℕ} (sound : Sound cs T ds) (q 
 
   -- ---- opening a shut door
 
-  module _ (w : ℕ) (is-shut : shut w i ≡ true) where
+  module _ (w : ℕ) (stands : Stands cs T ds (with-open w i) q p) (is-shut : shut w i ≡ true) where
     -- each row on the door is replaced by its run
-    pub opening-replaces-each-door-row : listing (with-open w i) ≡ open-rows (plan-floor cs T ds (with-open w i) q) f₀ g₀ (cell-count T - 1) (listing w)
+    pub opening-replaces-each-door-row : listing (with-open w i) ≡ open-rows (plan-floor cs T ds (with-open w i) q) f₀ g₀ fuel (listing w)
     opening-replaces-each-door-row =
-        subst (λ (v : ℕ). listing (with-open w i) ≡ open-rows (plan-floor cs T ds (with-open w i) q) f₀ g₀ (cell-count T - 1) (listing v))
-        (shutting-undoes-opening w i is-shut) (shutting-is-undone (with-open w i) (opening-opens-the-door w i))
+        subst (λ (v : ℕ). listing (with-open w i) ≡ open-rows (plan-floor cs T ds (with-open w i) q) f₀ g₀ fuel (listing v))
+        (shutting-undoes-opening w i is-shut) (shutting-is-undone (with-open w i) stands (opening-opens-the-door w i))
 
-    pub opened-numbers-are-the-numbers : numbers (under (with-open w i)) ≡ row-numbers (open-rows (plan-floor cs T ds (with-open w i) q) f₀ g₀ (cell-count T - 1) (listing w))
+    pub opened-numbers-are-the-numbers : numbers (under (with-open w i)) ≡ row-numbers (open-rows (plan-floor cs T ds (with-open w i) q) f₀ g₀ fuel (listing w))
     opened-numbers-are-the-numbers = sym (routed-numbers-are-the-numbers (under (with-open w i))) ∙ ap row-numbers opening-replaces-each-door-row
 
     -- the reverse of shutting
     pub opening-is-the-reverse-of-shutting : listing w ≡ shut-rows f₀ g₀ (listing (with-open w i))
     opening-is-the-reverse-of-shutting =
         subst (λ (v : ℕ). listing v ≡ shut-rows f₀ g₀ (listing (with-open w i))) (shutting-undoes-opening w i is-shut)
-        (shutting-replaces-each-run (with-open w i) (opening-opens-the-door w i))
+        (shutting-replaces-each-run (with-open w i) stands (opening-opens-the-door w i))
 
     -- opening and then shutting returns the first list
     pub opened-then-shut : listing (with-shut (with-open w i) i) ≡ listing w
@@ -120,24 +125,24 @@ module _ {cs : List ℤ} {T : Cells} {ds : List ℕ} (sound : Sound cs T ds) (q 
   other-finishes = back-finishes-at-the-start sound f₀ (door-exists sound i h) (door-is-free sound i h)
 
   -- the door is always seen from the same side from one stand, under whatever settings: crossed or ended on, by one face
-  pub door-is-seen-from-the-same-side : (w w′ : ℕ) {x y : Routed} {a b k m e e′ : ℕ} → At x (listing w) a → At y (listing w′) b → At e (way x) k → At e′ (way y) m → is-door f₀ g₀ e ≡ true → is-door f₀ g₀ e′ ≡ true → e ≡ e′
-  door-is-seen-from-the-same-side w w′ {e = e} {e′ = e′} p p′ r r′ d d′ =
+  pub door-is-seen-from-the-same-side : {w w′ : ℕ} → Stands cs T ds w q p → Stands cs T ds w′ q p → {x y : Routed} {a b k m e e′ : ℕ} → At x (listing w) a → At y (listing w′) b → At e (way x) k → At e′ (way y) m → is-door f₀ g₀ e ≡ true → is-door f₀ g₀ e′ ≡ true → e ≡ e′
+  door-is-seen-from-the-same-side {w} {w′} S S′ {e = e} {e′ = e′} a a′ r r′ d d′ =
       Side.seen-from-one-side (plan-floor cs T ds w q) (seen cs q) f₀ g₀ other-starts other-finishes e e′ d d′
-      (Side.way-is-seen (plan-geometry sound w q) (start-in-the-cell sound w q c stands) (cell-count T - 1) p r)
-      (Side.way-is-seen (plan-geometry sound w′ q) (start-in-the-cell sound w′ q c stands) (cell-count T - 1) p′ r′)
+      (Side.way-is-seen (plan-geometry sound w q) (stands-on-the-floor sound w q S) a r)
+      (Side.way-is-seen (plan-geometry sound w′ q) (stands-on-the-floor sound w′ q S′) a′ r′)
 
   -- no route crosses it twice, nor ends on it after crossing it
-  pub no-route-crosses-the-door-twice : (w : ℕ) {x : Routed} {k : ℕ} → At x (listing w) k → (a b : ℕ) → a < b → b < length (way x) → is-door f₀ g₀ (getD (way x) a 0) ≡ true → is-door f₀ g₀ (getD (way x) b 0) ≡ true → ⊥
-  no-route-crosses-the-door-twice w p =
-      Side.no-way-meets-the-door-twice (plan-geometry sound w q) (start-in-the-cell sound w q c stands) (cell-count T - 1) f₀ g₀ other-starts other-finishes p
+  pub no-route-crosses-the-door-twice : {w : ℕ} → Stands cs T ds w q p → {x : Routed} {k : ℕ} → At x (listing w) k → (a b : ℕ) → a < b → b < length (way x) → is-door f₀ g₀ (getD (way x) a 0) ≡ true → is-door f₀ g₀ (getD (way x) b 0) ≡ true → ⊥
+  no-route-crosses-the-door-twice {w} S a =
+      Side.no-way-meets-the-door-twice (plan-geometry sound w q) (stands-on-the-floor sound w q S) f₀ g₀ other-starts other-finishes a
 
   -- rows on the door have one face, and each a route of its own
-  pub rows-on-the-door-have-one-face : (w w′ : ℕ) {x y : Routed} {a b : ℕ} → At x (listing w) a → At y (listing w′) b → on-door f₀ g₀ x ≡ true → on-door f₀ g₀ y ≡ true → x .row .face ≡ y .row .face
+  pub rows-on-the-door-have-one-face : {w w′ : ℕ} → Stands cs T ds w q p → Stands cs T ds w′ q p → {x y : Routed} {a b : ℕ} → At x (listing w) a → At y (listing w′) b → on-door f₀ g₀ x ≡ true → on-door f₀ g₀ y ≡ true → x .row .face ≡ y .row .face
   unfolding on-door
-  rows-on-the-door-have-one-face w w′ {x} {y} p r d d′ = door-is-seen-from-the-same-side w w′ p r (face-is-on-the-way x) (face-is-on-the-way y) d d′
+  rows-on-the-door-have-one-face S S′ {x} {y} a r d d′ = door-is-seen-from-the-same-side S S′ a r (face-is-on-the-way x) (face-is-on-the-way y) d d′
 
-  pub rows-on-the-door-have-routes-of-their-own : (w : ℕ) {x y : Routed} {a b : ℕ} → At x (listing w) a → At y (listing w) b → on-door f₀ g₀ x ≡ true → on-door f₀ g₀ y ≡ true → x .route ≡ y .route → a ≡ b
+  pub rows-on-the-door-have-routes-of-their-own : {w : ℕ} → Stands cs T ds w q p → {x y : Routed} {a b : ℕ} → At x (listing w) a → At y (listing w) b → on-door f₀ g₀ x ≡ true → on-door f₀ g₀ y ≡ true → x .route ≡ y .route → a ≡ b
   unfolding way
-  rows-on-the-door-have-routes-of-their-own w p r d d′ same =
-      way-tells-the-place (every-row-has-its-own-way (listed (faces-in-the-plane (plan-geometry sound w q)) (sides-in-the-plane (plan-geometry sound w q) (start-in-the-cell sound w q c stands)) .through)) p r
-      (rw (same, rows-on-the-door-have-one-face w w p r d d′))
+  rows-on-the-door-have-routes-of-their-own {w} S a r d d′ same =
+      way-tells-the-place (every-listed-row-has-its-own-way (plan-geometry sound w q) (stands-on-the-floor sound w q S)) a r
+      (rw (same, rows-on-the-door-have-one-face S S a r d d′))

@@ -2,25 +2,26 @@
 use mathlib.Core.Bool.{false}
 use mathlib.Core.List.{List}
 use mathlib.Core.Path.{_≡_, sym, _∙_, ap, subst}
-use Prim.Native.Nat.{ℕ, _-_, _<_}
+use Prim.Native.Nat.{ℕ, _<_}
 use native.Mathlib.Decide.{decLt}
 use native.Mathlib.Omega.{arith}
 use lib.ListN.{length, getD}
 use lib.IntN.{ℤ}
 use Rattle.plane.specs.Side.{Point}
 use Rattle.limits.specs.Limits.{wall}
-use Rattle.cells.specs.Lists.{Cells, cell-count, face-count, first, neighbour, back}
+use Rattle.cells.specs.Lists.{Cells, cell-count, face-count, neighbour, back}
 use Rattle.cells.specs.Sound.{Sound}
 use Rattle.cells.proofs.Doors.{names-neither}
 use Rattle.cells.proofs.Plans.{back-is-free, back-of-back, door-exists, door-is-free, no-earlier-door-names-its-line}
 use Rattle.setting.specs.Setting.{shut, with-shut, ends}
 use Rattle.setting.proofs.Settings.{open-stays, shutting-changes-no-other-face, shutting-ends-sight-at-the-face, shutting-ends-sight-at-the-back, opening-frees-the-face}
-use Rattle.stand.proofs.Located.{InCell}
+use Rattle.stand.specs.declared.locate.Footing.{Footing}
+use Rattle.stand.proofs.Located.{Stands}
 use Rattle.runs.specs.Floors.{Shuts}
 use Rattle.runs.proofs.Demand3.{DoorChange}
 use Rattle.runs.proofs.InThePlane.{change-in-the-plane}
-use Rattle.sight.specs.Listing.{plan-floor}
-use Rattle.sight.proofs.PlanFloor.{plan-geometry, start-in-the-cell}
+use Rattle.sight.specs.Listing.{plan-floor, standing}
+use Rattle.sight.proofs.PlanFloor.{plan-geometry, stands-on-the-floor}
 
 module _ {cs : List ℤ} {T : Cells} {ds : List ℕ} (sound : Sound cs T ds) where
   module _ (i : ℕ) (h : i < length ds) where
@@ -69,7 +70,7 @@ module _ {cs : List ℤ} {T : Cells} {ds : List ℕ} (sound : Sound cs T ds) whe
             elsewhere = λ f k not-the-face not-the-back. shutting-changes-no-other-face T ds w i f not-the-face not-the-back (λ free. back-of-back sound f k free);
           }
 
-  -- door i, open under the setting w, and shut, seen from a stand strictly inside cell c
-  pub plan-change : (w : ℕ) (q : Point) (c : ℕ) → InCell cs T q c → (i : ℕ) → i < length ds → shut w i ≡ false
-      → DoorChange (face-count T) (getD ds i 0) (back T (getD ds i 0)) (plan-floor cs T ds w q) (ends T ds (with-shut w i)) (cell-count T - 1) (first T c)
-  plan-change w q c stands i h is-open = change-in-the-plane (plan-geometry sound w q) (start-in-the-cell sound w q c stands) (plan-shuts i h w is-open)
+  -- door i, open under the setting w, and shut, seen from a stand
+  pub plan-change : (w : ℕ) (q : Point) (p : Footing) → Stands cs T ds w q p → (i : ℕ) → i < length ds → shut w i ≡ false
+      → DoorChange (face-count T) (getD ds i 0) (back T (getD ds i 0)) (plan-floor cs T ds w q) (ends T ds (with-shut w i)) (cell-count T) (standing T p)
+  plan-change w q p stands i h is-open = change-in-the-plane (plan-geometry sound w q) (stands-on-the-floor sound w q stands) (plan-shuts i h w is-open)

@@ -1,6 +1,6 @@
 // The door change (document 01, "Changing a door"), and what shutting and opening a door does to a list.
 ghost use Prim.Native.Nat.{suc, _*_, _<_, _≤_};
-ghost use mathlib.Core.Bool.{true};
+ghost use mathlib.Core.Bool.{true, false};
 ghost use mathlib.Core.Path.{_≡_};
 ghost use lib.ListN.{length, take};
 ghost use Rattle.plane.specs.Side.{point, Near};
@@ -13,10 +13,10 @@ ghost use Rattle.cells.specs.Sound.{Sound};
 ghost use Rattle.checking.specs.Sizes.{sizes-of};
 ghost use Rattle.checking.specs.declared.Sizes.the-variants.{Of};
 ghost use Rattle.stand.specs.Find.{located};
-ghost use Rattle.stand.specs.declared.locate.Found.the-variants.{Cell};
+ghost use Rattle.stand.specs.declared.locate.Found.the-variants.{At};
 ghost use Rattle.sight.specs.Listing.{listing-numbers};
-ghost use Rattle.sight.specs.declared.view.View.the-variants.{From};
-ghost use Rattle.doors.specs.Change.{same-list, in-state, wished as Change·wished, changed, changed-from};
+ghost use Rattle.doors.specs.Change.{same-list, in-state, wished as Change·wished, underfoot, changed-at, changed};
+use cells::corner;
 use checking::Sizes;
 use checking::measure;
 use limits::Plan;
@@ -25,6 +25,7 @@ use sight::list::Listed;
 use sight::list::list_from;
 use sight::view::View;
 use sight::view::view_in;
+use stand::locate::Footing;
 use stand::spot::Stand;
 
 // Is the given list the same as the first n numbers of the table, in length and every number?
@@ -55,16 +56,16 @@ fn is_true_list_with_room(
     setting: u64,
     q: [i64; 2],
     given: &[u16],
-    c: usize,
+    p: Footing,
     table: &mut [u16],
     lines: &mut [u16],
     seen: &mut [i32],
 ) -> bool
     requires { ⌜ Sound (now corners) (tabled (now faces) (now firsts)) (now doors) × Backed (tabled (now faces) (now firsts)) (now backs) ⌝ }
-    requires { ⌜ Near (point q) × (located (now corners) (tabled (now faces) (now firsts)) (point q) ≡ Cell c) ⌝ }
+    requires { ⌜ Near (point q) × (located (now corners) (tabled (now faces) (now firsts)) (now doors) setting (point q) ≡ At p) ⌝ }
     requires { ⌜ 3 * corner-count (now corners) ≤ length (now table) ⌝ }
     requires { ⌜ (length (now lines) ≡ 4 * face-count (tabled (now faces) (now firsts))) × (length (now seen) ≡ length (now corners)) ⌝ }
-    ensures { λ r. ⌜ r ≡ same-list (now (given .entry)) (listing-numbers (now (corners .entry)) (tabled (now (faces .entry)) (now (firsts .entry))) (now (doors .entry)) setting (point q) c) ⌝ }
+    ensures { λ r. ⌜ r ≡ same-list (now (given .entry)) (listing-numbers (now (corners .entry)) (tabled (now (faces .entry)) (now (firsts .entry))) (now (doors .entry)) setting (point q) p) ⌝ }
 {
     let counts = list_from(
         corners,
@@ -75,7 +76,7 @@ fn is_true_list_with_room(
         setting,
         q,
         table,
-        c,
+        p,
         lines,
         seen,
     );
@@ -116,14 +117,14 @@ fn is_true_list(
     setting: u64,
     q: [i64; 2],
     given: &[u16],
-    c: usize,
+    p: Footing,
     lines: &mut [u16],
     seen: &mut [i32],
 ) -> bool
     requires { ⌜ Sound (now corners) (tabled (now faces) (now firsts)) (now doors) × Backed (tabled (now faces) (now firsts)) (now backs) ⌝ }
-    requires { ⌜ Near (point q) × (located (now corners) (tabled (now faces) (now firsts)) (point q) ≡ Cell c) ⌝ }
+    requires { ⌜ Near (point q) × (located (now corners) (tabled (now faces) (now firsts)) (now doors) setting (point q) ≡ At p) ⌝ }
     requires { ⌜ (length (now lines) ≡ 4 * face-count (tabled (now faces) (now firsts))) × (length (now seen) ≡ length (now corners)) ⌝ }
-    ensures { λ r. ⌜ r ≡ same-list (now (given .entry)) (listing-numbers (now (corners .entry)) (tabled (now (faces .entry)) (now (firsts .entry))) (now (doors .entry)) setting (point q) c) ⌝ }
+    ensures { λ r. ⌜ r ≡ same-list (now (given .entry)) (listing-numbers (now (corners .entry)) (tabled (now (faces .entry)) (now (firsts .entry))) (now (doors .entry)) setting (point q) p) ⌝ }
 {
     let mut scratch = [0u16; 3 * Plan::MOST_CORNERS];
     is_true_list_with_room(
@@ -135,14 +136,44 @@ fn is_true_list(
         setting,
         q,
         given,
-        c,
+        p,
         &mut scratch,
         lines,
         seen,
     )
 }
 
-// On a view: replies 12 and 13, or the list under the new setting.
+// Is the stand on a side, and does the door's line hold it strictly within? The door's line ends where its other face starts.
+fn is_underfoot(
+    corners: &[i32],
+    faces: &[u16],
+    firsts: &[u16],
+    backs: &[u16],
+    doors: &[u16],
+    q: [i64; 2],
+    door: usize,
+    p: Footing,
+) -> bool
+    requires { ⌜ Sound (now corners) (tabled (now faces) (now firsts)) (now doors) × Backed (tabled (now faces) (now firsts)) (now backs) ⌝ }
+    requires { ⌜ Near (point q) ⌝ }
+    ensures { λ r. ⌜ r ≡ underfoot (now (corners .entry)) (tabled (now (faces .entry)) (now (firsts .entry))) (now (doors .entry)) door (point q) p ⌝ }
+{
+    match p {
+        Footing::Inside(_) => false,
+        Footing::Side(_, _) => {
+            if doors.len() <= door {
+                return false;
+            }
+            let f = doors[door] as usize;
+            let g = backs[f] as usize;
+            let right = corner::at(corners, faces[2 * f] as usize);
+            let left = corner::at(corners, faces[2 * g] as usize);
+            plane::is_within([right, left, q])
+        }
+    }
+}
+
+// From a stand that was found on no line of the door, with room in the table: replies 12 and 13, or the list under the new setting.
 fn change_from(
     corners: &[i32],
     faces: &[u16],
@@ -155,15 +186,16 @@ fn change_from(
     door: usize,
     shut: bool,
     table: &mut [u16],
-    c: usize,
+    p: Footing,
     lines: &mut [u16],
     seen: &mut [i32],
 ) -> Listed
     requires { ⌜ Sound (now corners) (tabled (now faces) (now firsts)) (now doors) × Backed (tabled (now faces) (now firsts)) (now backs) ⌝ }
-    requires { ⌜ Near (point q) × (located (now corners) (tabled (now faces) (now firsts)) (point q) ≡ Cell c) ⌝ }
+    requires { ⌜ Near (point q) × (located (now corners) (tabled (now faces) (now firsts)) (now doors) setting (point q) ≡ At p) ⌝ }
+    requires { ⌜ underfoot (now corners) (tabled (now faces) (now firsts)) (now doors) door (point q) p ≡ false ⌝ }
     requires { ⌜ 3 * corner-count (now corners) ≤ length (now table) ⌝ }
     requires { ⌜ (length (now lines) ≡ 4 * face-count (tabled (now faces) (now firsts))) × (length (now seen) ≡ length (now corners)) ⌝ }
-    ensures { λ r. ⌜ (r, now (table .exit)) ≡ changed-from (now (corners .entry)) (tabled (now (faces .entry)) (now (firsts .entry))) (now (doors .entry)) setting (now (given .entry)) door shut (now (table .entry)) (From (point q .x) (point q .y) c) ⌝ }
+    ensures { λ r. ⌜ (r, now (table .exit)) ≡ changed-at (now (corners .entry)) (tabled (now (faces .entry)) (now (firsts .entry))) (now (doors .entry)) setting (now (given .entry)) door shut (now (table .entry)) (point q) p ⌝ }
 {
     if doors.len() <= door {
         return Listed::Refused(Refusal::Change);
@@ -180,7 +212,7 @@ fn change_from(
         setting,
         q,
         given,
-        c,
+        p,
         lines,
         seen,
     ) {
@@ -195,7 +227,7 @@ fn change_from(
         wished(setting, door, shut),
         q,
         table,
-        c,
+        p,
         lines,
         seen,
     );
@@ -234,28 +266,35 @@ fn change_in(
         kind,
         setting,
         stand,
-        table.len(),
         faces,
         firsts,
         backs,
     ) {
         View::Refused(r) => Listed::Refused(r),
-        View::From(x, y, c) => change_from(
-            corners,
-            faces,
-            firsts,
-            backs,
-            doors,
-            setting,
-            [x, y],
-            given,
-            door,
-            shut,
-            table,
-            c,
-            lines,
-            seen,
-        ),
+        View::From(x, y, p) => {
+            if is_underfoot(corners, faces, firsts, backs, doors, [x, y], door, p) {
+                return Listed::Refused(Refusal::Line);
+            }
+            if table.len() < 3 * (corners.len() / 2) {
+                return Listed::Refused(Refusal::Room);
+            }
+            change_from(
+                corners,
+                faces,
+                firsts,
+                backs,
+                doors,
+                setting,
+                [x, y],
+                given,
+                door,
+                shut,
+                table,
+                p,
+                lines,
+                seen,
+            )
+        }
     }
 }
 

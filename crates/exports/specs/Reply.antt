@@ -53,8 +53,8 @@ read-left file corners cells doors reply = (
   replied (has-seven reply) reply (numbers-of (read-replies file corners cells doors .0)),
 )
 
-unfoldable pub find-left : ℕ → List ℤ → List ℕ → List ℕ → Stand → List ℕ → List ℕ
-find-left kind cs ts ds s reply = replied (has-seven reply) reply (numbers-of (find-replies kind cs ts ds s))
+unfoldable pub find-left : ℕ → List ℤ → List ℕ → List ℕ → ℕ → Stand → List ℕ → List ℕ
+find-left kind cs ts ds w s reply = replied (has-seven reply) reply (numbers-of (find-replies kind cs ts ds w s))
 
 unfoldable pub list-left : ℕ → List ℤ → List ℕ → List ℕ → ℕ → Stand → List ℕ → List ℕ → List ℕ × List ℕ
 list-left kind cs ts ds w s table reply = (

@@ -66,39 +66,19 @@ pub extern "C" fn manopluea_write(
     reply::put_checked(reply, answer);
 }
 
-// The cell of a stand that is a point; the value is the cell.
+// Where a stand is that is a point; the values are the cell, whether it is strictly within a side, and that side.
 #[no_mangle]
 pub extern "C" fn manopluea_find_point(
     corners: &[i32],
     cells: &[u16],
     doors: &[u16],
     kind: u16,
+    setting: u64,
     x: f64,
     y: f64,
     reply: &mut [u64],
 )
-    ensures { λ _. ⌜ now (reply .exit) ≡ find-left kind (now (corners .entry)) (now (cells .entry)) (now (doors .entry)) (Point x y) (now (reply .entry)) ⌝ }
-{
-    if reply.len() < 7 {
-        return;
-    }
-    let answer = manopluea::find(corners, cells, doors, Terms { kind }, Stand::Point(x, y));
-    reply::put_found(reply, answer);
-}
-
-// The cell of a stand that is an offset from a corner; the value is the cell.
-#[no_mangle]
-pub extern "C" fn manopluea_find_offset(
-    corners: &[i32],
-    cells: &[u16],
-    doors: &[u16],
-    kind: u16,
-    corner: u16,
-    dx: f64,
-    dy: f64,
-    reply: &mut [u64],
-)
-    ensures { λ _. ⌜ now (reply .exit) ≡ find-left kind (now (corners .entry)) (now (cells .entry)) (now (doors .entry)) (Offset corner dx dy) (now (reply .entry)) ⌝ }
+    ensures { λ _. ⌜ now (reply .exit) ≡ find-left kind (now (corners .entry)) (now (cells .entry)) (now (doors .entry)) setting (Point x y) (now (reply .entry)) ⌝ }
 {
     if reply.len() < 7 {
         return;
@@ -108,6 +88,36 @@ pub extern "C" fn manopluea_find_offset(
         cells,
         doors,
         Terms { kind },
+        setting,
+        Stand::Point(x, y),
+    );
+    reply::put_found(reply, answer);
+}
+
+// Where a stand is that is an offset from a corner; the values are the cell, whether it is strictly within a side, and that side.
+#[no_mangle]
+pub extern "C" fn manopluea_find_offset(
+    corners: &[i32],
+    cells: &[u16],
+    doors: &[u16],
+    kind: u16,
+    setting: u64,
+    corner: u16,
+    dx: f64,
+    dy: f64,
+    reply: &mut [u64],
+)
+    ensures { λ _. ⌜ now (reply .exit) ≡ find-left kind (now (corners .entry)) (now (cells .entry)) (now (doors .entry)) setting (Offset corner dx dy) (now (reply .entry)) ⌝ }
+{
+    if reply.len() < 7 {
+        return;
+    }
+    let answer = manopluea::find(
+        corners,
+        cells,
+        doors,
+        Terms { kind },
+        setting,
         Stand::Offset(corner, dx, dy),
     );
     reply::put_found(reply, answer);

@@ -6,11 +6,13 @@ ghost use lib.Seq.{sets};
 ghost use Rattle.limits.specs.Reply.{checked-reply};
 ghost use Rattle.planfile.specs.Reply.{read-numbers};
 ghost use Rattle.stand.specs.Reply.{found-reply};
+ghost use Rattle.stand.specs.declared.locate.Found.the-variants.{At};
 ghost use Rattle.sight.specs.Reply.{listed-reply};
 ghost use Rattle.printing.specs.Reply.{printed-reply};
 ghost use Rattle.exports.specs.Reply.{seven, numbers-of};
 use limits::reply;
 use manopluea::Checked;
+use manopluea::Footing;
 use manopluea::Found;
 use manopluea::Listed;
 use manopluea::ReadPlan;
@@ -72,12 +74,23 @@ pub fn put_read(reply: &mut [u64], answer: ReadPlan)
     }
 }
 
+// For finding: the cell; then 0 and 0 for a stand strictly inside it, or 1 and its side for one strictly within that.
+fn put_place(reply: &mut [u64], p: Footing)
+    requires { ⌜ 7 ≤ length (now reply) ⌝ }
+    ensures { λ _. ⌜ now (reply .exit) ≡ sets (now (reply .entry)) 0 (numbers-of (found-reply (At p))) ⌝ }
+{
+    match p {
+        Footing::Inside(c) => put(reply, 0, 0, c as u64, 0, 0, 0, 0),
+        Footing::Side(c, k) => put(reply, 0, 0, c as u64, 1, k as u64, 0, 0),
+    }
+}
+
 pub fn put_found(reply: &mut [u64], answer: Found)
     requires { ⌜ 7 ≤ length (now reply) ⌝ }
     ensures { λ _. ⌜ now (reply .exit) ≡ sets (now (reply .entry)) 0 (numbers-of (found-reply answer)) ⌝ }
 {
     match answer {
-        Found::Cell(c) => put(reply, 0, 0, c as u64, 0, 0, 0, 0),
+        Found::At(p) => put_place(reply, p),
         Found::Refused(r) => put(reply, reply::number(r), reply::place(r), 0, 0, 0, 0, 0),
     }
 }

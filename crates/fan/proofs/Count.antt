@@ -1,7 +1,7 @@
 -- How many of the numbers below n have a property that can be decided.
-use Prim.Native.Nat.{ℕ, zero, suc, _≤_, _<_}
-use mathlib.Core.Path.{_≡_, subst, sym}
-use native.Mathlib.Decide.{decLt}
+use Prim.Native.Nat.{ℕ, zero, suc, _-_, _≤_, _<_}
+use mathlib.Core.Path.{_≡_, refl, subst, sym}
+use native.Mathlib.Decide.{ℕ-discrete, decLt}
 use native.Mathlib.Omega.{arith}
 
 -- whether one of the numbers below n has the property
@@ -77,3 +77,15 @@ count-misses-one P? n c h p =
   where
     all : (k : ℕ) → Dec (Unit {0})
     all k = yes tt
+
+-- and two fewer, where two of them do not
+pub count-misses-two : {P : ℕ → Type 0} (P? : (k : ℕ) → Dec (P k)) (n c e : ℕ) → c < n → e < n → (c ≡ e → ⊥) → (P c → ⊥) → (P e → ⊥) → count P? n ≤ n - 2
+count-misses-two {P} P? n c e h k apart p q =
+    omega (arith, count-grows-by-one P? but-e n (λ j l s. λ m. q (subst P m s)) c h p apart, count-misses-one but-e n e k (λ m. m refl))
+  where
+    but-e : (j : ℕ) → Dec (j ≡ e → ⊥)
+    but-e j = by-test (ℕ-discrete j e)
+      where
+        by-test : Dec (j ≡ e) → Dec (j ≡ e → ⊥)
+        by-test (yes m) = no (λ f. f m)
+        by-test (no m) = yes m

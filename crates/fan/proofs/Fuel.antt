@@ -11,7 +11,7 @@ use Rattle.plane.proofs.Found.{earlier-is-transitive}
 use Rattle.plane.proofs.Cones.{cone-is-never-empty}
 use Rattle.fan.specs.Sight.{Floor, follow, Whole}
 use Rattle.fan.specs.Sight.Whole.{whole-row, whole-pass, whole-both}
-use Rattle.fan.proofs.Count.{some-below?, count, count-grows-by-one, count-misses-one}
+use Rattle.fan.proofs.Count.{some-below?, count, count-grows-by-one, count-misses-one, count-misses-two}
 use Rattle.fan.specs.Walk.{Leaves}
 use Rattle.fan.proofs.Exit.{Before, less?, leaves?, later-exit-is-of-another-cell}
 use Rattle.fan.proofs.Geometry.{Geometry, InSight}
@@ -118,12 +118,25 @@ module _ {F : Floor} {N M : ℕ} {see : ℕ → Point} {cell : ℕ → ℕ} (G :
 
   -- ---- the start
 
-  -- with its own two ends as limits: the cell of f itself is not left later
-  pub start-fuel : (f : ℕ) → f < N → Enough (M - 1) f (F .right-end f) (F .left-end f)
-  unfolding remaining
-  start-fuel f h d x =
-      let less = count-misses-one (left-later? F see cell d N f) M (cell f) (G .cell-exists f h) (not-left-again d h x) in
-      omega arith
+  module _ {f : ℕ} (h : f < N) where
+    -- with its own two ends as limits: the cell of f itself is not left later
+    pub fuel-inside : Enough (M - 1) f (F .right-end f) (F .left-end f)
+    unfolding remaining
+    fuel-inside d x =
+        let less = count-misses-one (left-later? F see cell d N f) M (cell f) (G .cell-exists f h) (not-left-again d h x) in
+        omega arith
 
-  pub listing-is-whole : (f : ℕ) → InSight G f (F .right-end f) (F .left-end f) → Whole (follow F (M - 1) f (F .right-end f) (F .left-end f))
-  listing-is-whole f s = fuel-suffices (M - 1) f (F .right-end f) (F .left-end f) s (start-fuel f (s .is-a-face))
+    -- nor is the cell of a face that every such direction leaves by before f
+    pub fuel-behind-a-line :
+        {g : ℕ} → g < N → ((d : Point) → Leaves F see d f → Leaves F see d g × Before F see d g f) → Enough (M - 2) f (F .right-end f) (F .left-end f)
+    unfolding remaining
+    fuel-behind-a-line {g} k behind d x =
+        count-misses-two (left-later? F see cell d N f) M (cell f) (cell g) (G .cell-exists f h) (G .cell-exists g k)
+        (λ same. later-exit-is-of-another-cell G d g f k h (behind d x .0) x (behind d x .1) (sym same)) (not-left-again d h x) not-left-after
+      where
+        not-left-after : LeftLater F see cell d N f (cell g) → ⊥
+        not-left-after s =
+            let y = s .2 in
+            let b = behind d x in
+            later-exit-is-of-another-cell G d g (s .0) k (s .1) (b .0) (y .exit)
+            (earlier-is-transitive d _ _ _ _ _ _ (b .0) x (y .exit) (b .1) (y .later)) (sym (y .in-the-cell))

@@ -22,13 +22,17 @@ pub mod Twice
 pub mod Fuel
 -- how the tree grows: the one induction that rows and demand 2 go by
 pub mod Tree
--- the stand strictly inside its cell: a direction that meets no corner leaves it by exactly one side
+-- the stand strictly inside its cell: a direction that meets no corner leaves it by one of its sides
 pub mod Start
+-- the stand strictly within a free side: such a direction enters one of its two cells, and leaves it by one of its other sides
+pub mod WithinSide
+-- the lines around a stand of either kind: seen, shared by no direction, and fuel for each
+pub mod Around
 -- rows below a cone are at most one more than the corners inside it; rows never outnumber corners
 pub mod Rows
 -- demand 2 below one line: one row holds the direction, and the walk ends at its face
 pub mod Demand2
--- the sides of the stand's cell together: nothing is cut, few crossings, and demand 2
+-- the lines around the stand together: nothing is cut, few crossings, and demand 2
 pub mod Listing
 -- the fan hands on just the parts of the plain definition
 pub mod Plain
@@ -40,3 +44,5 @@ pub mod Agree
 pub mod Tables
 -- the limits of every row are corners
 pub mod Limits
+-- lines followed in two parts list as they do at once
+pub mod TwoParts

@@ -1,12 +1,12 @@
 -- The limits of every row are corners.
-use Prim.Native.Nat.{ℕ, suc, _<_}
+use Prim.Native.Nat.{ℕ, _<_}
 use Rattle.plane.specs.Side.{Point}
-use Rattle.fan.specs.Sight.{Floor, Sight, Row, sides, from-inside, rows}
+use Rattle.fan.specs.Sight.{Floor, Sight, Row, Standing, lines-around, unentered, seen-from, rows}
 use Rattle.fan.specs.Once.{At}
 use Rattle.fan.proofs.Geometry.{Geometry, left-end-exists}
 use Rattle.fan.proofs.Places.{at-no-place, at-the-only-place, either-list}
-use Rattle.fan.proofs.RowCounts.{over-sides}
-use Rattle.fan.proofs.Start.{Start, Run, start-run, side-in-sight}
+use Rattle.fan.proofs.Around.{Stands, around-the-stand}
+use Rattle.fan.proofs.RowCounts.{over-lines}
 use Rattle.fan.proofs.Tree.{Source, Grown, grown, in-sight}
 use Rattle.fan.proofs.Tree.Grown.{ends, too-many, crosses, keeps, splits}
 
@@ -26,14 +26,15 @@ module _ {F : Floor} {N M : ℕ} {see : ℕ → Point} {cell : ℕ → ℕ} (G :
       let v = left-end-exists G corners (in-sight G g .is-a-face) in
       either-list (rows t) p (λ j q. limits-of-a-tree g a v q) (λ j q. limits-of-a-tree h v b q)
 
-  module _ (k : ℕ) where
-    limits-of-sides : (m e : ℕ) → Run G m e → (i : ℕ) (w : Row) → At w (rows (sides F k m e)) i → Limited w
-    unfolding rows
-    limits-of-sides m e u =
-        over-sides F (λ t. (i : ℕ) (w : Row) → At w (rows t) i → Limited w)
-        (λ t v a b i w p. either-list (rows t) p (λ j q. a j w q) (λ j q. b j w q))
-        k m e (λ x a i w p. let s = side-in-sight G u a in limits-of-a-tree (grown G k x _ _ s) (corners x (s .is-a-face)) (left-end-exists G corners (s .is-a-face)) p)
-
-    pub row-limits-are-corners : {f i : ℕ} {w : Row} → Start F N see f → At w (rows (from-inside F k f)) i → Limited w
-    unfolding from-inside
-    row-limits-are-corners {f} S p = limits-of-sides (suc (F .more f)) f (start-run G S) _ _ p
+  -- of the rows seen from the stand
+  pub row-limits-are-corners : {p : Standing} {i : ℕ} {w : Row} → Stands F N see p → At w (rows (seen-from F M p)) i → Limited w
+  unfolding rows seen-from
+  row-limits-are-corners {p} S q =
+      let A = around-the-stand G S in
+      over-lines F (λ t. (i : ℕ) (w : Row) → At w (rows t) i → Limited w)
+      (λ t v a b i w p. either-list (rows t) p (λ j q. a j w q) (λ j q. b j w q))
+      (unentered M p) (lines-around F p) (A .some-line)
+      (λ x j a i w p.
+      let s = A .in-sight x j a in
+      limits-of-a-tree (grown G _ x _ _ s) (corners x (s .is-a-face)) (left-end-exists G corners (s .is-a-face)) p)
+      _ _ q

@@ -1,52 +1,41 @@
--- The sides of the stand's cell, each followed with its own ends as limits: nothing is cut, few crossings, rows that are seen, and demand 2.
-use mathlib.Core.List.{List, _∷_}
-use mathlib.Core.Path.{_≡_}
-use Prim.Native.Nat.{ℕ, zero, suc, _*_, _-_, _≤_, _<_}
+-- The lines around the stand, each followed with its own ends as limits: nothing is cut, few crossings, rows that are seen, and demand 2. What is proved is proved
+-- once, over any list of lines that is `Around` the stand, and so for a stand of either kind.
+use mathlib.Core.List.{List, [], _∷_}
+use mathlib.Core.Path.{_≡_, sym, subst}
+use Prim.Native.Nat.{ℕ, _*_, _≤_, _<_}
+use native.Mathlib.Omega.{arith}
 use Rattle.plane.specs.Side.{Point}
 use Rattle.plane.specs.Cone.{Meets, Direction}
-use Rattle.fan.specs.Sight.{Floor, Sight, Row, follow, sides, from-inside, rows, row-count, crossings, Whole}
+use Rattle.fan.specs.Sight.{Floor, Sight, Row, Standing, follow, lines-around, unentered, lines-seen, seen-from, rows, row-count, crossings, Whole}
 use Rattle.fan.specs.Sight.Sight.{both}
 use Rattle.fan.specs.Sight.Whole.{whole-both}
-use Rattle.fan.specs.Walk.{Among, Leaves, RowHolds, WalkEnds}
-use Rattle.fan.specs.Walk.Among.{this, after}
+use Rattle.fan.specs.Walk.{Leaves, Walks, RowHolds, WalkEnds}
 use Rattle.fan.specs.Once.{At, NeverTwice, Only}
-use Rattle.fan.proofs.Demand2.{WalkAmong, walk-is-unique, row-leaves-by-the-line, row-is-walked-to, rows-share-no-direction, some-row-holds-it}
+use Rattle.fan.specs.Once.At.{first, later}
+use Rattle.fan.proofs.Around.{Stands, Around, around-on, around-the-stand, enough-for-each, walk-begins, begun-at-a-line, some-line-leaves}
+use Rattle.fan.proofs.Demand2.{walk-is-unique, row-leaves-by-the-line, row-is-walked-to, rows-share-no-direction, some-row-holds-it}
 use Rattle.fan.proofs.Exit.{leaves-from-right}
-use Rattle.fan.proofs.Fuel.{listing-is-whole}
+use Rattle.fan.proofs.Fuel.{Enough, fuel-suffices}
 use Rattle.fan.proofs.Geometry.{Geometry}
-use Rattle.fan.proofs.Places.{either-list, Some, some-in-first, some-in-second, never-twice-joined, some-never-twice-is-only}
-use Rattle.fan.proofs.RowCounts.{over-sides, crossings-of-sides-at-most-rows-times-fuel}
-use Rattle.fan.proofs.Start.{Start, Run, start-run, run-on, not-left-by-a-later-one, side-in-sight, side-is-a-face, same-side, one-side-leaves}
+use Rattle.fan.proofs.Places.{either-list, Some, some-in-first, some-in-second, never-twice-joined, first-excludes-the-others, some-never-twice-is-only}
+use Rattle.fan.proofs.RowCounts.{over-lines, crossings-of-lines-at-most-rows-times-fuel}
+use Rattle.fan.proofs.Tables.{one-at-a-place}
 use Rattle.fan.proofs.Tree.{RowSeen, row-is-seen}
 use Rattle.fan.proofs.Twice.{AllDifferent, WayDown, no-line-of-sight-enters-a-cell-twice}
 use Rattle.fan.proofs.Twice.WayDown.{right-of-the-split, left-of-the-split}
 
 module _ {F : Floor} {N M : ℕ} {see : ℕ → Point} {cell : ℕ → ℕ} (G : Geometry F N M see cell) where
-  -- ---- fuel
-
-  module _ {f : ℕ} (S : Start F N see f) where
-    -- with one crossing for each other cell nothing is cut
-    pub listing-is-whole-from-inside : Whole (from-inside F (M - 1) f)
-    unfolding from-inside
-    listing-is-whole-from-inside =
-        over-sides F Whole (λ t u h k. whole-both h k) (M - 1) (suc (F .more f)) f (λ e i. listing-is-whole G e (side-in-sight G (start-run G S) i))
-
-    -- crossings never exceed rows times (cells − 1)
-    pub crossings-from-inside-at-most-rows-times-cells-less-one : crossings (from-inside F (M - 1) f) ≤ row-count (from-inside F (M - 1) f) * (M - 1)
-    unfolding from-inside
-    crossings-from-inside-at-most-rows-times-cells-less-one =
-        crossings-of-sides-at-most-rows-times-fuel F (M - 1) (suc (F .more f)) f listing-is-whole-from-inside
+  -- ---- any lines around the stand
 
   module _ (k : ℕ) where
-    -- ---- rows
+    lines-are-whole : (es : List ℕ) → Around G es → ((e i : ℕ) → At e es i → Enough G k e (F .right-end e) (F .left-end e)) → Whole (lines-seen F k es)
+    lines-are-whole es A fuel =
+        over-lines F Whole (λ t u h j. whole-both h j) k es (A .some-line) (λ e i p. fuel-suffices G k e _ _ (A .in-sight e i p) (fuel e i p))
 
-    -- no way down the listing enters a cell twice
-    pub no-line-of-sight-from-inside-enters-a-cell-twice :
-        {f : ℕ} → Start F N see f → (e : ℕ) (p : List ℕ) → WayDown (from-inside F k f) e p → AllDifferent cell (e ∷ p)
-    unfolding from-inside
-    no-line-of-sight-from-inside-enters-a-cell-twice {f} S =
-        over-sides F (λ t. (e : ℕ) (p : List ℕ) → WayDown t e p → AllDifferent cell (e ∷ p)) over-a-split k (suc (F .more f)) f
-        (λ x i e p. no-line-of-sight-enters-a-cell-twice G k x _ _ (side-in-sight G (start-run G S) i) e p)
+    no-way-enters-a-cell-twice : (es : List ℕ) → Around G es → (e : ℕ) (p : List ℕ) → WayDown (lines-seen F k es) e p → AllDifferent cell (e ∷ p)
+    no-way-enters-a-cell-twice es A =
+        over-lines F (λ t. (e : ℕ) (p : List ℕ) → WayDown t e p → AllDifferent cell (e ∷ p)) over-a-split k es (A .some-line)
+        (λ x i a e p. no-line-of-sight-enters-a-cell-twice G k x _ _ (A .in-sight x i a) e p)
       where
         over-a-split :
             (t u : Sight) → ((e : ℕ) (p : List ℕ) → WayDown t e p → AllDifferent cell (e ∷ p)) →
@@ -55,19 +44,12 @@ module _ {F : Floor} {N M : ℕ} {see : ℕ → Point} {cell : ℕ → ℕ} (G :
         over-a-split t u h h′ e p (right-of-the-split v) = h e p v
         over-a-split t u h h′ e p (left-of-the-split v) = h′ e p v
 
-    rows-of-sides-are-seen : (m e : ℕ) → Run G m e → (i : ℕ) (w : Row) → At w (rows (sides F k m e)) i → RowSeen G w
+    rows-of-lines-are-seen : (es : List ℕ) → Around G es → (i : ℕ) (w : Row) → At w (rows (lines-seen F k es)) i → RowSeen G w
     unfolding rows
-    rows-of-sides-are-seen m e u =
-        over-sides F (λ t. (i : ℕ) (w : Row) → At w (rows t) i → RowSeen G w)
+    rows-of-lines-are-seen es A =
+        over-lines F (λ t. (i : ℕ) (w : Row) → At w (rows t) i → RowSeen G w)
         (λ t v h h′ i w p. either-list (rows t) p (λ j q. h j w q) (λ j q. h′ j w q))
-        k m e (λ x a i w p. row-is-seen G k x _ _ (side-in-sight G u a) p)
-
-    -- each row's face is seen and ends the sight
-    pub listed-row-is-seen : {f i : ℕ} {w : Row} → Start F N see f → At w (rows (from-inside F k f)) i → RowSeen G w
-    unfolding from-inside
-    listed-row-is-seen {f} S p = rows-of-sides-are-seen (suc (F .more f)) f (start-run G S) _ _ p
-
-    -- ---- demand 2
+        k es (A .some-line) (λ x a q i w p. row-is-seen G k x _ _ (A .in-sight x a q) p)
 
     module _ (d : Point) where
       abbrev Leaving : ℕ → Type 0
@@ -76,62 +58,108 @@ module _ {F : Floor} {N M : ℕ} {see : ℕ → Point} {cell : ℕ → ℕ} (G :
       abbrev Holding : Row → Type 0
       Holding = RowHolds F see d
 
-      -- a row of some sides that holds d is where the walk that leaves by one of them ends
-      rows-of-sides-are-walked-to : (m e : ℕ) → Run G m e → (i : ℕ) (w : Row) → At w (rows (sides F k m e)) i → Holding w → WalkAmong G d m e (w .face)
+      -- the walk that leaves by one of the lines ends at face w
+      record WalkFrom (es : List ℕ) (w : ℕ) : Type 0 where
+        line : ℕ
+        place : ℕ
+        stands : At line es place
+        leaves : Leaving line
+        walks : Walks F see d line w
+
+      -- a row of some lines that holds d is where the walk that leaves by one of them ends
+      rows-of-lines-are-walked-to : (es : List ℕ) → Around G es → (i : ℕ) (w : Row) → At w (rows (lines-seen F k es)) i → Holding w → WalkFrom es (w .face)
       unfolding rows
-      rows-of-sides-are-walked-to m e u =
-          over-sides F (λ t. (i : ℕ) (w : Row) → At w (rows t) i → Holding w → WalkAmong G d m e (w .face))
+      rows-of-lines-are-walked-to es A =
+          over-lines F (λ t. (i : ℕ) (w : Row) → At w (rows t) i → Holding w → WalkFrom es (w .face))
           (λ t v h h′ i w p x. either-list (rows t) p (λ j q. h j w q x) (λ j q. h′ j w q x))
-          k m e
-          (λ x a i w p h.
-          let s = side-in-sight G u a in
-          record { side = x; among = a; leaves = row-leaves-by-the-line G d k x _ _ s p h; walks = row-is-walked-to G d k x _ _ s p h })
+          k es (A .some-line)
+          (λ x a q i w p h.
+          let s = A .in-sight x a q in
+          record { line = x; place = a; stands = q; leaves = row-leaves-by-the-line G d k x _ _ s p h; walks = row-is-walked-to G d k x _ _ s p h })
 
-      -- no two rows of different sides hold d
-      rows-of-sides-share-no-direction : (m e : ℕ) → Run G m e → NeverTwice Holding (rows (sides F k m e))
-      unfolding rows sides
-      rows-of-sides-share-no-direction zero e u = rows-share-no-direction G d k e _ _ (side-in-sight G u this)
-      rows-of-sides-share-no-direction (suc m) e u =
-          never-twice-joined (rows-share-no-direction G d k e _ _ (side-in-sight G u this)) (rows-of-sides-share-no-direction m (F .next e) (run-on G u))
-          (λ x y i j p q h h′.
-          apart (row-leaves-by-the-line G d k e _ _ (side-in-sight G u this) p h) (rows-of-sides-are-walked-to m (F .next e) (run-on G u) j y q h′))
+      -- no two rows of different lines hold d
+      rows-of-lines-share-no-direction : (es : List ℕ) → Around G es → NeverTwice Holding (rows (lines-seen F k es))
+      unfolding rows lines-seen
+      rows-of-lines-share-no-direction [] A = absurd (omega (arith, A .some-line))
+      rows-of-lines-share-no-direction (e ∷ []) A = rows-share-no-direction G d k e _ _ (A .in-sight e 0 first)
+      rows-of-lines-share-no-direction (e ∷ x ∷ es) A =
+          never-twice-joined (rows-share-no-direction G d k e _ _ (A .in-sight e 0 first)) (rows-of-lines-share-no-direction (x ∷ es) (around-on G A))
+          (λ v y i j p q h h′.
+          apart (row-leaves-by-the-line G d k e _ _ (A .in-sight e 0 first) p h) (rows-of-lines-are-walked-to (x ∷ es) (around-on G A) j y q h′))
         where
-          apart : {w : ℕ} → Leaving e → WalkAmong G d m (F .next e) w → ⊥
-          apart l o = not-left-by-a-later-one G u d (o .among) (leaves-from-right F see d l) (leaves-from-right F see d (o .leaves))
+          apart : {w : ℕ} → Leaving e → WalkFrom (x ∷ es) w → ⊥
+          apart l o = first-excludes-the-others (A .apart d) (o .stands) (leaves-from-right F see d l) (leaves-from-right F see d (o .leaves))
 
-      module _ {f : ℕ} (S : Start F N see f) where
-        -- no two rows hold d
-        pub listed-share-no-direction : NeverTwice Holding (rows (from-inside F k f))
-        unfolding from-inside
-        listed-share-no-direction = rows-of-sides-share-no-direction (suc (F .more f)) f (start-run G S)
+      -- a line that is left by has a row that holds d
+      some-row-of-a-line-holds :
+          (n : ℕ) → ((e : ℕ) → e < N → F .right-end e < n) → ((c : ℕ) → c < n → ¬ Meets d (see c)) → (es : List ℕ) → Around G es →
+          Some Leaving es → Whole (lines-seen F k es) → Some Holding (rows (lines-seen F k es))
+      unfolding rows lines-seen
+      some-row-of-a-line-holds n corners clear [] A s w = absurd (omega (arith, A .some-line))
+      some-row-of-a-line-holds n corners clear (e ∷ []) A (y, i, first, l) w = some-row-holds-it G d k e _ _ (A .in-sight e 0 first) n corners clear w l
+      some-row-of-a-line-holds n corners clear (e ∷ []) A (y, i, later p, l) w = elim p [ ]
+      some-row-of-a-line-holds n corners clear (e ∷ x ∷ es) A (y, i, first, l) (whole-both w w′) =
+          some-in-first (rows (lines-seen F k (x ∷ es))) (some-row-holds-it G d k e _ _ (A .in-sight e 0 first) n corners clear w l)
+      some-row-of-a-line-holds n corners clear (e ∷ x ∷ es) A (y, i, later {i = j} p, l) (whole-both w w′) =
+          some-in-second (rows (follow F k e (F .right-end e) (F .left-end e)))
+          (some-row-of-a-line-holds n corners clear (x ∷ es) (around-on G A) (y, j, p, l) w′)
 
-        -- a row that holds d is where the walk from the stand's cell ends
-        pub listed-row-is-walked-to : {i : ℕ} {w : Row} → At w (rows (from-inside F k f)) i → Holding w → WalkEnds F see d f (w .face)
-        unfolding from-inside
-        listed-row-is-walked-to p h =
-            let o = rows-of-sides-are-walked-to (suc (F .more f)) f (start-run G S) _ _ p h in
-            record { side = o .side; of-the-cell = o .among; leaves = o .leaves; walks = o .walks }
+  -- ---- a stand of either kind
 
-        -- the walk from the stand's cell ends at one face
-        pub walk-ends-once : {w w′ : ℕ} → WalkEnds F see d f w → WalkEnds F see d f w′ → w ≡ w′
-        walk-ends-once x y =
-            let same = same-side G S d (x .of-the-cell) (y .of-the-cell) (x .leaves) (y .leaves) in
-            walk-is-unique G d (side-is-a-face G S (x .of-the-cell)) (x .walks) (rw same at (y .walks))
+  module _ {p : Standing} (S : Stands F N see p) where
+    abbrev A : Around G (lines-around F p)
+    A = around-the-stand G S
 
-        module _ (n : ℕ) (corners : (e : ℕ) → e < N → F .right-end e < n) (is-direction : Direction d) (clear : (c : ℕ) → c < n → ¬ Meets d (see c)) where
-          -- a side that is left by has a row that holds d
-          some-row-of-a-side-holds : (m e s : ℕ) → Run G m e → Among F m e s → Leaving s → Whole (sides F k m e) → Some Holding (rows (sides F k m e))
-          unfolding rows sides
-          some-row-of-a-side-holds zero e s u this l w = some-row-holds-it G d k e _ _ (side-in-sight G u this) n corners clear w l
-          some-row-of-a-side-holds (suc m) e s u this l (whole-both w w′) =
-              some-in-first (rows (sides F k m (F .next e))) (some-row-holds-it G d k e _ _ (side-in-sight G u this) n corners clear w l)
-          some-row-of-a-side-holds (suc m) e s u (after i) l (whole-both w w′) =
-              some-in-second (rows (follow F k e (F .right-end e) (F .left-end e))) (some-row-of-a-side-holds m (F .next e) s (run-on G u) i l w′)
+    -- with one crossing for each cell not yet entered nothing is cut
+    pub listing-is-whole : Whole (seen-from F M p)
+    unfolding seen-from
+    listing-is-whole = lines-are-whole (unentered M p) (lines-around F p) A (enough-for-each G S)
 
-          -- exactly one row holds d, and the walk from the stand's cell ends at its face
-          pub demand-2 : Whole (from-inside F k f) → (w : Row) × Only Holding (rows (from-inside F k f)) w × WalkEnds F see d f (w .face)
-          unfolding from-inside
-          demand-2 w =
-              let o = one-side-leaves G S n corners d is-direction clear in
-              let s = some-row-of-a-side-holds (suc (F .more f)) f (o .side) (start-run G S) (o .of-the-cell) (o .leaves) w in
-              (s .0, some-never-twice-is-only s listed-share-no-direction, listed-row-is-walked-to (s .2) (s .3))
+    -- crossings never exceed rows times the cells not yet entered
+    pub crossings-at-most-rows-times-unentered : crossings (seen-from F M p) ≤ row-count (seen-from F M p) * unentered M p
+    unfolding seen-from
+    crossings-at-most-rows-times-unentered =
+        crossings-of-lines-at-most-rows-times-fuel F (unentered M p) (lines-around F p) (A .some-line) listing-is-whole
+
+    -- no way down the listing enters a cell twice
+    pub no-line-of-sight-from-the-stand-enters-a-cell-twice : (e : ℕ) (q : List ℕ) → WayDown (seen-from F M p) e q → AllDifferent cell (e ∷ q)
+    unfolding seen-from
+    no-line-of-sight-from-the-stand-enters-a-cell-twice = no-way-enters-a-cell-twice (unentered M p) (lines-around F p) A
+
+    -- each row's face is seen and ends the sight
+    pub listed-row-is-seen : {i : ℕ} {w : Row} → At w (rows (seen-from F M p)) i → RowSeen G w
+    unfolding seen-from
+    listed-row-is-seen q = rows-of-lines-are-seen (unentered M p) (lines-around F p) A _ _ q
+
+    -- ---- demand 2
+
+    module _ (d : Point) where
+      -- no two rows hold d
+      pub listed-share-no-direction : NeverTwice (RowHolds F see d) (rows (seen-from F M p))
+      unfolding seen-from
+      listed-share-no-direction = rows-of-lines-share-no-direction (unentered M p) d (lines-around F p) A
+
+      -- a row that holds d is where the walk from the stand ends
+      pub listed-row-is-walked-to : {i : ℕ} {w : Row} → At w (rows (seen-from F M p)) i → RowHolds F see d w → WalkEnds F see d p (w .face)
+      unfolding seen-from
+      listed-row-is-walked-to q h =
+          let o = rows-of-lines-are-walked-to (unentered M p) d (lines-around F p) A _ _ q h in
+          record { side = o .line; begins = walk-begins G S (o .stands) (o .leaves); leaves = o .leaves; walks = o .walks }
+
+      -- the walk from the stand ends at one face
+      pub walk-ends-once : {w w′ : ℕ} → WalkEnds F see d p w → WalkEnds F see d p w′ → w ≡ w′
+      walk-ends-once {w′ = w′} x y =
+          let (i, a) = begun-at-a-line G S (x .begins) in
+          let (j, b) = begun-at-a-line G S (y .begins) in
+          let place = A .apart d .same-place _ _ i j a b (leaves-from-right F see d (x .leaves)) (leaves-from-right F see d (y .leaves)) in
+          let same = one-at-a-place a (subst (At (y .side) (lines-around F p)) (sym place) b) in
+          walk-is-unique G d (A .in-sight _ i a .is-a-face) (x .walks) (subst (λ (e : ℕ). Walks F see d e w′) (sym same) (y .walks))
+
+      module _ (n : ℕ) (corners : (e : ℕ) → e < N → F .right-end e < n) (is-direction : Direction d) (clear : (c : ℕ) → c < n → ¬ Meets d (see c)) where
+        -- exactly one row holds d, and the walk from the stand ends at its face
+        pub demand-2 : (w : Row) × Only (RowHolds F see d) (rows (seen-from F M p)) w × WalkEnds F see d p (w .face)
+        unfolding seen-from
+        demand-2 =
+            let l = some-line-leaves G S n corners d is-direction clear in
+            let s = some-row-of-a-line-holds (unentered M p) d n corners clear (lines-around F p) A l listing-is-whole in
+            (s .0, some-never-twice-is-only s listed-share-no-direction, listed-row-is-walked-to (s .2) (s .3))

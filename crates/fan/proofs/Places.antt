@@ -63,6 +63,13 @@ module _ {A : Type 0} where
   pub never-twice-in-one : {P : A → Type 0} {z : A} → NeverTwice P (z ∷ [])
   never-twice-in-one = record { same-place = λ x y i j p q h k. only-place-is-first p ∙ sym (only-place-is-first q) }
 
+  -- what is nowhere twice in a list is nowhere twice behind its first element, nor there where the first has it
+  pub never-twice-after : {P : A → Type 0} {z : A} {xs : List A} → NeverTwice P (z ∷ xs) → NeverTwice P xs
+  never-twice-after once = record { same-place = λ x y i j p q h k. omega (arith, once .same-place x y (suc i) (suc j) (later p) (later q) h k) }
+
+  pub first-excludes-the-others : {P : A → Type 0} {z y : A} {xs : List A} {j : ℕ} → NeverTwice P (z ∷ xs) → At y xs j → P z → P y → ⊥
+  first-excludes-the-others {z = z} {y = y} {j = j} once q h k = omega (arith, once .same-place z y zero (suc j) first (later q) h k)
+
   -- nor in two joined lists, where no element of the first has P together with one of the second
   pub never-twice-joined :
       {P : A → Type 0} {xs ys : List A} → NeverTwice P xs → NeverTwice P ys → ((x y : A) (i j : ℕ) → At x xs i → At y ys j → P x → P y → ⊥) →

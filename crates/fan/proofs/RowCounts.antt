@@ -1,16 +1,17 @@
 -- What every expansion has, over any floor: what its counts have to do with each other.
 use mathlib.Core.Bool.{Bool, true, false}
+use mathlib.Core.List.{List, [], _∷_}
 use mathlib.Core.Path.{_≡_, refl}
 use Prim.Native.Nat.{ℕ, zero, suc, _*_, _≤_, _<_}
 use native.Mathlib.Nat.{mul-suc, add-mul}
 use native.Mathlib.Omega.{arith}
 use lib.ListN.{length, length-append}
-use Rattle.fan.specs.Sight.{Floor, Place, Sight, fan, follow, hand-on, sides, row-count, crossings, rows, Whole}
+use Rattle.fan.specs.Sight.{Floor, Place, Sight, fan, follow, hand-on, lines-seen, row-count, crossings, rows, Whole}
 use Rattle.fan.specs.Sight.Place.{between, right-of-r, left-of-l}
 use Rattle.fan.specs.Sight.Sight.{row, pass, both, cut}
 use Rattle.fan.specs.Sight.Whole.{whole-row, whole-pass, whole-both}
-use Rattle.fan.specs.Walk.{Among}
-use Rattle.fan.specs.Walk.Among.{this, after}
+use Rattle.fan.specs.Once.{At}
+use Rattle.fan.specs.Once.At.{first, later}
 use Rattle.fan.proofs.Trees.{follow-a-wall, follow-too-far, follow-across, hand-on-is-a-fan, fan-last, fan-both, fan-skips, fan-ends}
 
 -- ---- every expansion
@@ -27,11 +28,12 @@ module _ (F : Floor) where
         by-place rest right-of-r p = rw (fan-skips F on m e r l p) (rest r l)
         by-place rest left-of-l p = rw (fan-ends F on m e r l p) (lines e r l)
 
-    -- so have the sides of the stand's cell
-    pub over-sides : (n m f : ℕ) → ((e : ℕ) → Among F m f e → P (follow F n e (F .right-end e) (F .left-end e))) → P (sides F n m f)
-    unfolding sides
-    over-sides n zero f each = each f this
-    over-sides n (suc m) f each = over-a-split _ _ (each f this) (over-sides n m (F .next f) (λ e i. each e (after i)))
+    -- so have lines one behind the other
+    pub over-lines : (n : ℕ) (es : List ℕ) → 0 < length es → ((e i : ℕ) → At e es i → P (follow F n e (F .right-end e) (F .left-end e))) → P (lines-seen F n es)
+    unfolding lines-seen
+    over-lines n [] h each = absurd (omega arith)
+    over-lines n (e ∷ []) h each = each e 0 first
+    over-lines n (e ∷ x ∷ es) h each = over-a-split _ _ (each e 0 first) (over-lines n (x ∷ es) (omega arith) (λ y i p. each y (suc i) (later p)))
 
   -- what rows and a crossing too many have, and what passages and splits keep, every expansion has
   module _ (P : ℕ → Sight → Type 0) (at-a-row : (n f r l : ℕ) → P n (row f r l)) (at-a-cut : P zero cut)
@@ -92,7 +94,8 @@ module _ (F : Floor) where
       over-a-passage : (n f r l : ℕ) (t : Sight) → Few n t → Few (suc n) (pass f r l t)
       over-a-passage n f r l t h (whole-pass w) = omega (arith, h w, whole-has-a-row w, mul-suc (row-count t) n)
 
-  -- so do those of all the sides of the stand's cell
-  pub crossings-of-sides-at-most-rows-times-fuel : (n m f : ℕ) → Whole (sides F n m f) → crossings (sides F n m f) ≤ row-count (sides F n m f) * n
-  crossings-of-sides-at-most-rows-times-fuel n m f =
-      over-sides F (Few n) (few-over-a-split n) n m f (λ e i. crossings-at-most-rows-times-fuel n e (F .right-end e) (F .left-end e))
+  -- so do those of lines one behind the other
+  pub crossings-of-lines-at-most-rows-times-fuel :
+      (n : ℕ) (es : List ℕ) → 0 < length es → Whole (lines-seen F n es) → crossings (lines-seen F n es) ≤ row-count (lines-seen F n es) * n
+  crossings-of-lines-at-most-rows-times-fuel n es h =
+      over-lines F (Few n) (few-over-a-split n) n es h (λ e i p. crossings-at-most-rows-times-fuel n e (F .right-end e) (F .left-end e))

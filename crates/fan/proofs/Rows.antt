@@ -1,8 +1,9 @@
 -- Rows never outnumber corners (document 01, "Expansion"): the rows below a cone are at most one more than the corners strictly inside it.
-use mathlib.Core.Bool.{Bool, true, _&&_, _||_}
+use mathlib.Core.Bool.{Bool, true, false, _&&_, _||_, false≢true}
+use mathlib.Core.List.{List, [], _∷_}
 use mathlib.Core.Logic.{_⊎_, inl, inr}
 use mathlib.Core.Path.{_≡_}
-use Prim.Native.Nat.{ℕ, zero, suc, _+_, _≤_, _<_}
+use Prim.Native.Nat.{ℕ, suc, _+_, _≤_, _<_}
 use native.Mathlib.Omega.{arith}
 use lib.Dec.{eqb}
 use lib.Signed.{ltZ}
@@ -12,14 +13,15 @@ use Rattle.exact.proofs.Truth.{both-true, one-true}
 use Rattle.plane.specs.Side.{Point}
 use Rattle.plane.specs.Cone.{cross, Holds}
 use Rattle.plane.proofs.Found.{halves-share-nothing, left-half-does-not-hold-v, right-half-does-not-hold-v}
-use Rattle.fan.specs.Sight.{Floor, Sight, row-count, follow, sides, from-inside}
-use Rattle.fan.specs.Walk.{Among}
-use Rattle.fan.specs.Walk.Among.{this, after}
+use Rattle.fan.specs.Sight.{Floor, Sight, Standing, row-count, follow, lines-around, unentered, lines-seen, seen-from}
+use Rattle.fan.specs.Once.{At}
+use Rattle.fan.specs.Once.At.{first, later}
+use Rattle.fan.proofs.Around.{Stands, Around, around-on, around-the-stand}
 use Rattle.fan.proofs.Exit.{LeavesFromRight, leaves-from-right}
 use Rattle.fan.proofs.Geometry.{Geometry, InSight, left-end-exists}
 use Rattle.fan.proofs.HandOn.{Parted}
 use Rattle.fan.proofs.Parts.{count, parts-at-most-the-whole, parts-at-most-either, number-is-counted, at-most-all-are-counted}
-use Rattle.fan.proofs.Start.{Start, Run, start-run, run-on, not-left-by-a-later-one, side-in-sight}
+use Rattle.fan.proofs.Places.{first-excludes-the-others}
 use Rattle.fan.proofs.Tree.{Source, Grown, in-sight, grown}
 use Rattle.fan.proofs.Tree.Grown.{ends, too-many, crosses, keeps, splits}
 
@@ -106,60 +108,61 @@ module _ {F : Floor} {N M : ℕ} {see : ℕ → Point} {cell : ℕ → ℕ} (G :
   pub rows-of-a-cone : (k f r l : ℕ) → InSight G f r l → row-count (follow F k f r l) ≤ 1 + inside see n r l
   rows-of-a-cone k f r l s = rows-of-a-tree (grown G k f r l s)
 
-  -- ---- the sides of the stand's cell
+  -- ---- the lines around the stand
 
-  -- corner i is the right end of side e, or strictly inside its cone
-  abbrev of-side : ℕ → ℕ → Bool
-  of-side e i = from-right see (F .right-end e) (F .left-end e) i
+  -- corner i is the right end of line e, or strictly inside its cone
+  abbrev of-line : ℕ → ℕ → Bool
+  of-line e i = from-right see (F .right-end e) (F .left-end e) i
 
-  -- so for e or one of the m sides after it
-  of-sides : ℕ → ℕ → ℕ → Bool
-  of-sides zero e i = of-side e i
-  of-sides (suc m) e i = of-side e i || of-sides m (F .next e) i
+  -- so for one of some lines
+  of-lines : List ℕ → ℕ → Bool
+  of-lines [] i = false
+  of-lines (e ∷ es) i = of-line e i || of-lines es i
 
-  leaves-to : {m e x i : ℕ} → Run G m e → Among F m e x → of-side x i ≡ true → LeavesFromRight F see (see i) x
+  leaves-to : {es : List ℕ} {x j i : ℕ} → Around G es → At x es j → of-line x i ≡ true → LeavesFromRight F see (see i) x
   unfolding FromRight
-  leaves-to {x = x} {i = i} u a t = by-case (from-right-is see n (F .right-end x) (F .left-end x) i t)
+  leaves-to {x = x} {j = j} {i = i} A a t = by-case (from-right-is see n (F .right-end x) (F .left-end x) i t)
     where
       by-case : FromRight see n (F .right-end x) (F .left-end x) i → LeavesFromRight F see (see i) x
-      by-case (inl p) = rw (← p) (record { right = side-in-sight G u a .seen .right-from-a; left = u .turns x a })
+      by-case (inl p) = let s = A .in-sight x j a in rw (← p) (record { right = s .seen .right-from-a; left = s .seen .seen })
       by-case (inr h) = leaves-from-right F see (see i) h
 
-  -- no corner is of two sides
-  of-one-side : {m e x : ℕ} (i : ℕ) → Run G (suc m) e → Among F m (F .next e) x → of-side e i ≡ true → of-side x i ≡ true → ⊥
-  of-one-side i u a t t′ = not-left-by-a-later-one G u (see i) a (leaves-to u this t) (leaves-to u (after a) t′)
-
-  of-some-side : (m e i : ℕ) → of-sides m e i ≡ true → (x : ℕ) × Among F m e x × (of-side x i ≡ true)
-  unfolding of-sides
-  of-some-side zero e i t = (e, this, t)
-  of-some-side (suc m) e i t = by-case (of-some-side m (F .next e) i) (one-true (of-side e i) (of-sides m (F .next e) i) t)
+  of-some-line : (es : List ℕ) (i : ℕ) → of-lines es i ≡ true → (x : ℕ) × (j : ℕ) × At x es j × (of-line x i ≡ true)
+  unfolding of-lines
+  of-some-line [] i t = absurd (false≢true t)
+  of-some-line (e ∷ es) i t = by-case (of-some-line es i) (one-true (of-line e i) (of-lines es i) t)
     where
       by-case :
-          (of-sides m (F .next e) i ≡ true → (x : ℕ) × Among F m (F .next e) x × (of-side x i ≡ true)) →
-          (of-side e i ≡ true) ⊎ (of-sides m (F .next e) i ≡ true) → (x : ℕ) × Among F (suc m) e x × (of-side x i ≡ true)
-      by-case later (inl h) = (e, this, h)
-      by-case later (inr h) = let s = later h in (s .0, after (s .1), s .2)
+          (of-lines es i ≡ true → (x : ℕ) × (j : ℕ) × At x es j × (of-line x i ≡ true)) → (of-line e i ≡ true) ⊎ (of-lines es i ≡ true) →
+          (x : ℕ) × (j : ℕ) × At x (e ∷ es) j × (of-line x i ≡ true)
+      by-case behind (inl h) = (e, 0, first, h)
+      by-case behind (inr h) = let (x, j, p, t) = behind h in (x, suc j, later p, t)
 
-  rows-of-a-side : (k : ℕ) {m e x : ℕ} → Run G m e → Among F m e x → row-count (follow F k x (F .right-end x) (F .left-end x)) ≤ count (of-side x) n
-  rows-of-a-side k {x = x} u a =
-      let s = side-in-sight G u a in
+  rows-of-a-line : (k : ℕ) {es : List ℕ} {x j : ℕ} → Around G es → At x es j → row-count (follow F k x (F .right-end x) (F .left-end x)) ≤ count (of-line x) n
+  rows-of-a-line k {x = x} {j = j} A a =
+      let s = A .in-sight x j a in
       let below = rows-of-a-cone k x (F .right-end x) (F .left-end x) s in
       omega (arith, below, one-more-from-right see n (F .right-end x) (F .left-end x) (corners x (s .is-a-face)))
 
-  -- the rows of the sides are at most the corners of the sides
-  rows-of-sides : (k m e : ℕ) → Run G m e → row-count (sides F k m e) ≤ count (of-sides m e) n
-  unfolding sides row-count of-sides
-  rows-of-sides k zero e u = rows-of-a-side k u this
-  rows-of-sides k (suc m) e u =
-      let here = rows-of-a-side k u this in
-      let later = rows-of-sides k m (F .next e) (run-on G u) in
-      omega (arith, here, later, parts-at-most-either (of-side e) (of-sides m (F .next e)) n apart)
+  -- the rows of the lines are at most the corners of the lines: no corner is of two
+  rows-of-lines : (k : ℕ) (es : List ℕ) → Around G es → row-count (lines-seen F k es) ≤ count (of-lines es) n
+  unfolding lines-seen row-count of-lines
+  rows-of-lines k [] A = absurd (omega (arith, A .some-line))
+  rows-of-lines k (e ∷ []) A =
+      let here = rows-of-a-line k A first in
+      omega (arith, here, parts-at-most-either (of-line e) (λ i. false) n (λ i t t′. false≢true t′))
+  rows-of-lines k (e ∷ x ∷ es) A =
+      let here = rows-of-a-line k A first in
+      let behind = rows-of-lines k (x ∷ es) (around-on G A) in
+      omega (arith, here, behind, parts-at-most-either (of-line e) (of-lines (x ∷ es)) n apart)
     where
-      apart : (i : ℕ) → of-side e i ≡ true → of-sides m (F .next e) i ≡ true → ⊥
-      apart i t t′ = let s = of-some-side m (F .next e) i t′ in of-one-side i u (s .1) t (s .2)
+      apart : (i : ℕ) → of-line e i ≡ true → of-lines (x ∷ es) i ≡ true → ⊥
+      apart i t t′ =
+          let (y, j, p, s) = of-some-line (x ∷ es) i t′ in
+          first-excludes-the-others (A .apart (see i)) p (leaves-to A first t) (leaves-to A (later p) s)
 
   -- rows never outnumber corners
-  pub rows-never-outnumber-corners : (k f : ℕ) → Start F N see f → row-count (from-inside F k f) ≤ n
-  unfolding from-inside
-  rows-never-outnumber-corners k f S =
-      omega (arith, rows-of-sides k (suc (F .more f)) f (start-run G S), at-most-all-are-counted (of-sides (suc (F .more f)) f) n)
+  pub rows-never-outnumber-corners : {p : Standing} → Stands F N see p → row-count (seen-from F M p) ≤ n
+  unfolding seen-from
+  rows-never-outnumber-corners {p} S =
+      omega (arith, rows-of-lines (unentered M p) (lines-around F p) (around-the-stand G S), at-most-all-are-counted (of-lines (lines-around F p)) n)

@@ -1,7 +1,7 @@
--- The expansion over an abstract floor (document 01, "Expansion"; document 02, A14): a tree of rows, passages and splits. Faces and corners are numbers.
+-- The expansion over an abstract floor (document 01, "Expansion"; document 02, A4 and A14): a tree of rows, passages and splits. Faces and corners are numbers.
 use mathlib.Core.Bool.{Bool, true, false}
 use mathlib.Core.List.{List, [], _∷_, _++_}
-use Prim.Native.Nat.{ℕ, zero, suc, _+_}
+use Prim.Native.Nat.{ℕ, zero, suc, _+_, _-_}
 
 -- where a corner v lies between the limits r and l
 pub data Place : Type 0 where
@@ -56,14 +56,47 @@ follow F (suc n) f r l =
 unfoldable pub hand-on : Floor → ℕ → ℕ → ℕ → ℕ → Sight
 hand-on F n g r l = fan F (follow F n) (F .more g) (F .next g) r l
 
--- side e of the stand's cell and the m sides after it, each with its own two ends as limits
-unfoldable pub sides : Floor → ℕ → ℕ → ℕ → Sight
-sides F n zero e = follow F n e (F .right-end e) (F .left-end e)
-sides F n (suc m) e = both (follow F n e (F .right-end e) (F .left-end e)) (sides F n m (F .next e))
+-- ---- the start
 
--- what is seen from strictly inside the cell whose first face is f: the cell hands on all its sides, from that one on
-unfoldable pub from-inside : Floor → ℕ → ℕ → Sight
-from-inside F n f = sides F n (suc (F .more f)) f
+-- side e and the m sides after it, counter-clockwise; `next` is the next side of the same cell
+unfoldable pub sides : (ℕ → ℕ) → ℕ → ℕ → List ℕ
+sides next zero e = e ∷ []
+sides next (suc m) e = e ∷ sides next m (next e)
+
+-- the sides of the cell whose first side is f, in their order
+abbrev pub all-sides : Floor → ℕ → List ℕ
+all-sides F f = sides (F .next) (suc (F .more f)) f
+
+-- the other sides of g's cell, in order after g
+abbrev pub other-sides : Floor → ℕ → List ℕ
+other-sides F g = sides (F .next) (F .more g) (F .next g)
+
+-- where the stand is
+pub data Standing : Type 0 where
+  -- strictly inside the cell whose first side is this face
+  inside : ℕ → Standing
+  -- strictly within this face's side, which is free
+  within : ℕ → Standing
+
+-- the lines around the stand, in order: its cell's sides; or its cell's other sides and then the neighbour's
+unfoldable pub lines-around : Floor → Standing → List ℕ
+lines-around F (inside f) = all-sides F f
+lines-around F (within s) = other-sides F s ++ other-sides F (F .back s)
+
+-- how many of M cells are not yet entered
+unfoldable pub unentered : ℕ → Standing → ℕ
+unentered M (inside f) = M - 1
+unentered M (within s) = M - 2
+
+-- lines one behind the other, each followed with its own two ends as limits
+unfoldable pub lines-seen : Floor → ℕ → List ℕ → Sight
+lines-seen F n [] = cut
+lines-seen F n (e ∷ []) = follow F n e (F .right-end e) (F .left-end e)
+lines-seen F n (e ∷ x ∷ es) = both (follow F n e (F .right-end e) (F .left-end e)) (lines-seen F n (x ∷ es))
+
+-- what is seen from the stand, of M cells
+unfoldable pub seen-from : Floor → ℕ → Standing → Sight
+seen-from F M p = lines-seen F (unentered M p) (lines-around F p)
 
 -- the rows' numbers, three a row, in order
 unfoldable pub numbers : Sight → List ℕ

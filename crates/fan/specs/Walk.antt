@@ -1,10 +1,13 @@
--- The walk (document 01, "Walk"). It knows nothing of cones.
+-- The walk (document 01, "Walk"; document 02, A4). It knows nothing of cones.
 use mathlib.Core.Bool.{true, false}
 use mathlib.Core.Path.{_≡_}
 use Prim.Native.Nat.{ℕ, suc}
+use lib.IntN.{pos}
+use lib.Signed.{_<ℤ_}
 use Rattle.plane.specs.Side.{Point}
-use Rattle.plane.specs.Cone.{Holds}
-use Rattle.fan.specs.Sight.{Floor, Row}
+use Rattle.plane.specs.Cone.{cross, Holds}
+use Rattle.fan.specs.Sight.{Floor, Row, Standing}
+use Rattle.fan.specs.Sight.Standing.{inside, within}
 
 -- e is side f or one of the m sides after it
 pub data Among (F : Floor) : ℕ → ℕ → ℕ → Type 0 where
@@ -32,9 +35,21 @@ module _ (F : Floor) (see : ℕ → Point) (d : Point) where
   abbrev pub RowHolds : Row → Type 0
   RowHolds w = Holds (see (w .right)) (see (w .left)) d
 
-  -- the walk from the stand's cell, whose first side is f, leaves it by one of its sides and ends at face w
-  pub record WalkEnds (f w : ℕ) : Type 0 where
+  -- d points into the cell of face g, within whose side the stand is: it lies left of the ray to g's left end
+  abbrev pub Enters : ℕ → Type 0
+  Enters g = pos 0 <ℤ cross (see (F .left-end g)) d
+
+  -- the walk begins in the cell that has face e as a side by which it may be left
+  pub data Begins : Standing → ℕ → Type 0 where
+    -- in the stand's cell
+    in-the-cell : {f e : ℕ} → Among F (suc (F .more f)) f e → Begins (inside f) e
+    -- in whichever of the two cells d enters
+    in-its-cell : {s e : ℕ} → Enters s → Other F s e → Begins (within s) e
+    in-the-neighbour : {s e : ℕ} → Enters (F .back s) → Other F (F .back s) e → Begins (within s) e
+
+  -- the walk from the stand leaves its first cell by one of its sides and ends at face w
+  pub record WalkEnds (p : Standing) (w : ℕ) : Type 0 where
     pub side : ℕ
-    pub of-the-cell : Among F (suc (F .more f)) f side
+    pub begins : Begins p side
     pub leaves : Leaves side
     pub walks : Walks side w

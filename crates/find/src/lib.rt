@@ -1,4 +1,4 @@
-// Finding (document 01, "The stand"): the plan is checked, the stand read, and its cell sought.
+// Finding (document 01, "The stand"; document 02, A4): the plan and the setting are checked, the stand read, and its place sought.
 ghost use Prim.Native.Nat.{suc, _*_, _<_, _≤_};
 ghost use mathlib.Core.Bool.{true};
 ghost use mathlib.Core.Path.{_≡_};
@@ -7,7 +7,8 @@ ghost use Rattle.limits.specs.Limits.{most-cells, sized};
 ghost use Rattle.cells.specs.Lists.{tabled, corner-count, cell-count, face-count};
 ghost use Rattle.cells.specs.Cut.{cells-of};
 ghost use Rattle.cells.specs.Check.{framed};
-ghost use Rattle.cells.specs.Sound.{CornersNear, CornersExist, Numbered};
+ghost use Rattle.cells.specs.Backed.{Backed};
+ghost use Rattle.cells.specs.Sound.{Sound};
 ghost use Rattle.checking.specs.Sizes.{sizes-of};
 ghost use Rattle.checking.specs.declared.Sizes.the-variants.{Of};
 ghost use Rattle.stand.specs.Spot.{stood};
@@ -24,15 +25,23 @@ use stand::spot::Spot;
 use stand::spot::Stand;
 use stand::spot::stand_spot;
 
-// On an accepted plan.
-fn find_stand(corners: &[i32], faces: &[u16], firsts: &[u16], stand: Stand) -> Found
-    requires { ⌜ CornersNear (now corners) × CornersExist (now corners) (tabled (now faces) (now firsts)) × Numbered (tabled (now faces) (now firsts)) ⌝ }
-    ensures { λ r. ⌜ r ≡ with-spot (now (corners .entry)) (tabled (now (faces .entry)) (now (firsts .entry))) (stood (now (corners .entry)) stand) ⌝ }
+// On an accepted plan and setting.
+fn find_stand(
+    corners: &[i32],
+    faces: &[u16],
+    firsts: &[u16],
+    backs: &[u16],
+    doors: &[u16],
+    setting: u64,
+    stand: Stand,
+) -> Found
+    requires { ⌜ Sound (now corners) (tabled (now faces) (now firsts)) (now doors) × Backed (tabled (now faces) (now firsts)) (now backs) ⌝ }
+    ensures { λ r. ⌜ r ≡ with-spot (now (corners .entry)) (tabled (now (faces .entry)) (now (firsts .entry))) (now (doors .entry)) setting (stood (now (corners .entry)) stand) ⌝ }
 {
     let Spot::At(x, y) = stand_spot(corners, stand) else {
         return Found::Refused(Refusal::Stand);
     };
-    locate(corners, faces, firsts, [x, y])
+    locate(corners, faces, firsts, backs, doors, setting, [x, y])
 }
 
 // On lists that are framed and sized, with room for their tables.
@@ -41,6 +50,7 @@ fn find_in(
     cells: &[u16],
     doors: &[u16],
     kind: u16,
+    setting: u64,
     stand: Stand,
     faces: &mut [u16],
     firsts: &mut [u16],
@@ -50,11 +60,17 @@ fn find_in(
     requires { ⌜ length (now faces) ≡ 2 * face-count (cells-of kind (now cells)) ⌝ }
     requires { ⌜ length (now firsts) ≡ suc (cell-count (cells-of kind (now cells))) ⌝ }
     requires { ⌜ length (now backs) ≡ face-count (cells-of kind (now cells)) ⌝ }
-    ensures { λ r. ⌜ r ≡ found kind (now (corners .entry)) (now (cells .entry)) (now (doors .entry)) stand ⌝ }
+    ensures { λ r. ⌜ r ≡ found kind (now (corners .entry)) (now (cells .entry)) (now (doors .entry)) setting stand ⌝ }
 {
     match check_into(corners, cells, doors, kind, faces, firsts, backs) {
         Checked::Refused(r) => Found::Refused(r),
-        Checked::Accepted(_) => find_stand(corners, faces, firsts, stand),
+        Checked::Accepted(plan) => {
+            let k = plan.doors;
+            if setting::is_wrong(setting, k) {
+                return Found::Refused(Refusal::Setting);
+            }
+            find_stand(corners, faces, firsts, backs, doors, setting, stand)
+        }
     }
 }
 
@@ -64,6 +80,7 @@ fn find_cut(
     cells: &[u16],
     doors: &[u16],
     kind: u16,
+    setting: u64,
     stand: Stand,
     m: usize,
     n: usize,
@@ -73,7 +90,7 @@ fn find_cut(
 ) -> Found
     requires { ⌜ sizes-of kind (now corners) (now cells) (now doors) ≡ Of m n ⌝ }
     requires { ⌜ (2 * n ≤ length (now faces)) × (m < length (now firsts)) × (n ≤ length (now backs)) ⌝ }
-    ensures { λ r. ⌜ r ≡ found kind (now (corners .entry)) (now (cells .entry)) (now (doors .entry)) stand ⌝ }
+    ensures { λ r. ⌜ r ≡ found kind (now (corners .entry)) (now (cells .entry)) (now (doors .entry)) setting stand ⌝ }
 {
     let twice = 2 * n;
     let after = m + 1;
@@ -82,6 +99,7 @@ fn find_cut(
         cells,
         doors,
         kind,
+        setting,
         stand,
         &mut faces[..twice],
         &mut firsts[..after],
@@ -95,13 +113,14 @@ fn find_few(
     cells: &[u16],
     doors: &[u16],
     kind: u16,
+    setting: u64,
     stand: Stand,
     m: usize,
     n: usize,
 ) -> Found
     requires { ⌜ sizes-of kind (now corners) (now cells) (now doors) ≡ Of m n ⌝ }
     requires { ⌜ n ≤ 3 * most-cells ⌝ }
-    ensures { λ r. ⌜ r ≡ found kind (now (corners .entry)) (now (cells .entry)) (now (doors .entry)) stand ⌝ }
+    ensures { λ r. ⌜ r ≡ found kind (now (corners .entry)) (now (cells .entry)) (now (doors .entry)) setting stand ⌝ }
 {
     let mut faces = [0u16; 6 * Plan::MOST_CELLS];
     let mut firsts = [0u16; 1 + Plan::MOST_CELLS];
@@ -111,6 +130,7 @@ fn find_few(
         cells,
         doors,
         kind,
+        setting,
         stand,
         m,
         n,
@@ -126,12 +146,13 @@ fn find_many(
     cells: &[u16],
     doors: &[u16],
     kind: u16,
+    setting: u64,
     stand: Stand,
     m: usize,
     n: usize,
 ) -> Found
     requires { ⌜ sizes-of kind (now corners) (now cells) (now doors) ≡ Of m n ⌝ }
-    ensures { λ r. ⌜ r ≡ found kind (now (corners .entry)) (now (cells .entry)) (now (doors .entry)) stand ⌝ }
+    ensures { λ r. ⌜ r ≡ found kind (now (corners .entry)) (now (cells .entry)) (now (doors .entry)) setting stand ⌝ }
 {
     let mut faces = [0u16; 16 * Plan::MOST_CELLS];
     let mut firsts = [0u16; 1 + Plan::MOST_CELLS];
@@ -141,6 +162,7 @@ fn find_many(
         cells,
         doors,
         kind,
+        setting,
         stand,
         m,
         n,
@@ -150,17 +172,24 @@ fn find_many(
     )
 }
 
-// Finding: plan, the kind of its list of cells, and stand.
-pub fn find(corners: &[i32], cells: &[u16], doors: &[u16], kind: u16, stand: Stand) -> Found
-    ensures { λ r. ⌜ r ≡ found kind (now (corners .entry)) (now (cells .entry)) (now (doors .entry)) stand ⌝ }
+// Finding: plan, the kind of its list of cells, its setting, and stand.
+pub fn find(
+    corners: &[i32],
+    cells: &[u16],
+    doors: &[u16],
+    kind: u16,
+    setting: u64,
+    stand: Stand,
+) -> Found
+    ensures { λ r. ⌜ r ≡ found kind (now (corners .entry)) (now (cells .entry)) (now (doors .entry)) setting stand ⌝ }
 {
     match measure(corners, cells, doors, kind) {
         Sizes::Refused(r) => Found::Refused(r),
         Sizes::Of(m, n) => {
             if n <= 3 * Plan::MOST_CELLS {
-                return find_few(corners, cells, doors, kind, stand, m, n);
+                return find_few(corners, cells, doors, kind, setting, stand, m, n);
             }
-            find_many(corners, cells, doors, kind, stand, m, n)
+            find_many(corners, cells, doors, kind, setting, stand, m, n)
         }
     }
 }

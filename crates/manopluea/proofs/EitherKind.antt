@@ -32,21 +32,21 @@ module _ (k l : ℕ) (ts us : List ℕ) (cells : cells-of k ts ≡ cells-of l us
   unfolding checked
   same-check cs ds = ap₂ (λ (b : Bool) (T : Cells). refuse-if (not b) Frame (checked-cells cs T ds)) (alike cs) cells
 
-  same-finding : (cs : List ℤ) (ds : List ℕ) (s : Stand) → found k cs ts ds s ≡ found l cs us ds s
+  same-finding : (cs : List ℤ) (ds : List ℕ) (w : ℕ) (s : Stand) → found k cs ts ds w s ≡ found l cs us ds w s
   unfolding found
-  same-finding cs ds s = ap₂ (λ (T : Cells) (r : Checked). with-plan cs T s r) cells (same-check cs ds)
+  same-finding cs ds w s = ap₂ (λ (T : Cells) (r : Checked). with-plan cs T ds w s r) cells (same-check cs ds)
 
-  same-view : (cs : List ℤ) (ds : List ℕ) (w : ℕ) (s : Stand) (room : ℕ) → viewed k cs ts ds w s room ≡ viewed l cs us ds w s room
+  same-view : (cs : List ℤ) (ds : List ℕ) (w : ℕ) (s : Stand) → viewed k cs ts ds w s ≡ viewed l cs us ds w s
   unfolding viewed
-  same-view cs ds w s room = ap₂ (λ (T : Cells) (r : Checked). view-of-plan cs T ds w s room r) cells (same-check cs ds)
+  same-view cs ds w s = ap₂ (λ (T : Cells) (r : Checked). view-of-plan cs T ds w s r) cells (same-check cs ds)
 
   same-listing : (cs : List ℤ) (ds : List ℕ) (w : ℕ) (s : Stand) (table : List ℕ) → listed k cs ts ds w s table ≡ listed l cs us ds w s table
   unfolding listed
-  same-listing cs ds w s table = ap₂ (λ (T : Cells) (v : View). listed-from cs T ds w table v) cells (same-view cs ds w s (length table))
+  same-listing cs ds w s table = ap₂ (λ (T : Cells) (v : View). listed-from cs T ds w table v) cells (same-view cs ds w s)
 
   same-change : (cs : List ℤ) (ds : List ℕ) (w : ℕ) (s : Stand) (given : List ℕ) (i : ℕ) (b : Bool) (table : List ℕ) → changed k cs ts ds w s given i b table ≡ changed l cs us ds w s given i b table
   unfolding changed
-  same-change cs ds w s given i b table = ap₂ (λ (T : Cells) (v : View). changed-from cs T ds w given i b table v) cells (same-view cs ds w s (length table))
+  same-change cs ds w s given i b table = ap₂ (λ (T : Cells) (v : View). changed-from cs T ds w given i b table v) cells (same-view cs ds w s)
 
   same-asking : (cs : List ℤ) (ds : List ℕ) (w n room places : ℕ) → asked k cs ts ds w n room places ≡ asked l cs us ds w n room places
   unfolding asked
@@ -63,7 +63,7 @@ module _ (k l : ℕ) (ts us : List ℕ) (cells : cells-of k ts ≡ cells-of l us
 -- the same answers to every call that takes the lists of a plan
 pub record SameAnswers (ts us : List ℕ) : Type 0 where
   pub check : (cs : List ℤ) (ds : List ℕ) → checked triangles cs ts ds ≡ checked polygons cs us ds
-  pub find : (cs : List ℤ) (ds : List ℕ) (s : Stand) → found triangles cs ts ds s ≡ found polygons cs us ds s
+  pub find : (cs : List ℤ) (ds : List ℕ) (w : ℕ) (s : Stand) → found triangles cs ts ds w s ≡ found polygons cs us ds w s
   pub list : (cs : List ℤ) (ds : List ℕ) (w : ℕ) (s : Stand) (table : List ℕ) → listed triangles cs ts ds w s table ≡ listed polygons cs us ds w s table
   pub change : (cs : List ℤ) (ds : List ℕ) (w : ℕ) (s : Stand) (given : List ℕ) (i : ℕ) (b : Bool) (table : List ℕ) → changed triangles cs ts ds w s given i b table ≡ changed polygons cs us ds w s given i b table
   pub list-stands : (cs : List ℤ) (ds : List ℕ) (w : ℕ) (stands : List Stand) (n : ℕ) (table replies : List ℕ) → listed-stands triangles cs ts ds w stands n table replies ≡ listed-stands polygons cs us ds w stands n table replies

@@ -1,10 +1,13 @@
--- Several stands in one call, computed on document 01's plan Q: the stands of cases j, a, i, c and h, of which the first, the third and the last are refused.
+-- Several stands in one call, computed on document 01's plan Q: the stands of cases j, a, i, c and h, of which the first and the third are refused and
+-- the last is in the doorway.
 use mathlib.Core.List.{List, [], _∷_, _++_}
 use mathlib.Core.Path.{_≡_, refl}
 use Prim.Native.Nat.{ℕ}
 use lib.Ieee.{ofBits}
 use lib.ListN.{replicate}
 use Rattle.plane.specs.Side.{side}
+use Rattle.plane.specs.Cone.{minus, dot}
+use Rattle.plane.specs.Tests.{is-within}
 use Rattle.limits.specs.Limits.{triangles, sized}
 use Rattle.cells.specs.Least.{least}
 use Rattle.cells.specs.Lists.{next, start, neighbour, answers, back, home}
@@ -14,11 +17,11 @@ use Rattle.setting.specs.Setting.{shut, wrong-setting, bars, ends}
 use Rattle.limits.specs.declared.Refusal.the-variants.{Size, Room}
 use Rattle.number.specs.Whole.{whole}
 use Rattle.stand.specs.Spot.{whole-point, stood}
-use Rattle.stand.specs.Find.{against, located, not-left-of, right-of}
+use Rattle.stand.specs.Find.{against, strictly-within, within-free, located, not-left-of, right-of}
 use Rattle.stand.specs.declared.spot.Stand.{Stand}
 use Rattle.stand.specs.declared.spot.Stand.the-variants.{Point}
-use Rattle.fan.specs.Sight.{follow, numbers, row-count, crossings, fan, sides, from-inside}
-use Rattle.sight.specs.Listing.{viewed, listing-numbers, listing-row-count, listing-crossings, listed, placed}
+use Rattle.fan.specs.Sight.{follow, numbers, row-count, crossings, fan, sides, lines-around, unentered, lines-seen, seen-from}
+use Rattle.sight.specs.Listing.{no-room, viewed, listing-numbers, listing-row-count, listing-crossings, listed, placed}
 use Rattle.sight.specs.declared.list.Listed.{Listed}
 use Rattle.sight.specs.declared.list.Listed.the-variants.{Rows, Refused}
 use Rattle.cells.specs.PlanQ.{corners-of-Q, cells-of-Q, doors-of-Q}
@@ -29,7 +32,7 @@ use Rattle.manopluea.specs.Cases.{three, five, six, six-and-a-half, elev
 abbrev stands : List Stand
 stands = Point six-and-a-half three ∷ Point six three ∷ Point eleven five ∷ Point three six ∷ Point five five ∷ []
 
--- the rows of case a, which are those of case c
+-- the rows of case a, which are those of cases c and h
 abbrev rows : List ℕ
 rows = 0 ∷ 0 ∷ 1 ∷ 1 ∷ 1 ∷ 2 ∷ 4 ∷ 2 ∷ 3 ∷ 5 ∷ 3 ∷ 0 ∷ []
 
@@ -37,6 +40,6 @@ abbrev listed-on-Q : ℕ → ℕ → ℕ → Listed × (List ℕ × List ℕ)
 listed-on-Q n room places = listed-stands triangles corners-of-Q cells-of-Q doors-of-Q 0 stands n (replicate room old) (replicate places old)
 
 -- all five; the first two; none; a table and replies that are one short; more than 32
-pub morning-of-Q : (listed-on-Q 5 60 15 ∷ listed-on-Q 2 24 9 ∷ listed-on-Q 0 1 1 ∷ listed-on-Q 5 59 15 ∷ listed-on-Q 5 60 14 ∷ listed-on-Q 33 1 1 ∷ []) ≡ ((Rows 8 2, (rows ++ rows ++ replicate 36 old, 8 ∷ 0 ∷ 0 ∷ 0 ∷ 4 ∷ 1 ∷ 10 ∷ 0 ∷ 0 ∷ 0 ∷ 4 ∷ 1 ∷ 9 ∷ 0 ∷ 0 ∷ [])) ∷ (Rows 4 1, (rows ++ replicate 12 old, 8 ∷ 0 ∷ 0 ∷ 0 ∷ 4 ∷ 1 ∷ old ∷ old ∷ old ∷ [])) ∷ (Rows 0 0, (old ∷ [], old ∷ [])) ∷ (Refused Room, (replicate 59 old, replicate 15 old)) ∷ (Refused Room, (replicate 60 old, replicate 14 old)) ∷ (Refused Size, (old ∷ [], old ∷ [])) ∷ [])
-unfolding ofBits side sized least home next start neighbour answers back cell-of cut-triangles cut-polygons cut pairs faces-of firsts-from tables cells-of framed outside wrong-corner some-face wrong-for-side missing-corner wrong-side wrong-cell wrong-neighbour names wrong-door checked-cells checked shut wrong-setting bars ends whole whole-point stood not-left-of right-of against located fan follow sides from-inside numbers row-count crossings placed viewed listing-numbers listing-row-count listing-crossings listed one-after-another in-all single asked listed-stands
+pub morning-of-Q : (listed-on-Q 5 60 15 ∷ listed-on-Q 2 24 9 ∷ listed-on-Q 0 1 1 ∷ listed-on-Q 5 59 15 ∷ listed-on-Q 5 60 14 ∷ listed-on-Q 33 1 1 ∷ []) ≡ ((Rows 12 2, (rows ++ rows ++ rows ++ replicate 24 old, 8 ∷ 0 ∷ 0 ∷ 0 ∷ 4 ∷ 1 ∷ 10 ∷ 0 ∷ 0 ∷ 0 ∷ 4 ∷ 1 ∷ 0 ∷ 4 ∷ 0 ∷ [])) ∷ (Rows 4 1, (rows ++ replicate 12 old, 8 ∷ 0 ∷ 0 ∷ 0 ∷ 4 ∷ 1 ∷ old ∷ old ∷ old ∷ [])) ∷ (Rows 0 0, (old ∷ [], old ∷ [])) ∷ (Refused Room, (replicate 59 old, replicate 15 old)) ∷ (Refused Room, (replicate 60 old, replicate 14 old)) ∷ (Refused Size, (old ∷ [], old ∷ [])) ∷ [])
+unfolding ofBits side sized least home next start neighbour answers back cell-of cut-triangles cut-polygons cut pairs faces-of firsts-from tables cells-of framed outside wrong-corner some-face wrong-for-side missing-corner wrong-side wrong-cell wrong-neighbour names wrong-door checked-cells checked shut wrong-setting bars ends whole whole-point stood not-left-of right-of against is-within strictly-within within-free minus dot located fan follow sides lines-around unentered lines-seen seen-from numbers row-count crossings placed viewed no-room listing-numbers listing-row-count listing-crossings listed one-after-another in-all single asked listed-stands
 morning-of-Q = refl

@@ -1,14 +1,15 @@
 -- Each call's reply has the number and place of the lowest condition that applies, and a refusal keeps all lent memory.
-use mathlib.Core.Bool.{Bool, true, false, not, _&&_}
+use mathlib.Core.Bool.{Bool, true, false, not, _&&_, _||_}
 use mathlib.Core.List.{List, [], _∷_, _++_}
-use mathlib.Core.Path.{_≡_, refl, sym, ap, ap₂, _∙_}
+use mathlib.Core.Path.{_≡_, refl, sym, ap, ap₂, _∙_, subst}
 use Prim.Native.Nat.{ℕ, _*_}
 use lib.Dec.{ltb, leb}
 use lib.ListN.{length, getD, take, drop}
+use lib.Seq.{sets}
 use lib.IntN.{ℤ}
 use Rattle.plane.specs.Side.{Point}
 use Rattle.limits.specs.Limits.{most-stands, sized}
-use Rattle.cells.specs.Lists.{corner-count, cell-count, face-count}
+use Rattle.cells.specs.Lists.{Cells, corner-count, cell-count, face-count}
 use Rattle.cells.specs.Cut.{cells-of}
 use Rattle.cells.specs.Check.{framed, first-wrong-corner, first-wrong-cell, first-wrong-face, first-wrong-door, refuse-if, checked-cells, checked}
 use Rattle.limits.specs.Reply.{Reply, number, place, checked-reply}
@@ -23,21 +24,25 @@ use Rattle.planfile.specs.File.{file-of, kind-in, corners-in, cells-in, doors-i
 use Rattle.planfile.specs.Calls.{given-room, left-by, has-room, written-reply, file-checked, told as read-told, lists-left}
 use Rattle.planfile.specs.Reply.{read-numbers}
 use Rattle.stand.specs.Spot.{stood}
-use Rattle.stand.specs.Find.{first-inside, by-cells, located, with-spot, with-plan, found}
+use Rattle.stand.specs.Find.{strictly-within, first-inside, first-within, side-at, by-places, located, with-spot, with-setting, with-plan, found}
 use Rattle.stand.specs.Reply.{found-reply}
 use Rattle.stand.specs.declared.spot.Stand.{Stand}
 use Rattle.stand.specs.declared.spot.Spot.{Spot}
 use Rattle.stand.specs.declared.spot.Spot.the-variants as S
+use Rattle.stand.specs.declared.locate.Footing.{Footing}
+use Rattle.stand.specs.declared.locate.Footing.the-variants.{Inside, Side}
 use Rattle.stand.specs.declared.locate.Found.{Found}
 use Rattle.stand.specs.declared.locate.Found.the-variants as F
-use Rattle.sight.specs.Listing.{unless, view-of-cell, view-of-spot, view-of-plan, viewed, listing-numbers, listed-from, listed}
+use Rattle.sight.specs.Listing.{unless, view-of-place, view-of-spot, view-of-plan, viewed, refuse, no-room, rows-from, listing-numbers, listing-row-count, listing-crossings, listed-from, listed}
 use Rattle.sight.specs.Reply.{listed-reply}
 use Rattle.sight.specs.declared.view.View.{View}
 use Rattle.sight.specs.declared.view.View.the-variants as O
-use Rattle.doors.specs.Change.{same-list, no-change, wished, refuse, changed-from, changed}
-use Rattle.grant.specs.Asked.{too-many, no-room, then-asked, asked}
+use Rattle.sight.specs.declared.list.Listed.{Listed}
+use Rattle.sight.specs.declared.list.Listed.the-variants as L
+use Rattle.doors.specs.Change.{same-list, no-change, wished, underfoot, changed-from, changed}
+use Rattle.grant.specs.Asked.{too-many, no-room as no-room-for-all, then-asked, asked}
 use Rattle.morning.specs.Morning.{single, stands-from, listed-stands}
-use Rattle.manopluea.specs.Conditions.{Condition, when, lowest, CheckAnswers, ReadAnswers, WriteAnswers, FindAnswers, ListAnswers, ChangeAnswers, ListStandsAnswers, plan-conditions, plan-conditions-with, read-conditions, inside-some, on-some-border, stand-conditions, true-numbers}
+use Rattle.manopluea.specs.Conditions.{Condition, when, lowest, CheckAnswers, ReadAnswers, WriteAnswers, FindAnswers, ListAnswers, ChangeAnswers, ListStandsAnswers, plan-conditions, plan-conditions-with, read-conditions, inside-some, within-some, on-some-border, stand-conditions-with, stand-conditions, door-underfoot, place-of, true-numbers}
 
 -- what an answer tells in numbers
 abbrev pub told : Reply → ℕ × ℕ
@@ -161,93 +166,158 @@ write-answers kind cs ts ds file =
 
 -- an answer made of where the stand lies
 module _ (f : Found → ℕ × ℕ) (as-refused : (r : Refusal) → f (F.Refused r) ≡ (number r, place r)) where
-  by-cell : (inside border : Bool) (c : ℕ) (more : List Condition) → f (F.Cell c) ≡ lowest more → f (by-cells inside border c) ≡ lowest (when 9 (not inside && border) 0 ∷ when 10 (not inside && not border) 0 ∷ more)
+  by-place : (inside within border : Bool) (c : ℕ) (p : Footing) (more : List Condition) → f (F.At (place-of inside c p)) ≡ lowest more → f (by-places inside within border c p) ≡ lowest (when 9 ((not inside && not within) && border) 0 ∷ when 10 ((not inside && not within) && not border) 0 ∷ more)
   unfolding lowest
-  by-cell true true c more e = e
-  by-cell true false c more e = e
-  by-cell false true c more e = as-refused Line
-  by-cell false false c more e = as-refused Outside
+  by-place true within border c p more e = e
+  by-place false true border c p more e = e
+  by-place false false true c p more e = as-refused Line
+  by-place false false false c p more e = as-refused Outside
 
-pub find-answers : (kind : ℕ) (cs : List ℤ) (ts ds : List ℕ) (s : Stand) → FindAnswers kind cs ts ds s
+  -- with another reason for LINE where it is strictly within a side
+  by-place-with : (inside within border t u : Bool) (c : ℕ) (p : Footing) (more : List Condition) → (inside ≡ true → f (F.At (place-of inside c p)) ≡ lowest more) → (inside ≡ false → f (F.At (place-of inside c p)) ≡ lowest (when 9 (t && u) 0 ∷ more)) → f (by-places inside within border c p) ≡ lowest (when 9 ((not inside && within && t && u) || ((not inside && not within) && border)) 0 ∷ when 10 ((not inside && not within) && not border) 0 ∷ more)
+  unfolding lowest
+  by-place-with true within border t u c p more e g = e refl
+  by-place-with false true border true true c p more e g = g refl
+  by-place-with false true border true false c p more e g = g refl
+  by-place-with false true border false u c p more e g = g refl
+  by-place-with false false true t u c p more e g = as-refused Line
+  by-place-with false false false t u c p more e g = as-refused Outside
+
+pub find-answers : (kind : ℕ) (cs : List ℤ) (ts ds : List ℕ) (w : ℕ) (s : Stand) → FindAnswers kind cs ts ds w s
 unfolding found located lowest
-find-answers kind cs ts ds s =
+find-answers kind cs ts ds w s =
     record {
       of-the-paper = refl;
-      exact = by-plan (λ k. told (found-reply (with-plan cs (cells-of kind ts) s k))) (λ r. refl) kind cs ts ds (stand-conditions cs (cells-of kind ts) (stood cs s)) (by-spot (stood cs s));
+      exact = by-plan (λ k. told (found-reply (with-plan cs (cells-of kind ts) ds w s k))) (λ r. refl) kind cs ts ds (when 7 (wrong-setting w (length ds)) 0 ∷ stand-conditions cs (cells-of kind ts) ds w (stood cs s)) (by-setting (wrong-setting w (length ds)));
       kept = λ h. refl;
     }
   where
-    by-spot : (spot : Spot) → told (found-reply (with-spot cs (cells-of kind ts) spot)) ≡ lowest (stand-conditions cs (cells-of kind ts) spot)
+    by-spot : (spot : Spot) → told (found-reply (with-spot cs (cells-of kind ts) ds w spot)) ≡ lowest (stand-conditions cs (cells-of kind ts) ds w spot)
     by-spot (S.At x y) =
         let q : Point = record { x = x; y = y } in
-        by-cell (λ g. told (found-reply g)) (λ r. refl) (inside-some cs (cells-of kind ts) q) (on-some-border cs (cells-of kind ts) q) (first-inside cs (cells-of kind ts) q) [] refl
+        by-place (λ g. told (found-reply g)) (λ r. refl) (inside-some cs (cells-of kind ts) q) (within-some cs (cells-of kind ts) ds w q) (on-some-border cs (cells-of kind ts) q) (first-inside cs (cells-of kind ts) q) (side-at (cells-of kind ts) (first-within cs (cells-of kind ts) ds w q)) [] (found-is-done (place-of (inside-some cs (cells-of kind ts) q) _ _))
+      where
+        found-is-done : (p : Footing) → told (found-reply (F.At p)) ≡ (0, 0)
+        found-is-done (Inside c) = refl
+        found-is-done (Side c k) = refl
     by-spot S.Refused = refl
+
+    by-setting : (t : Bool) → told (found-reply (with-setting t (with-spot cs (cells-of kind ts) ds w (stood cs s)))) ≡ lowest (when 7 t 0 ∷ stand-conditions cs (cells-of kind ts) ds w (stood cs s))
+    by-setting true = refl
+    by-setting false = by-spot (stood cs s)
 
 -- ---- listing and door change: an answer made of a view
 
-module _ (kind : ℕ) (cs : List ℤ) (ts ds : List ℕ) (w : ℕ) (s : Stand) (room : ℕ) (f : View → ℕ × ℕ) (as-refused : (r : Refusal) → f (O.Refused r) ≡ (number r, place r)) (later : Spot → List Condition) (as-viewed : (x y : ℤ) → f (O.From x y (first-inside cs (cells-of kind ts) (record { x = x; y = y }))) ≡ lowest (later (S.At x y))) where
+module _ (f : View → ℕ × ℕ) (as-refused : (r : Refusal) → f (O.Refused r) ≡ (number r, place r)) where
   refused-unless : (t : Bool) (r : Refusal) (v : View) (more : List Condition) → f v ≡ lowest more → f (unless t r v) ≡ lowest (when (number r) t (place r) ∷ more)
   unfolding lowest
   refused-unless true r v more e = as-refused r
   refused-unless false r v more e = e
 
-  pub by-stand : (spot : Spot) → f (view-of-spot cs (cells-of kind ts) room spot) ≡ lowest (stand-conditions cs (cells-of kind ts) spot ++ (when 11 (ltb room (3 * corner-count cs)) 0 ∷ later spot))
-  unfolding lowest located
-  by-stand (S.At x y) =
-      let q : Point = record { x = x; y = y } in
-      by-cell (λ g. f (view-of-cell cs room x y g)) as-refused (inside-some cs (cells-of kind ts) q) (on-some-border cs (cells-of kind ts) q) (first-inside cs (cells-of kind ts) q) (when 11 (ltb room (3 * corner-count cs)) 0 ∷ later (S.At x y))
-      (refused-unless (ltb room (3 * corner-count cs)) Room (O.From x y (first-inside cs (cells-of kind ts) q)) (later (S.At x y)) (as-viewed x y))
-  by-stand S.Refused = as-refused NoStand
-
-  pub by-view : f (viewed kind cs ts ds w s room) ≡ lowest (plan-conditions kind cs ts ds ++ (when 7 (wrong-setting w (length ds)) 0 ∷ stand-conditions cs (cells-of kind ts) (stood cs s) ++ (when 11 (ltb room (3 * corner-count cs)) 0 ∷ later (stood cs s))))
+  by-view : (kind : ℕ) (cs : List ℤ) (ts ds : List ℕ) (w : ℕ) (s : Stand) (more : List Condition) → f (view-of-spot cs (cells-of kind ts) ds w (stood cs s)) ≡ lowest more → f (viewed kind cs ts ds w s) ≡ lowest (plan-conditions kind cs ts ds ++ (when 7 (wrong-setting w (length ds)) 0 ∷ more))
   unfolding viewed
-  by-view =
-      by-plan (λ k. f (view-of-plan cs (cells-of kind ts) ds w s room k)) as-refused kind cs ts ds _
-      (refused-unless (wrong-setting w (length ds)) Setting (view-of-spot cs (cells-of kind ts) room (stood cs s)) _ (by-stand (stood cs s)))
+  by-view kind cs ts ds w s more e =
+      by-plan (λ k. f (view-of-plan cs (cells-of kind ts) ds w s k)) as-refused kind cs ts ds _
+      (refused-unless (wrong-setting w (length ds)) Setting (view-of-spot cs (cells-of kind ts) ds w (stood cs s)) more e)
+
+-- the listing of a stand on an accepted plan, under a right setting
+pub list-by-stand : (cs : List ℤ) (T : Cells) (ds : List ℕ) (w : ℕ) (table : List ℕ) (spot : Spot) → told (listed-reply (listed-from cs T ds w table (view-of-spot cs T ds w spot) .0)) ≡ lowest (stand-conditions cs T ds w spot ++ (when 11 (ltb (length table) (3 * corner-count cs)) 0 ∷ []))
+unfolding lowest located no-room
+list-by-stand cs T ds w table (S.At x y) =
+    let q : Point = record { x = x; y = y } in
+    let p = place-of (inside-some cs T q) (first-inside cs T q) (side-at T (first-within cs T ds w q)) in
+    by-place (λ g. told (listed-reply (listed-from cs T ds w table (view-of-place x y g) .0))) (λ r. refl) (inside-some cs T q) (within-some cs T ds w q) (on-some-border cs T q) (first-inside cs T q) (side-at T (first-within cs T ds w q)) (when 11 (ltb (length table) (3 * corner-count cs)) 0 ∷ [])
+    (by-room-of (ltb (length table) (3 * corner-count cs)) (listing-row-count cs T ds w q p) (listing-crossings cs T ds w q p) (sets table 0 (listing-numbers cs T ds w q p)))
+  where
+    by-room-of : (r : Bool) (n k : ℕ) (new : List ℕ) → told (listed-reply (refuse r Room table (L.Rows n k, new) .0)) ≡ lowest (when 11 r 0 ∷ [])
+    by-room-of true n k new = refl
+    by-room-of false n k new = refl
+list-by-stand cs T ds w table S.Refused = refl
 
 pub list-answers : (kind : ℕ) (cs : List ℤ) (ts ds : List ℕ) (w : ℕ) (s : Stand) (table : List ℕ) → ListAnswers kind cs ts ds w s table
 unfolding listed lowest
 list-answers kind cs ts ds w s table =
     record {
       of-the-paper = refl;
-      exact = by-view kind cs ts ds w s (length table) (λ v. told (listed-reply (listed-from cs (cells-of kind ts) ds w table v .0))) (λ r. refl) (λ spot. []) (λ x y. refl);
-      kept = alone (viewed kind cs ts ds w s (length table));
+      exact = by-view (λ v. told (listed-reply (listed-from cs (cells-of kind ts) ds w table v .0))) (λ r. refl) kind cs ts ds w s (stand-conditions cs (cells-of kind ts) ds w (stood cs s) ++ (when 11 (ltb (length table) (3 * corner-count cs)) 0 ∷ [])) (list-by-stand cs (cells-of kind ts) ds w table (stood cs s));
+      kept = alone (viewed kind cs ts ds w s);
     }
   where
     alone : (v : View) → (listed-reply (listed-from cs (cells-of kind ts) ds w table v .0) .number ≡ 0 → ⊥) → listed-from cs (cells-of kind ts) ds w table v .1 ≡ table
-    alone (O.From x y c) = λ h. absurd (h refl)
+    alone (O.From x y p) = by-test (no-room cs table)
+      where
+        by-test : (r : Bool) → (listed-reply (refuse r Room table (rows-from cs (cells-of kind ts) ds w table (record { x = x; y = y }) p) .0) .number ≡ 0 → ⊥) → refuse r Room table (rows-from cs (cells-of kind ts) ds w table (record { x = x; y = y }) p) .1 ≡ table
+        by-test true h = refl
+        by-test false h = absurd (h refl)
     alone (O.Refused r) = λ h. refl
 
--- 12 and 13, given the true list
-abbrev after-the-list : List ℕ → ℕ → ℕ → Bool → List ℕ → List ℕ → List Condition
-after-the-list ds w i b given truth = when 12 (no-change ds w i b) 0 ∷ when 13 (not (same-list given truth)) 0 ∷ []
+-- the four tests of a change from a stand that was found, and its rows
+abbrev tested : List ℕ → ℕ → ℕ → List ℕ → Bool → Bool → Bool → Bool → Listed × List ℕ
+tested table n k new u r t v = refuse u Line table (refuse r Room table (refuse t Change table (refuse v Rows table (L.Rows n k, new))))
+
+told-by-tests : (table : List ℕ) (n k : ℕ) (new : List ℕ) (u r t v : Bool) → told (listed-reply (tested table n k new u r t v .0)) ≡ lowest (when 9 u 0 ∷ when 11 r 0 ∷ when 12 t 0 ∷ when 13 v 0 ∷ [])
+unfolding lowest
+told-by-tests table n k new true r t v = refl
+told-by-tests table n k new false true t v = refl
+told-by-tests table n k new false false true v = refl
+told-by-tests table n k new false false false true = refl
+told-by-tests table n k new false false false false = refl
+
+kept-by-tests : (table : List ℕ) (n k : ℕ) (new : List ℕ) (u r t v : Bool) → (listed-reply (tested table n k new u r t v .0) .number ≡ 0 → ⊥) → tested table n k new u r t v .1 ≡ table
+kept-by-tests table n k new true r t v h = refl
+kept-by-tests table n k new false true t v h = refl
+kept-by-tests table n k new false false true v h = refl
+kept-by-tests table n k new false false false true h = refl
+kept-by-tests table n k new false false false false h = absurd (h refl)
 
 pub change-answers : (kind : ℕ) (cs : List ℤ) (ts ds : List ℕ) (w : ℕ) (s : Stand) (given : List ℕ) (i : ℕ) (b : Bool) (table : List ℕ) → ChangeAnswers kind cs ts ds w s given i b table
-unfolding changed lowest
+unfolding changed lowest located no-room underfoot
 change-answers kind cs ts ds w s given i b table =
     record {
       of-the-paper = refl;
-      exact = by-view kind cs ts ds w s (length table) (λ v. told (listed-reply (changed-from cs (cells-of kind ts) ds w given i b table v .0))) (λ r. refl) (λ spot. after-the-list ds w i b given (true-numbers cs (cells-of kind ts) ds w spot)) by-tests;
-      kept = alone (viewed kind cs ts ds w s (length table));
+      exact = by-view (λ v. told (listed-reply (changed-from cs (cells-of kind ts) ds w given i b table v .0))) (λ r. refl) kind cs ts ds w s (conditions (stood cs s)) (by-stand (stood cs s));
+      kept = alone (viewed kind cs ts ds w s);
     }
   where
-    by-tests : (x y : ℤ) → told (listed-reply (changed-from cs (cells-of kind ts) ds w given i b table (O.From x y (first-inside cs (cells-of kind ts) (record { x = x; y = y }))) .0)) ≡ lowest (after-the-list ds w i b given (true-numbers cs (cells-of kind ts) ds w (S.At x y)))
-    by-tests x y = cases (no-change ds w i b) (not (same-list given (listing-numbers cs (cells-of kind ts) ds w (record { x = x; y = y }) (first-inside cs (cells-of kind ts) (record { x = x; y = y })))))
+    conditions : Spot → List Condition
+    conditions spot =
+        stand-conditions-with (door-underfoot cs (cells-of kind ts) ds w i spot) cs (cells-of kind ts) ds w spot
+        ++ (when 11 (ltb (length table) (3 * corner-count cs)) 0 ∷ when 12 (no-change ds w i b) 0 ∷ when 13 (not (same-list given (true-numbers cs (cells-of kind ts) ds w spot))) 0 ∷ [])
+
+    by-stand : (spot : Spot) → told (listed-reply (changed-from cs (cells-of kind ts) ds w given i b table (view-of-spot cs (cells-of kind ts) ds w spot) .0)) ≡ lowest (conditions spot)
+    by-stand (S.At x y) =
+        by-place-with (λ g. told (listed-reply (changed-from cs (cells-of kind ts) ds w given i b table (view-of-place x y g) .0))) (λ r. refl)
+        (inside-some cs (cells-of kind ts) q) (within-some cs (cells-of kind ts) ds w q) (on-some-border cs (cells-of kind ts) q) (ltb i (length ds)) (strictly-within cs (cells-of kind ts) q (getD ds i 0))
+        (first-inside cs (cells-of kind ts) q) (side-at (cells-of kind ts) (first-within cs (cells-of kind ts) ds w q)) (after (inside-some cs (cells-of kind ts) q))
+        (λ h. subst (λ (t : Bool). said t ≡ lowest (after t)) (sym h) (said-by-tests true false))
+        (λ h. subst (λ (t : Bool). said t ≡ lowest (when 9 (ltb i (length ds) && strictly-within cs (cells-of kind ts) q (getD ds i 0)) 0 ∷ after t)) (sym h) (said-by-tests false (ltb i (length ds) && strictly-within cs (cells-of kind ts) q (getD ds i 0))))
       where
-        cases : (t u : Bool) → told (listed-reply (refuse t Change table (refuse u Rows table (listed-from cs (cells-of kind ts) ds (wished b w i) table (O.From x y (first-inside cs (cells-of kind ts) (record { x = x; y = y }))))) .0)) ≡ lowest (when 12 t 0 ∷ when 13 u 0 ∷ [])
-        cases true true = refl
-        cases true false = refl
-        cases false true = refl
-        cases false false = refl
+        q : Point
+        q = record { x = x; y = y }
+
+        there : Bool → Footing
+        there t = place-of t (first-inside cs (cells-of kind ts) (record { x = x; y = y })) (side-at (cells-of kind ts) (first-within cs (cells-of kind ts) ds w (record { x = x; y = y })))
+
+        said : Bool → ℕ × ℕ
+        said t = told (listed-reply (changed-from cs (cells-of kind ts) ds w given i b table (O.From x y (there t)) .0))
+
+        after : Bool → List Condition
+        after t = when 11 (ltb (length table) (3 * corner-count cs)) 0 ∷ when 12 (no-change ds w i b) 0 ∷ when 13 (not (same-list given (listing-numbers cs (cells-of kind ts) ds w (record { x = x; y = y }) (there t)))) 0 ∷ []
+
+        new : Bool → List ℕ
+        new t = sets table 0 (listing-numbers cs (cells-of kind ts) ds (wished b w i) (record { x = x; y = y }) (there t))
+
+        said-by-tests : (t u : Bool) → told (listed-reply (tested table (listing-row-count cs (cells-of kind ts) ds (wished b w i) (record { x = x; y = y }) (there t)) (listing-crossings cs (cells-of kind ts) ds (wished b w i) (record { x = x; y = y }) (there t)) (new t) u (ltb (length table) (3 * corner-count cs)) (no-change ds w i b) (not (same-list given (listing-numbers cs (cells-of kind ts) ds w (record { x = x; y = y }) (there t)))) .0)) ≡ lowest (when 9 u 0 ∷ after t)
+        said-by-tests t u =
+            told-by-tests table (listing-row-count cs (cells-of kind ts) ds (wished b w i) (record { x = x; y = y }) (there t)) (listing-crossings cs (cells-of kind ts) ds (wished b w i) (record { x = x; y = y }) (there t)) (new t) u
+            (ltb (length table) (3 * corner-count cs)) (no-change ds w i b) (not (same-list given (listing-numbers cs (cells-of kind ts) ds w (record { x = x; y = y }) (there t))))
+    by-stand S.Refused = refl
 
     alone : (v : View) → (listed-reply (changed-from cs (cells-of kind ts) ds w given i b table v .0) .number ≡ 0 → ⊥) → changed-from cs (cells-of kind ts) ds w given i b table v .1 ≡ table
-    alone (O.From x y c) = cases (no-change ds w i b) (not (same-list given (listing-numbers cs (cells-of kind ts) ds w (record { x = x; y = y }) c)))
-      where
-        cases : (t u : Bool) → (listed-reply (refuse t Change table (refuse u Rows table (listed-from cs (cells-of kind ts) ds (wished b w i) table (O.From x y c))) .0) .number ≡ 0 → ⊥) → refuse t Change table (refuse u Rows table (listed-from cs (cells-of kind ts) ds (wished b w i) table (O.From x y c))) .1 ≡ table
-        cases true true h = refl
-        cases true false h = refl
-        cases false true h = refl
-        cases false false h = absurd (h refl)
+    alone (O.From x y p) =
+        kept-by-tests table (listing-row-count cs (cells-of kind ts) ds (wished b w i) (record { x = x; y = y }) p) (listing-crossings cs (cells-of kind ts) ds (wished b w i) (record { x = x; y = y }) p)
+        (sets table 0 (listing-numbers cs (cells-of kind ts) ds (wished b w i) (record { x = x; y = y }) p)) (underfoot cs (cells-of kind ts) ds i (record { x = x; y = y }) p) (no-room cs table) (no-change ds w i b)
+        (not (same-list given (listing-numbers cs (cells-of kind ts) ds w (record { x = x; y = y }) p)))
     alone (O.Refused r) = λ h. refl
 
 -- ---- several stands
@@ -265,10 +335,10 @@ list-stands-answers kind cs ts ds w stands n table replies =
     said k = told (listed-reply (stands-from (single kind cs ts ds w) (take n stands) table replies k .0))
 
     more : List Condition
-    more = when 7 (wrong-setting w (length ds)) 0 ∷ when 11 (no-room (corner-count cs) n (length table) (length replies)) 0 ∷ []
+    more = when 7 (wrong-setting w (length ds)) 0 ∷ when 11 (no-room-for-all (corner-count cs) n (length table) (length replies)) 0 ∷ []
 
     further : Plan → Checked
-    further p = refuse-if (wrong-setting w (length ds)) Setting (refuse-if (no-room (corner-count cs) n (length table) (length replies)) Room (C.Accepted p))
+    further p = refuse-if (wrong-setting w (length ds)) Setting (refuse-if (no-room-for-all (corner-count cs) n (length table) (length replies)) Room (C.Accepted p))
 
     by-frame : (rest : List Condition) (f : Bool) → (number (too-many f), place (too-many f)) ≡ lowest (when 1 (not f) 0 ∷ when 2 true 0 ∷ rest)
     by-frame rest true = refl
@@ -278,7 +348,7 @@ list-stands-answers kind cs ts ds w stands n table replies =
     by-many true = by-frame (drop 2 (plan-conditions kind cs ts ds) ++ more) (framed kind cs ts)
     by-many false =
         let counted : Plan = record { corners = corner-count cs; cells = cell-count (cells-of kind ts); doors = length ds } in
-        let short = no-room (corner-count cs) n (length table) (length replies) in
+        let short = no-room-for-all (corner-count cs) n (length table) (length replies) in
         by-plan (λ k. said (then-asked k further)) (λ r. refl) kind cs ts ds more
         (refused-or said (λ r. refl) (wrong-setting w (length ds)) Setting (refuse-if short Room (C.Accepted counted)) (when 11 short 0 ∷ [])
         (refused-or said (λ r. refl) short Room (C.Accepted counted) [] refl))

@@ -11,7 +11,8 @@ use lib.Seq.{sets}
 use lib.IntN.{ℤ, pos, negsuc}
 use lib.Signed.{_<ℤ_}
 use Rattle.plane.specs.Side.{Point as Vector, side}
-use Rattle.plane.specs.Cone.{minus, cross, Holds, Direction}
+use Rattle.plane.specs.Cone.{minus, cross, dot, Holds, Direction}
+use Rattle.plane.specs.Tests.{is-within}
 use Rattle.limits.specs.Limits.{triangles, sized}
 use Rattle.cells.specs.Least.{least}
 use Rattle.cells.specs.Lists.{corner-at, next, start, neighbour, answers, back, home}
@@ -24,18 +25,21 @@ use Rattle.cells.specs.Cut.{cell-of, cut-triangles, cut-polygons, cut, pairs, f
 use Rattle.setting.specs.Setting.{shut, with-shut, wrong-setting, bars, ends}
 use Rattle.number.specs.Whole.{whole}
 use Rattle.stand.specs.Spot.{whole-point, stood}
-use Rattle.stand.specs.Find.{against, located, not-left-of, right-of}
+use Rattle.stand.specs.Find.{against, strictly-within, within-free, located, not-left-of, right-of}
 use Rattle.stand.specs.declared.spot.Stand.{Stand}
 use Rattle.stand.specs.declared.spot.Stand.the-variants.{Point}
 use Rattle.stand.specs.declared.spot.Spot.the-variants.{At}
-use Rattle.stand.specs.declared.locate.Found.the-variants.{Cell}
+use Rattle.stand.specs.declared.locate.Footing.{Footing}
+use Rattle.stand.specs.declared.locate.Footing.the-variants.{Inside}
+use Rattle.stand.specs.declared.locate.Found.the-variants as F
 use Rattle.cells.proofs.Tables.{numbered}
-use Rattle.stand.proofs.Located.{found-cell-holds-the-stand}
-use Rattle.fan.specs.Sight.{Row, follow, numbers, row-count, crossings, fan, sides, from-inside}
+use Rattle.stand.proofs.Located.{found-place-holds-the-stand}
+use Rattle.fan.specs.Sight.{Row, follow, numbers, row-count, crossings, fan, sides, lines-around, unentered, lines-seen, seen-from}
 use Rattle.fan.specs.Walk.Among.{this, after as one-after}
+use Rattle.fan.specs.Walk.Begins.{in-the-cell}
 use Rattle.fan.specs.Walk.Walks.{ended, crossed}
 use Rattle.fan.specs.Written.{written, row-at}
-use Rattle.sight.specs.Listing.{sight-from, viewed, listing-numbers, listing-row-count, listing-crossings, listed, placed}
+use Rattle.sight.specs.Listing.{no-room, sight-from, viewed, listing-numbers, listing-row-count, listing-crossings, listed, placed}
 use Rattle.sight.specs.Reply.{listed-reply}
 use Rattle.sight.specs.declared.view.View.the-variants.{From}
 use Rattle.sight.specs.declared.list.Listed.{Listed}
@@ -47,10 +51,10 @@ use Rattle.runs.specs.Door.{is-door, crosses, side-seen, before, same-to-door, 
 use Rattle.runs.specs.Shutting.{last, joined, pieces, is-run, door-row, shut-piece, shut-rows}
 use Rattle.doors.specs.Change.{no-change}
 use Rattle.manopluea.specs.Cases.{six, three, old, untouched}
-use Rattle.manopluea.specs.Conditions.{Answers, list-conditions}
+use Rattle.manopluea.specs.Conditions.{Answers, list-conditions, door-underfoot}
 use Rattle.manopluea.specs.Demands.{MeetsNoCorner, HeldOnce, HoldsDirection, WalkEndsAt, Sighted, Demand-2, Demand-3}
 use Rattle.manopluea.specs.Hall.{corners-of-hall, cells-of-hall, doors-of-hall, stand-in-hall, hall-table, open-hall, shut-hall}
-use Rattle.manopluea.specs.ShutOut.{as-walls, other-sides-as-walls, rows-of, first-run-alone, only-the-first-run, in-front-of, joined-on-the-door, adjacent-runs-joined}
+use Rattle.manopluea.specs.ShutOut.{as-walls, first-line-alone, other-sides-as-walls, rows-of, first-run-alone, only-the-first-run, in-front-of, joined-on-the-door, adjacent-runs-joined}
 use Rattle.manopluea.proofs.Demands.{demand-1}
 
 -- ---- plan Q from (6, 3), under a setting
@@ -61,12 +65,12 @@ stand = Point six three
 abbrev q : Vector
 q = record { x = pos 6; y = pos 3 }
 
-view-open : viewed triangles corners-of-Q cells-of-Q doors-of-Q 0 stand 12 ≡ From (pos 6) (pos 3) 0
-unfolding ofBits side sized least home next start neighbour answers back cell-of cut-triangles cut-polygons cut pairs faces-of firsts-from tables cells-of framed outside wrong-corner some-face wrong-for-side missing-corner wrong-side wrong-cell wrong-neighbour names wrong-door checked-cells checked wrong-setting whole whole-point stood not-left-of right-of against located viewed
+view-open : viewed triangles corners-of-Q cells-of-Q doors-of-Q 0 stand ≡ From (pos 6) (pos 3) (Inside 0)
+unfolding ofBits side sized least home next start neighbour answers back cell-of cut-triangles cut-polygons cut pairs faces-of firsts-from tables cells-of framed outside wrong-corner some-face wrong-for-side missing-corner wrong-side wrong-cell wrong-neighbour names wrong-door checked-cells checked wrong-setting whole whole-point stood not-left-of right-of against is-within strictly-within within-free minus dot located viewed
 view-open = refl
 
-view-shut : viewed triangles corners-of-Q cells-of-Q doors-of-Q 1 stand 12 ≡ From (pos 6) (pos 3) 0
-unfolding ofBits side sized least home next start neighbour answers back cell-of cut-triangles cut-polygons cut pairs faces-of firsts-from tables cells-of framed outside wrong-corner some-face wrong-for-side missing-corner wrong-side wrong-cell wrong-neighbour names wrong-door checked-cells checked wrong-setting whole whole-point stood not-left-of right-of against located viewed
+view-shut : viewed triangles corners-of-Q cells-of-Q doors-of-Q 1 stand ≡ From (pos 6) (pos 3) (Inside 0)
+unfolding ofBits side sized least home next start neighbour answers back cell-of cut-triangles cut-polygons cut pairs faces-of firsts-from tables cells-of framed outside wrong-corner some-face wrong-for-side missing-corner wrong-side wrong-cell wrong-neighbour names wrong-door checked-cells checked wrong-setting whole whole-point stood not-left-of right-of against is-within strictly-within within-free minus dot located viewed
 view-shut = refl
 
 -- the direction (−3, 5) meets no corner
@@ -76,7 +80,7 @@ d = record { x = negsuc 2; y = pos 5 }
 d-is-a-direction : Direction d
 d-is-a-direction = record { not-both-zero = λ e f. let z : _≡_ {A = ℕ} 0 1 = cc in omega arith }
 
-d-meets-no-corner : (w : ℕ) → MeetsNoCorner corners-of-Q (cells-of triangles cells-of-Q) doors-of-Q w q 0 d
+d-meets-no-corner : (w : ℕ) → MeetsNoCorner corners-of-Q (cells-of triangles cells-of-Q) doors-of-Q w q (Inside 0) d
 unfolding cross minus
 d-meets-no-corner w zero h m = let e = m .along in let z : _≡_ {A = ℕ} 0 1 = cc in omega arith
 d-meets-no-corner w (suc zero) h m = let e = m .along in let z : _≡_ {A = ℕ} 0 1 = cc in omega arith
@@ -93,16 +97,16 @@ leaves-by-4 : Holds (minus (record { x = pos 10; y = pos 10 }) q) (minus (record
 unfolding cross minus
 leaves-by-4 = record { right = record { lt = tt }; left = record { lt = tt } }
 
-walk-while-open : WalkEndsAt corners-of-Q (cells-of triangles cells-of-Q) doors-of-Q 0 q 0 d 4
+walk-while-open : WalkEndsAt corners-of-Q (cells-of triangles cells-of-Q) doors-of-Q 0 q (Inside 0) d 4
 unfolding start next home ends bars names shut least neighbour answers back cell-of cut-triangles cut pairs faces-of firsts-from tables cells-of
-walk-while-open = record { side = 2; of-the-cell = one-after (one-after this); leaves = leaves-by-2; walks = crossed refl this leaves-by-4 (ended refl) }
+walk-while-open = record { side = 2; begins = in-the-cell (one-after (one-after this)); leaves = leaves-by-2; walks = crossed refl this leaves-by-4 (ended refl) }
 
-walk-once-shut : WalkEndsAt corners-of-Q (cells-of triangles cells-of-Q) doors-of-Q 1 q 0 d 2
+walk-once-shut : WalkEndsAt corners-of-Q (cells-of triangles cells-of-Q) doors-of-Q 1 q (Inside 0) d 2
 unfolding start next home ends bars names shut least neighbour answers back cell-of cut-triangles cut pairs faces-of firsts-from tables cells-of
-walk-once-shut = record { side = 2; of-the-cell = one-after (one-after this); leaves = leaves-by-2; walks = ended refl }
+walk-once-shut = record { side = 2; begins = in-the-cell (one-after (one-after this)); leaves = leaves-by-2; walks = ended refl }
 
 -- what demand 2 asks at the stand's point and cell
-module _ {kind : ℕ} {cs : List ℤ} {ts ds : List ℕ} {w : ℕ} {s : Stand} {n k : ℕ} {table : List ℕ} (seen : Sighted kind cs ts ds w s n k table) {x y : ℤ} {c : ℕ} (at : stood cs s ≡ At x y) (in-cell : located cs (cells-of kind ts) (record { x = x; y = y }) ≡ Cell c) where
+module _ {kind : ℕ} {cs : List ℤ} {ts ds : List ℕ} {w : ℕ} {s : Stand} {n k : ℕ} {table : List ℕ} (seen : Sighted kind cs ts ds w s n k table) {x y : ℤ} {p : Footing} (at : stood cs s ≡ At x y) (there : located cs (cells-of kind ts) ds w (record { x = x; y = y }) ≡ F.At p) where
   same-x : seen .x ≡ x
   same-x = let e = seen .the-stand in let f : At (seen .x) (seen .y) ≡ At x y = sym e ∙ at in cc
 
@@ -112,25 +116,25 @@ module _ {kind : ℕ} {cs : List ℤ} {ts ds : List ℕ} {w : ℕ} {s : Stand} {
   same-point : _≡_ {A = Vector} (record { x = seen .x; y = seen .y }) (record { x = x; y = y })
   same-point = ap₂ (λ (u v : ℤ). record { x = u; y = v }) same-x same-y
 
-  same-cell : seen .cell ≡ c
-  same-cell =
-      let f : Cell (seen .cell) ≡ Cell c = sym (seen .its-cell) ∙ ap (located cs (cells-of kind ts)) same-point ∙ in-cell in
+  same-place : seen .place ≡ p
+  same-place =
+      let f : F.At (seen .place) ≡ F.At p = sym (seen .its-place) ∙ ap (located cs (cells-of kind ts) ds w) same-point ∙ there in
       cc
 
-  held-there : (d : Vector) → Direction d → MeetsNoCorner cs (cells-of kind ts) ds w (record { x = x; y = y }) c d → HeldOnce cs (cells-of kind ts) ds w (record { x = x; y = y }) c n table d
-  held-there d = subst (λ (p : Vector). Direction d → MeetsNoCorner cs (cells-of kind ts) ds w p c d → HeldOnce cs (cells-of kind ts) ds w p c n table d) same-point (subst (λ (c : ℕ). Direction d → MeetsNoCorner cs (cells-of kind ts) ds w (record { x = seen .x; y = seen .y }) c d → HeldOnce cs (cells-of kind ts) ds w (record { x = seen .x; y = seen .y }) c n table d) same-cell (seen .held d))
+  held-there : (d : Vector) → Direction d → MeetsNoCorner cs (cells-of kind ts) ds w (record { x = x; y = y }) p d → HeldOnce cs (cells-of kind ts) ds w (record { x = x; y = y }) p n table d
+  held-there d = subst (λ (v : Vector). Direction d → MeetsNoCorner cs (cells-of kind ts) ds w v p d → HeldOnce cs (cells-of kind ts) ds w v p n table d) same-point (subst (λ (f : Footing). Direction d → MeetsNoCorner cs (cells-of kind ts) ds w (record { x = seen .x; y = seen .y }) f d → HeldOnce cs (cells-of kind ts) ds w (record { x = seen .x; y = seen .y }) f n table d) same-place (seen .held d))
 
 -- so the row that holds the direction (−3, 5) has the face where its walk ends
-module _ {w : ℕ} (view : viewed triangles corners-of-Q cells-of-Q doors-of-Q w stand 12 ≡ From (pos 6) (pos 3) 0) {f : ℕ} (ends-there : WalkEndsAt corners-of-Q (cells-of triangles cells-of-Q) doors-of-Q w q 0 d f) {n k : ℕ} {after : List ℕ} {before : List ℕ} (demand : Demand-2 triangles corners-of-Q cells-of-Q doors-of-Q w stand before (Rows n k) after) where
-  held-d : HeldOnce corners-of-Q (cells-of triangles cells-of-Q) doors-of-Q w q 0 n after d
+module _ {w : ℕ} (view : viewed triangles corners-of-Q cells-of-Q doors-of-Q w stand ≡ From (pos 6) (pos 3) (Inside 0)) {f : ℕ} (ends-there : WalkEndsAt corners-of-Q (cells-of triangles cells-of-Q) doors-of-Q w q (Inside 0) d f) {n k : ℕ} {after : List ℕ} {before : List ℕ} (demand : Demand-2 triangles corners-of-Q cells-of-Q doors-of-Q w stand before (Rows n k) after) where
+  held-d : HeldOnce corners-of-Q (cells-of triangles cells-of-Q) doors-of-Q w q (Inside 0) n after d
   held-d =
-      let says = view-says triangles corners-of-Q cells-of-Q doors-of-Q w stand 12 view in
-      held-there (demand .sighted n k refl) (says .stand-is) (says .stand-cell) d d-is-a-direction (d-meets-no-corner w)
+      let says = view-says triangles corners-of-Q cells-of-Q doors-of-Q w stand view in
+      held-there (demand .sighted n k refl) (says .spotted .stand-is) (says .spotted .stand-place) d d-is-a-direction (d-meets-no-corner w)
 
   face-of-d : held-d .row .face ≡ f
   face-of-d =
-      let says = view-says triangles corners-of-Q cells-of-Q doors-of-Q w stand 12 view in
-      walk-is-unique (says .sound) w q 0 (found-cell-holds-the-stand corners-of-Q (numbered triangles cells-of-Q) q (says .stand-cell)) d (held-d .met) ends-there
+      let says = view-says triangles corners-of-Q cells-of-Q doors-of-Q w stand view in
+      walk-is-unique (says .sound) w q (Inside 0) (found-place-holds-the-stand corners-of-Q (numbered triangles cells-of-Q) doors-of-Q w q (says .spotted .stand-place)) d (held-d .met) ends-there
 
 -- ---- one that always refuses: the exact conditions of demand 1
 
@@ -151,7 +155,7 @@ no-refusal-is-0 Untrue e = omega arith
 
 -- no condition applies to plan Q, so whatever is refused there breaks demand 1
 listed-open : listed triangles corners-of-Q cells-of-Q doors-of-Q 0 stand untouched .0 ≡ Rows 4 1
-unfolding ofBits side sized least home next start neighbour answers back cell-of cut-triangles cut-polygons cut pairs faces-of firsts-from tables cells-of framed outside wrong-corner some-face wrong-for-side missing-corner wrong-side wrong-cell wrong-neighbour names wrong-door checked-cells checked shut wrong-setting bars ends whole whole-point stood not-left-of right-of against located fan follow sides from-inside numbers row-count crossings placed viewed listing-numbers listing-row-count listing-crossings listed
+unfolding ofBits side sized least home next start neighbour answers back cell-of cut-triangles cut-polygons cut pairs faces-of firsts-from tables cells-of framed outside wrong-corner some-face wrong-for-side missing-corner wrong-side wrong-cell wrong-neighbour names wrong-door checked-cells checked shut wrong-setting bars ends whole whole-point stood not-left-of right-of against is-within strictly-within within-free minus dot located fan follow sides lines-around unentered lines-seen seen-from numbers row-count crossings placed viewed no-room listing-numbers listing-row-count listing-crossings listed
 listed-open = refl
 
 pub always-refused-breaks-demand-1 : (r : Refusal) (after : List ℕ) {numbers : List ℕ} → Answers numbers (list-conditions triangles corners-of-Q cells-of-Q doors-of-Q 0 stand 12) (refused r) untouched after → ⊥
@@ -179,7 +183,7 @@ not-right-of-d h = h .lt
 pub nothing-written-breaks-demand-2 : (n k : ℕ) → Demand-2 triangles corners-of-Q cells-of-Q doors-of-Q 0 stand untouched (Rows n k) untouched → ⊥
 nothing-written-breaks-demand-2 n k demand =
     let one = held-d view-open walk-while-open demand .one in
-    let holds = subst (HoldsDirection corners-of-Q (cells-of triangles cells-of-Q) doors-of-Q 0 q 0 d) (sym (one .stands)) (one .has) in
+    let holds = subst (HoldsDirection corners-of-Q (cells-of triangles cells-of-Q) doors-of-Q 0 q (Inside 0) d) (sym (one .stands)) (one .has) in
     not-right-of-d (subst (λ (v : Vector). pos 0 <ℤ cross v d) (seen-in-the-old-table (one .place)) (holds .right))
 
 -- the same rows always: with the door of Q open and shut
@@ -187,7 +191,7 @@ pub the-same-rows-always-break-demand-2 : (n k : ℕ) (before before′ after : 
 the-same-rows-always-break-demand-2 n k before before′ after as-open as-shut =
     let one = held-d view-open walk-while-open as-open in
     let two = held-d view-shut walk-once-shut as-shut in
-    let here : two .one .place ≡ one .one .place = one .one .no-other (two .one .place) (two .one .within) (subst (HoldsDirection corners-of-Q (cells-of triangles cells-of-Q) doors-of-Q 0 q 0 d) (sym (two .one .stands)) (two .one .has)) in
+    let here : two .one .place ≡ one .one .place = one .one .no-other (two .one .place) (two .one .within) (subst (HoldsDirection corners-of-Q (cells-of triangles cells-of-Q) doors-of-Q 0 q (Inside 0) d) (sym (two .one .stands)) (two .one .has)) in
     let same : two .row ≡ one .row = sym (two .one .stands) ∙ ap (row-at after) here ∙ one .one .stands in
     let four = face-of-d view-open walk-while-open as-open in
     let the-door = face-of-d view-shut walk-once-shut as-shut in
@@ -196,7 +200,7 @@ the-same-rows-always-break-demand-2 n k before before′ after as-open as-shut =
 
 -- all sides of the stand's cell but side 0 as walls: the direction (−3, 5) is on the row of face 2, while its walk ends at face 4
 walls-listed : other-sides-as-walls triangles corners-of-Q cells-of-Q doors-of-Q 0 stand untouched ≡ (Rows 3 0, 0 ∷ 0 ∷ 1 ∷ 1 ∷ 1 ∷ 2 ∷ 2 ∷ 2 ∷ 0 ∷ old ∷ old ∷ old ∷ [])
-unfolding ofBits side sized least home next start neighbour answers back cell-of cut-triangles cut-polygons cut pairs faces-of firsts-from tables cells-of framed outside wrong-corner some-face wrong-for-side missing-corner wrong-side wrong-cell wrong-neighbour names wrong-door checked-cells checked shut wrong-setting bars ends whole whole-point stood not-left-of right-of against located fan follow sides from-inside numbers row-count crossings placed viewed as-walls
+unfolding ofBits side sized least home next start neighbour answers back cell-of cut-triangles cut-polygons cut pairs faces-of firsts-from tables cells-of framed outside wrong-corner some-face wrong-for-side missing-corner wrong-side wrong-cell wrong-neighbour names wrong-door checked-cells checked shut wrong-setting bars ends whole whole-point stood not-left-of right-of against is-within strictly-within within-free minus dot located fan follow sides lines-around unentered lines-seen seen-from numbers row-count crossings placed viewed no-room as-walls first-line-alone
 walls-listed = refl
 
 no-row-of-face-4 : (i : ℕ) → i < 3 → row-at (0 ∷ 0 ∷ 1 ∷ 1 ∷ 1 ∷ 2 ∷ 2 ∷ 2 ∷ 0 ∷ old ∷ old ∷ old ∷ []) i .face ≡ 4 → ⊥
@@ -212,20 +216,24 @@ other-sides-as-walls-break-demand-2 demand =
     no-row-of-face-4 (one .place) (one .within) (ap (λ (r : Row). r .face) (one .stands) ∙ face-of-d view-open walk-while-open asked)
 
 -- crossings other than the expansion's, on any plan
-pub invented-crossings-break-demand-2 : (kind : ℕ) (cs : List ℤ) (ts ds : List ℕ) (w : ℕ) (s : Stand) (before after : List ℕ) (n k : ℕ) → (demand : Demand-2 kind cs ts ds w s before (Rows n k) after) → {x y : ℤ} {c : ℕ} → stood cs s ≡ At x y → located cs (cells-of kind ts) (record { x = x; y = y }) ≡ Cell c → (k ≡ listing-crossings cs (cells-of kind ts) ds w (record { x = x; y = y }) c → ⊥) → ⊥
-invented-crossings-break-demand-2 kind cs ts ds w s before after n k demand at in-cell other =
+pub invented-crossings-break-demand-2 : (kind : ℕ) (cs : List ℤ) (ts ds : List ℕ) (w : ℕ) (s : Stand) (before after : List ℕ) (n k : ℕ) → (demand : Demand-2 kind cs ts ds w s before (Rows n k) after) → {x y : ℤ} {p : Footing} → stood cs s ≡ At x y → located cs (cells-of kind ts) ds w (record { x = x; y = y }) ≡ F.At p → (k ≡ listing-crossings cs (cells-of kind ts) ds w (record { x = x; y = y }) p → ⊥) → ⊥
+invented-crossings-break-demand-2 kind cs ts ds w s before after n k demand at there other =
     let seen = demand .sighted n k refl in
-    other (seen .crossed ∙ ap₂ (λ (p : Vector) (c : ℕ). listing-crossings cs (cells-of kind ts) ds w p c) (same-point seen at in-cell) (same-cell seen at in-cell))
+    other (seen .crossed ∙ ap₂ (λ (v : Vector) (f : Footing). listing-crossings cs (cells-of kind ts) ds w v f) (same-point seen at there) (same-place seen at there))
 
 -- ---- demand 3, in the hall: its door is shut, from the true list
 
 listed-while-open : listed triangles corners-of-hall cells-of-hall doors-of-hall 0 stand-in-hall hall-table ≡ (Rows 6 6, open-hall)
-unfolding ofBits side sized least home next start neighbour answers back cell-of cut-triangles cut-polygons cut pairs faces-of firsts-from tables cells-of framed outside wrong-corner some-face wrong-for-side missing-corner wrong-side wrong-cell wrong-neighbour names wrong-door checked-cells checked shut wrong-setting bars ends whole whole-point stood not-left-of right-of against located fan follow sides from-inside numbers row-count crossings placed viewed listing-numbers listing-row-count listing-crossings listed
+unfolding ofBits side sized least home next start neighbour answers back cell-of cut-triangles cut-polygons cut pairs faces-of firsts-from tables cells-of framed outside wrong-corner some-face wrong-for-side missing-corner wrong-side wrong-cell wrong-neighbour names wrong-door checked-cells checked shut wrong-setting bars ends whole whole-point stood not-left-of right-of against is-within strictly-within within-free minus dot located fan follow sides lines-around unentered lines-seen seen-from numbers row-count crossings placed viewed no-room listing-numbers listing-row-count listing-crossings listed
 listed-while-open = refl
 
 listed-once-shut : listed triangles corners-of-hall cells-of-hall doors-of-hall (with-shut 0 0) stand-in-hall hall-table ≡ (Rows 5 4, sets hall-table 0 shut-hall)
-unfolding ofBits side sized least home next start neighbour answers back cell-of cut-triangles cut-polygons cut pairs faces-of firsts-from tables cells-of framed outside wrong-corner some-face wrong-for-side missing-corner wrong-side wrong-cell wrong-neighbour names wrong-door checked-cells checked shut with-shut wrong-setting bars ends whole whole-point stood not-left-of right-of against located fan follow sides from-inside numbers row-count crossings placed viewed listing-numbers listing-row-count listing-crossings listed
+unfolding ofBits side sized least home next start neighbour answers back cell-of cut-triangles cut-polygons cut pairs faces-of firsts-from tables cells-of framed outside wrong-corner some-face wrong-for-side missing-corner wrong-side wrong-cell wrong-neighbour names wrong-door checked-cells checked shut with-shut wrong-setting bars ends whole whole-point stood not-left-of right-of against is-within strictly-within within-free minus dot located fan follow sides lines-around unentered lines-seen seen-from numbers row-count crossings placed viewed no-room listing-numbers listing-row-count listing-crossings listed
 listed-once-shut = refl
+
+not-underfoot : door-underfoot corners-of-hall (cells-of triangles cells-of-hall) doors-of-hall 0 0 (stood corners-of-hall stand-in-hall) ≡ false
+unfolding ofBits side sized least home next start neighbour answers back cell-of cut-triangles cut-polygons cut pairs faces-of firsts-from tables cells-of framed outside wrong-corner some-face wrong-for-side missing-corner wrong-side wrong-cell wrong-neighbour names wrong-door checked-cells checked wrong-setting whole whole-point stood not-left-of right-of against is-within strictly-within within-free minus dot located
+not-underfoot = refl
 
 may-shut : no-change doors-of-hall 0 0 true ≡ false
 unfolding no-change shut
@@ -236,7 +244,7 @@ abbrev Demanded : Listed → List ℕ → Type 0
 Demanded answer after = Demand-3 triangles corners-of-hall cells-of-hall doors-of-hall 0 stand-in-hall open-hall 0 true hall-table answer after
 
 shut-from-the-true-list : {answer : Listed} {after : List ℕ} → Demanded answer after → _≡_ {A = Listed × List ℕ} (answer, after) (Rows 5 4, sets hall-table 0 shut-hall)
-shut-from-the-true-list demand = demand .from-the-true-list 6 6 open-hall listed-while-open may-shut refl ∙ listed-once-shut
+shut-from-the-true-list demand = demand .from-the-true-list 6 6 open-hall listed-while-open not-underfoot may-shut refl ∙ listed-once-shut
 
 -- at some place another number
 other-table : (place : ℕ) {answer : Listed} {after : List ℕ} → Demanded answer after → (getD after place 0 ≡ getD (sets hall-table 0 shut-hall) place 0 → ⊥) → ⊥
@@ -247,19 +255,19 @@ pub a-copied-list-breaks-demand-3 : (answer : Listed) → Demanded answer (sets 
 a-copied-list-breaks-demand-3 answer demand = other-table 6 demand (λ e. omega arith)
 
 -- only the first run treated
-first-run-numbers : row-numbers (only-the-first-run 10 12 (routed (sight-from corners-of-hall (cells-of triangles cells-of-hall) doors-of-hall 0 (record { x = pos 0; y = pos 5 }) 0))) ≡ 0 ∷ 0 ∷ 1 ∷ 3 ∷ 1 ∷ 3 ∷ 10 ∷ 3 ∷ 2 ∷ 14 ∷ 2 ∷ 4 ∷ 8 ∷ 4 ∷ 0 ∷ []
-unfolding routed row-numbers written fan follow sides from-inside ends bars names shut least back answers neighbour start next home cell-of cut-triangles cut pairs faces-of firsts-from tables cells-of placed side is-door crosses side-seen before same-to-door last joined pieces is-run door-row rows-of first-run-alone
+first-run-numbers : row-numbers (only-the-first-run 10 12 (routed (sight-from corners-of-hall (cells-of triangles cells-of-hall) doors-of-hall 0 (record { x = pos 0; y = pos 5 }) (Inside 0)))) ≡ 0 ∷ 0 ∷ 1 ∷ 3 ∷ 1 ∷ 3 ∷ 10 ∷ 3 ∷ 2 ∷ 14 ∷ 2 ∷ 4 ∷ 8 ∷ 4 ∷ 0 ∷ []
+unfolding routed row-numbers written fan follow sides lines-around unentered lines-seen seen-from ends bars names shut least back answers neighbour start next home cell-of cut-triangles cut pairs faces-of firsts-from tables cells-of placed side is-door crosses side-seen before same-to-door last joined pieces is-run door-row rows-of first-run-alone
 first-run-numbers = refl
 
-pub only-the-first-run-breaks-demand-3 : (answer : Listed) → Demanded answer (sets hall-table 0 (row-numbers (only-the-first-run 10 12 (routed (sight-from corners-of-hall (cells-of triangles cells-of-hall) doors-of-hall 0 (record { x = pos 0; y = pos 5 }) 0))))) → ⊥
+pub only-the-first-run-breaks-demand-3 : (answer : Listed) → Demanded answer (sets hall-table 0 (row-numbers (only-the-first-run 10 12 (routed (sight-from corners-of-hall (cells-of triangles cells-of-hall) doors-of-hall 0 (record { x = pos 0; y = pos 5 }) (Inside 0)))))) → ⊥
 only-the-first-run-breaks-demand-3 answer demand = other-table 9 demand (λ e. let f = ap (λ (l : List ℕ). getD (sets hall-table 0 l) 9 0) first-run-numbers in omega arith)
 
 -- adjacent runs joined
-joined-numbers : row-numbers (adjacent-runs-joined 10 12 (routed (sight-from corners-of-hall (cells-of triangles cells-of-hall) doors-of-hall 0 (record { x = pos 0; y = pos 5 }) 0))) ≡ 0 ∷ 0 ∷ 1 ∷ 3 ∷ 1 ∷ 3 ∷ 10 ∷ 3 ∷ 4 ∷ 8 ∷ 4 ∷ 0 ∷ []
-unfolding routed row-numbers written fan follow sides from-inside ends bars names shut least back answers neighbour start next home cell-of cut-triangles cut pairs faces-of firsts-from tables cells-of placed side is-door crosses side-seen before same-to-door on-door last joined pieces is-run door-row shut-piece shut-rows in-front-of joined-on-the-door
+joined-numbers : row-numbers (adjacent-runs-joined 10 12 (routed (sight-from corners-of-hall (cells-of triangles cells-of-hall) doors-of-hall 0 (record { x = pos 0; y = pos 5 }) (Inside 0)))) ≡ 0 ∷ 0 ∷ 1 ∷ 3 ∷ 1 ∷ 3 ∷ 10 ∷ 3 ∷ 4 ∷ 8 ∷ 4 ∷ 0 ∷ []
+unfolding routed row-numbers written fan follow sides lines-around unentered lines-seen seen-from ends bars names shut least back answers neighbour start next home cell-of cut-triangles cut pairs faces-of firsts-from tables cells-of placed side is-door crosses side-seen before same-to-door on-door last joined pieces is-run door-row shut-piece shut-rows in-front-of joined-on-the-door
 joined-numbers = refl
 
-pub joined-runs-break-demand-3 : (answer : Listed) → Demanded answer (sets hall-table 0 (row-numbers (adjacent-runs-joined 10 12 (routed (sight-from corners-of-hall (cells-of triangles cells-of-hall) doors-of-hall 0 (record { x = pos 0; y = pos 5 }) 0))))) → ⊥
+pub joined-runs-break-demand-3 : (answer : Listed) → Demanded answer (sets hall-table 0 (row-numbers (adjacent-runs-joined 10 12 (routed (sight-from corners-of-hall (cells-of triangles cells-of-hall) doors-of-hall 0 (record { x = pos 0; y = pos 5 }) (Inside 0)))))) → ⊥
 joined-runs-break-demand-3 answer demand = other-table 8 demand (λ e. let f = ap (λ (l : List ℕ). getD (sets hall-table 0 l) 8 0) joined-numbers in omega arith)
 
 -- invented crossings

@@ -19,7 +19,7 @@ use Rattle.setting.specs.Setting.{wrong-setting}
 use Rattle.stand.specs.Spot.{stood}
 use Rattle.stand.specs.declared.spot.Stand.{Stand}
 use Rattle.fan.specs.Sight.{Row}
-use Rattle.sight.specs.Listing.{listed-from, listed}
+use Rattle.sight.specs.Listing.{listed}
 use Rattle.sight.specs.Reply.{listed-reply}
 use Rattle.fan.specs.Written.{row-at, OneRow}
 use Rattle.sight.specs.declared.list.Listed.{Listed}
@@ -32,7 +32,7 @@ use Rattle.morning.proofs.Together.{reply-is-the-single-one, rows-are-the-singl
 use Rattle.manopluea.specs.Conditions.{when, lowest, stand-conditions}
 use Rattle.manopluea.specs.Demands.{Sighted}
 use Rattle.manopluea.specs.Together.{SingleCalls}
-use Rattle.manopluea.proofs.Replies.{told, last-does-not-apply, by-stand}
+use Rattle.manopluea.proofs.Replies.{last-does-not-apply, list-by-stand}
 use Rattle.manopluea.proofs.Demands.{demand-2}
 
 -- ---- what demand 2 asks of n rows it asks of the first 3·n numbers only
@@ -64,8 +64,8 @@ module _ (n : ℕ) (a b : List ℕ) (same : take (3 * n) a ≡ take (3 * n) b) w
         x = seen .x;
         y = seen .y;
         the-stand = seen .the-stand;
-        cell = seen .cell;
-        its-cell = seen .its-cell;
+        place = seen .place;
+        its-place = seen .its-place;
         expanded = sym same ∙ seen .expanded;
         counted = seen .counted;
         crossed = seen .crossed;
@@ -76,14 +76,14 @@ module _ (n : ℕ) (a b : List ℕ) (same : take (3 * n) a ≡ take (3 * n) b) w
 
 -- ---- a stand's own reply, by its condition
 
-stand-by-condition : (kind : ℕ) (cs : List ℤ) (ts ds : List ℕ) (w : ℕ) {p : Plan} → checked kind cs ts ds ≡ C.Accepted p → wrong-setting w (length ds) ≡ false → (s : Stand) (lent : List ℕ) → 3 * corner-count cs ≤ length lent → listed-reply (listed kind cs ts ds w s lent .0) .number ≡ lowest (stand-conditions cs (cells-of kind ts) (stood cs s)) .0
+stand-by-condition : (kind : ℕ) (cs : List ℤ) (ts ds : List ℕ) (w : ℕ) {p : Plan} → checked kind cs ts ds ≡ C.Accepted p → wrong-setting w (length ds) ≡ false → (s : Stand) (lent : List ℕ) → 3 * corner-count cs ≤ length lent → listed-reply (listed kind cs ts ds w s lent .0) .number ≡ lowest (stand-conditions cs (cells-of kind ts) ds w (stood cs s)) .0
 unfolding lowest
 stand-by-condition kind cs ts ds w accepted right s lent room =
     ap (λ (l : Listed × List ℕ). listed-reply (l .0) .number) (listed-by-spot kind cs ts ds w accepted right s lent)
     ∙ ap (λ (t : ℕ × ℕ). t .0)
-    (by-stand kind cs ts ds w s (length lent) (λ v. told (listed-reply (listed-from cs (cells-of kind ts) ds w lent v .0))) (λ r. refl) (λ spot. []) (λ x y. refl) (stood cs s)
-    ∙ ap (λ (b : Bool). lowest (stand-conditions cs (cells-of kind ts) (stood cs s) ++ (when 11 b 0 ∷ []))) (le-ltb _ _ room)
-    ∙ last-does-not-apply (stand-conditions cs (cells-of kind ts) (stood cs s)) 11 0)
+    (list-by-stand cs (cells-of kind ts) ds w lent (stood cs s)
+    ∙ ap (λ (b : Bool). lowest (stand-conditions cs (cells-of kind ts) ds w (stood cs s) ++ (when 11 b 0 ∷ []))) (le-ltb _ _ room)
+    ∙ last-does-not-apply (stand-conditions cs (cells-of kind ts) ds w (stood cs s)) 11 0)
 
 -- the first of three numbers that stand from a place on
 first-of-three : (l : List ℕ) (a : ℕ) {x y z : ℕ} → take 3 (drop a l) ≡ x ∷ y ∷ z ∷ [] → getD l a 0 ≡ x

@@ -28,8 +28,8 @@ read-replies file corners cells doors = in-numbers read-numbers (File.read file 
 abbrev pub write-replies : ℕ → List ℤ → List ℕ → List ℕ → List ℕ → Reply × List ℕ
 write-replies kind cs ts ds file = in-numbers checked-reply (File.written kind cs ts ds file)
 
-abbrev pub find-replies : ℕ → List ℤ → List ℕ → List ℕ → Stand → Reply
-find-replies kind cs ts ds s = found-reply (found kind cs ts ds s)
+abbrev pub find-replies : ℕ → List ℤ → List ℕ → List ℕ → ℕ → Stand → Reply
+find-replies kind cs ts ds w s = found-reply (found kind cs ts ds w s)
 
 abbrev pub list-replies : ℕ → List ℤ → List ℕ → List ℕ → ℕ → Stand → List ℕ → Reply × List ℕ
 list-replies kind cs ts ds w s table = in-numbers listed-reply (listed kind cs ts ds w s table)

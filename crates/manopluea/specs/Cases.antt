@@ -70,7 +70,7 @@ on-Q+ px py r t = record { corners = corners-of-Q+ px py; cells = cells-of-Q+; s
 abbrev pub untouched : List ℕ
 untouched = replicate 12 old
 
--- cases a to l in their order
+-- cases a to l in their order; case h stands in the doorway (document 02, A4)
 abbrev pub cases : List Case
 cases =
     on-Q 0 six three (Rows 4 1) (0 ∷ 0 ∷ 1 ∷ 1 ∷ 1 ∷ 2 ∷ 4 ∷ 2 ∷ 3 ∷ 5 ∷ 3 ∷ 0 ∷ [])
@@ -80,12 +80,16 @@ cases =
     ∷ on-Q+ (negsuc 5) (pos 17) (Rows 4 2) (0 ∷ 0 ∷ 1 ∷ 1 ∷ 1 ∷ 2 ∷ 7 ∷ 2 ∷ 3 ∷ 5 ∷ 3 ∷ 0 ∷ old ∷ old ∷ old ∷ [])
     ∷ on-Q+ (pos 14) (pos 17) (Rows 4 2) (0 ∷ 0 ∷ 1 ∷ 1 ∷ 1 ∷ 2 ∷ 8 ∷ 2 ∷ 3 ∷ 5 ∷ 3 ∷ 0 ∷ old ∷ old ∷ old ∷ [])
     ∷ on-Q+ (pos 30) (pos 11) (Rows 4 2) (0 ∷ 0 ∷ 1 ∷ 1 ∷ 1 ∷ 2 ∷ 8 ∷ 2 ∷ 3 ∷ 5 ∷ 3 ∷ 0 ∷ old ∷ old ∷ old ∷ [])
-    ∷ on-Q 0 five five (Refused Line) untouched
+    ∷ on-Q 0 five five (Rows 4 0) (0 ∷ 0 ∷ 1 ∷ 1 ∷ 1 ∷ 2 ∷ 4 ∷ 2 ∷ 3 ∷ 5 ∷ 3 ∷ 0 ∷ [])
     ∷ on-Q 0 eleven five (Refused Outside) untouched
     ∷ on-Q 0 six-and-a-half three (Refused NoStand) untouched
     ∷ on-Q 0 six minus-zero (Refused Line) untouched
     ∷ on-Q 2 six three (Refused Setting) untouched
     ∷ []
+
+-- the stand of case h in the doorway while its door is shut
+abbrev pub in-the-shut-doorway : Case
+in-the-shut-doorway = on-Q 1 five five (Refused Line) untouched
 
 -- what the listing's definition says of a case, and what document 01 says
 abbrev pub computed : Case → Listed × List ℕ

@@ -5,7 +5,7 @@ use mathlib.Core.List.{List, [], _∷_, _++_, map}
 use mathlib.Core.Path.{_≡_}
 use Prim.Native.Nat.{ℕ, _*_}
 use lib.Dec.{ltb, leb}
-use lib.ListN.{length}
+use lib.ListN.{length, getD}
 use lib.IntN.{ℤ}
 use Rattle.plane.specs.Side.{Point}
 use Rattle.limits.specs.Limits.{most-stands, sized}
@@ -18,7 +18,9 @@ use Rattle.records.specs.Record.{framed as framed-records}
 use Rattle.planfile.specs.File.{file-of, kind-in, corners-in, cells-in, doors-in}
 use Rattle.planfile.specs.Calls.{has-room}
 use Rattle.stand.specs.Spot.{stood}
-use Rattle.stand.specs.Find.{first-inside, first-border}
+use Rattle.stand.specs.Find.{strictly-within, first-inside, first-within, first-border, side-at}
+use Rattle.stand.specs.declared.locate.Footing.{Footing}
+use Rattle.stand.specs.declared.locate.Footing.the-variants.{Inside}
 use Rattle.stand.specs.declared.spot.Stand.{Stand}
 use Rattle.stand.specs.declared.spot.Spot.{Spot}
 use Rattle.stand.specs.declared.spot.Spot.the-variants.{At, Refused}
@@ -94,56 +96,86 @@ abbrev pub not-accepted : Spot → Bool
 not-accepted (At x y) = false
 not-accepted Refused = true
 
--- strictly inside some cell; on some cell's border
+-- strictly inside some cell; strictly within some free side; on some cell's border
 abbrev pub inside-some : List ℤ → Cells → Point → Bool
 inside-some cs T q = ltb (first-inside cs T q) (cell-count T)
+
+abbrev pub within-some : List ℤ → Cells → List ℕ → ℕ → Point → Bool
+within-some cs T ds w q = ltb (first-within cs T ds w q) (face-count T)
 
 abbrev pub on-some-border : List ℤ → Cells → Point → Bool
 on-some-border cs T q = ltb (first-border cs T q) (cell-count T)
 
--- 9: strictly inside no cell, on some cell's border
-abbrev pub on-a-line : List ℤ → Cells → Spot → Bool
-on-a-line cs T (At x y) = not (inside-some cs T (record { x = x; y = y })) && on-some-border cs T (record { x = x; y = y })
-on-a-line cs T Refused = false
+-- neither strictly inside a cell nor strictly within a free side
+abbrev pub nowhere : List ℤ → Cells → List ℕ → ℕ → Point → Bool
+nowhere cs T ds w q = not (inside-some cs T q) && not (within-some cs T ds w q)
+
+-- 9: nowhere so, but on some cell's border
+abbrev pub on-a-line : List ℤ → Cells → List ℕ → ℕ → Spot → Bool
+on-a-line cs T ds w (At x y) = nowhere cs T ds w (record { x = x; y = y }) && on-some-border cs T (record { x = x; y = y })
+on-a-line cs T ds w Refused = false
 
 -- 10: inside or on no cell
-abbrev pub off-every-cell : List ℤ → Cells → Spot → Bool
-off-every-cell cs T (At x y) = not (inside-some cs T (record { x = x; y = y })) && not (on-some-border cs T (record { x = x; y = y }))
-off-every-cell cs T Refused = false
+abbrev pub off-every-cell : List ℤ → Cells → List ℕ → ℕ → Spot → Bool
+off-every-cell cs T ds w (At x y) = nowhere cs T ds w (record { x = x; y = y }) && not (on-some-border cs T (record { x = x; y = y }))
+off-every-cell cs T ds w Refused = false
 
-abbrev pub stand-conditions : List ℤ → Cells → Spot → List Condition
-stand-conditions cs T spot =
-    when 8 (not-accepted spot) 0 ∷ when 9 (on-a-line cs T spot) 0 ∷ when 10 (off-every-cell cs T spot) 0 ∷ []
+-- with whatever else is LINE for the call
+abbrev pub stand-conditions-with : Bool → List ℤ → Cells → List ℕ → ℕ → Spot → List Condition
+stand-conditions-with on-its-door cs T ds w spot =
+    when 8 (not-accepted spot) 0 ∷ when 9 (on-its-door || on-a-line cs T ds w spot) 0 ∷ when 10 (off-every-cell cs T ds w spot) 0 ∷ []
 
-abbrev pub find-conditions : ℕ → List ℤ → List ℕ → List ℕ → Stand → List Condition
-find-conditions kind cs ts ds s = plan-conditions kind cs ts ds ++ stand-conditions cs (cells-of kind ts) (stood cs s)
+abbrev pub stand-conditions : List ℤ → Cells → List ℕ → ℕ → Spot → List Condition
+stand-conditions = stand-conditions-with false
 
-abbrev pub FindAnswers : ℕ → List ℤ → List ℕ → List ℕ → Stand → Type 0
-FindAnswers kind cs ts ds s =
-    Answers {M = Unit {0}} (1 ∷ 2 ∷ 3 ∷ 4 ∷ 5 ∷ 6 ∷ 8 ∷ 9 ∷ 10 ∷ []) (find-conditions kind cs ts ds s) (find-replies kind cs ts ds s) tt tt
+-- a bit at or above the door count; the stand
+abbrev pub find-conditions : ℕ → List ℤ → List ℕ → List ℕ → ℕ → Stand → List Condition
+find-conditions kind cs ts ds w s =
+    plan-conditions kind cs ts ds ++ (when 7 (wrong-setting w (length ds)) 0 ∷ stand-conditions cs (cells-of kind ts) ds w (stood cs s))
+
+abbrev pub FindAnswers : ℕ → List ℤ → List ℕ → List ℕ → ℕ → Stand → Type 0
+FindAnswers kind cs ts ds w s =
+    Answers {M = Unit {0}} (1 ∷ 2 ∷ 3 ∷ 4 ∷ 5 ∷ 6 ∷ 7 ∷ 8 ∷ 9 ∷ 10 ∷ []) (find-conditions kind cs ts ds w s) (find-replies kind cs ts ds w s) tt tt
 
 -- ---- listing and door change
 
--- a bit at or above the door count; the stand; a table shorter than 3·corners numbers
-abbrev pub list-conditions : ℕ → List ℤ → List ℕ → List ℕ → ℕ → Stand → ℕ → List Condition
-list-conditions kind cs ts ds w s room =
+-- a bit at or above the door count; the stand, with whatever else is LINE for the call; a table shorter than 3·corners numbers
+abbrev pub list-conditions-with : Bool → ℕ → List ℤ → List ℕ → List ℕ → ℕ → Stand → ℕ → List Condition
+list-conditions-with on-its-door kind cs ts ds w s room =
     plan-conditions kind cs ts ds
-    ++ (when 7 (wrong-setting w (length ds)) 0 ∷ stand-conditions cs (cells-of kind ts) (stood cs s))
+    ++ (when 7 (wrong-setting w (length ds)) 0 ∷ stand-conditions-with on-its-door cs (cells-of kind ts) ds w (stood cs s))
     ++ (when 11 (ltb room (3 * corner-count cs)) 0 ∷ [])
+
+abbrev pub list-conditions : ℕ → List ℤ → List ℕ → List ℕ → ℕ → Stand → ℕ → List Condition
+list-conditions = list-conditions-with false
 
 abbrev pub ListAnswers : ℕ → List ℤ → List ℕ → List ℕ → ℕ → Stand → List ℕ → Type 0
 ListAnswers kind cs ts ds w s table =
     Answers (1 ∷ 2 ∷ 3 ∷ 4 ∷ 5 ∷ 6 ∷ 7 ∷ 8 ∷ 9 ∷ 10 ∷ 11 ∷ []) (list-conditions kind cs ts ds w s (length table)) (list-replies kind cs ts ds w s table .0) table (list-replies kind cs ts ds w s table .1)
 
--- the true list under the setting, from a stand in its cell
+-- the stand is on a side, and the door is there and its line holds the stand strictly within (document 02, A4)
+abbrev pub door-underfoot : List ℤ → Cells → List ℕ → ℕ → ℕ → Spot → Bool
+door-underfoot cs T ds w i (At x y) =
+    not (inside-some cs T (record { x = x; y = y })) && within-some cs T ds w (record { x = x; y = y })
+    && ltb i (length ds) && strictly-within cs T (record { x = x; y = y }) (getD ds i 0)
+door-underfoot cs T ds w i Refused = false
+
+-- where a stand is that is strictly inside a cell or strictly within a free side
+abbrev pub place-of : Bool → ℕ → Footing → Footing
+place-of true c p = Inside c
+place-of false c p = p
+
+-- the true list under the setting, from there
 abbrev pub true-numbers : List ℤ → Cells → List ℕ → ℕ → Spot → List ℕ
-true-numbers cs T ds w (At x y) = listing-numbers cs T ds w (record { x = x; y = y }) (first-inside cs T (record { x = x; y = y }))
+true-numbers cs T ds w (At x y) =
+    listing-numbers cs T ds w (record { x = x; y = y })
+    (place-of (inside-some cs T (record { x = x; y = y })) (first-inside cs T (record { x = x; y = y })) (side-at T (first-within cs T ds w (record { x = x; y = y }))))
 true-numbers cs T ds w Refused = []
 
--- no such door, or already in that state; the given list differs from the true one
+-- LINE also for the door underfoot; no such door, or already in that state; the given list differs from the true one
 abbrev pub change-conditions : ℕ → List ℤ → List ℕ → List ℕ → ℕ → Stand → List ℕ → ℕ → Bool → ℕ → List Condition
 change-conditions kind cs ts ds w s given i b room =
-    list-conditions kind cs ts ds w s room
+    list-conditions-with (door-underfoot cs (cells-of kind ts) ds w i (stood cs s)) kind cs ts ds w s room
     ++ (when 12 (no-change ds w i b) 0 ∷ when 13 (not (same-list given (true-numbers cs (cells-of kind ts) ds w (stood cs s)))) 0 ∷ [])
 
 abbrev pub ChangeAnswers : ℕ → List ℤ → List ℕ → List ℕ → ℕ → Stand → List ℕ → ℕ → Bool → List ℕ → Type 0

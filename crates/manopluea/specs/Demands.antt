@@ -8,7 +8,7 @@ use lib.ListN.{getD, take, drop}
 use lib.IntN.{ℤ}
 use Rattle.plane.specs.Side.{Point}
 use Rattle.plane.specs.Cone.{Meets, Direction}
-use Rattle.cells.specs.Lists.{Cells, corner-count, first, back}
+use Rattle.cells.specs.Lists.{Cells, corner-count, back}
 use Rattle.cells.specs.Cut.{cells-of}
 use Rattle.limits.specs.Reply.{number, place}
 use Rattle.limits.specs.declared.Refusal.{Refusal}
@@ -17,18 +17,19 @@ use Rattle.stand.specs.Spot.{stood}
 use Rattle.stand.specs.Find.{located}
 use Rattle.stand.specs.declared.spot.Stand.{Stand}
 use Rattle.stand.specs.declared.spot.Spot.the-variants.{At}
-use Rattle.stand.specs.declared.locate.Found.the-variants.{Cell}
+use Rattle.stand.specs.declared.locate.Footing.{Footing}
+use Rattle.stand.specs.declared.locate.Found.the-variants as F
 use Rattle.fan.specs.Sight.{Row}
 use Rattle.fan.specs.Walk.{RowHolds, WalkEnds}
 use Rattle.fan.specs.Written.{OneRow}
-use Rattle.sight.specs.Listing.{plan-floor, seen, sight-from, listing-numbers, listing-row-count, listing-crossings, listed}
+use Rattle.sight.specs.Listing.{plan-floor, seen, standing, sight-from, listing-numbers, listing-row-count, listing-crossings, listed}
 use Rattle.sight.specs.declared.list.Listed.{Listed}
 use Rattle.sight.specs.declared.list.Listed.the-variants.{Rows, Refused}
 use Rattle.runs.specs.Route.{Routed, routed, row-numbers}
 use Rattle.runs.specs.Door.{on-door, untouched, those}
 use Rattle.runs.specs.Shutting.{runs, door-row}
 use Rattle.doors.specs.Change.{no-change, wished}
-use Rattle.manopluea.specs.Conditions.{CheckAnswers, ReadAnswers, WriteAnswers, FindAnswers, ListAnswers, ChangeAnswers, ListStandsAnswers}
+use Rattle.manopluea.specs.Conditions.{door-underfoot, CheckAnswers, ReadAnswers, WriteAnswers, FindAnswers, ListAnswers, ChangeAnswers, ListStandsAnswers}
 
 -- ---- demand 1
 
@@ -36,7 +37,7 @@ pub record Demand-1 : Type 0 where
   pub check : (kind : ℕ) (cs : List ℤ) (ts ds : List ℕ) → CheckAnswers kind cs ts ds
   pub read : (file : List ℕ) (corners : List ℤ) (cells doors : List ℕ) → ReadAnswers file corners cells doors
   pub write : (kind : ℕ) (cs : List ℤ) (ts ds file : List ℕ) → WriteAnswers kind cs ts ds file
-  pub find : (kind : ℕ) (cs : List ℤ) (ts ds : List ℕ) (s : Stand) → FindAnswers kind cs ts ds s
+  pub find : (kind : ℕ) (cs : List ℤ) (ts ds : List ℕ) (w : ℕ) (s : Stand) → FindAnswers kind cs ts ds w s
   pub list : (kind : ℕ) (cs : List ℤ) (ts ds : List ℕ) (w : ℕ) (s : Stand) (table : List ℕ) → ListAnswers kind cs ts ds w s table
   pub change : (kind : ℕ) (cs : List ℤ) (ts ds : List ℕ) (w : ℕ) (s : Stand) (given : List ℕ) (i : ℕ) (b : Bool) (table : List ℕ) → ChangeAnswers kind cs ts ds w s given i b table
   pub list-stands : (kind : ℕ) (cs : List ℤ) (ts ds : List ℕ) (w : ℕ) (stands : List Stand) (n : ℕ) (table replies : List ℕ) → ListStandsAnswers kind cs ts ds w stands n table replies
@@ -45,7 +46,7 @@ pub record Demand-1 : Type 0 where
 
 -- ---- demand 2
 
-module _ (cs : List ℤ) (T : Cells) (ds : List ℕ) (w : ℕ) (q : Point) (c : ℕ) where
+module _ (cs : List ℤ) (T : Cells) (ds : List ℕ) (w : ℕ) (q : Point) (p : Footing) where
   -- the whole ray of direction d from q, q itself not counted, meets no corner of the plan
   abbrev pub MeetsNoCorner : Point → Type 0
   MeetsNoCorner d = (k : ℕ) → k < corner-count cs → ¬ Meets d (seen cs q k)
@@ -54,9 +55,9 @@ module _ (cs : List ℤ) (T : Cells) (ds : List ℕ) (w : ℕ) (q : Point) (c : 
   abbrev pub HoldsDirection : Point → Row → Type 0
   HoldsDirection d r = RowHolds (plan-floor cs T ds w q) (seen cs q) d r
 
-  -- the walk for d from cell c ends at this face
+  -- the walk for d from q, which is at p, ends at this face
   abbrev pub WalkEndsAt : Point → ℕ → Type 0
-  WalkEndsAt d f = WalkEnds (plan-floor cs T ds w q) (seen cs q) d (first T c) f
+  WalkEndsAt d f = WalkEnds (plan-floor cs T ds w q) (seen cs q) d (standing T p) f
 
   -- exactly one of the first n rows of the table holds d, and its face is where the walk ends
   pub record HeldOnce (n : ℕ) (table : List ℕ) (d : Point) : Type 0 where
@@ -65,19 +66,19 @@ module _ (cs : List ℤ) (T : Cells) (ds : List ℕ) (w : ℕ) (q : Point) (c : 
     pub met : WalkEndsAt d (row .face)
 
 module _ (kind : ℕ) (cs : List ℤ) (ts ds : List ℕ) (w : ℕ) (s : Stand) where
-  -- n rows of a table and k crossings, seen from the very point that the stand is, in the cell that is found for it
+  -- n rows of a table and k crossings, seen from the very point that the stand is, where it is found
   pub record Sighted (n k : ℕ) (table : List ℕ) : Type 0 where
     pub x : ℤ
     pub y : ℤ
     pub the-stand : stood cs s ≡ At x y
-    pub cell : ℕ
-    pub its-cell : located cs (cells-of kind ts) (record { x = x; y = y }) ≡ Cell cell
+    pub place : Footing
+    pub its-place : located cs (cells-of kind ts) ds w (record { x = x; y = y }) ≡ F.At place
     -- rows, order and crossings are those of the published expansion
-    pub expanded : take (3 * n) table ≡ listing-numbers cs (cells-of kind ts) ds w (record { x = x; y = y }) cell
-    pub counted : n ≡ listing-row-count cs (cells-of kind ts) ds w (record { x = x; y = y }) cell
-    pub crossed : k ≡ listing-crossings cs (cells-of kind ts) ds w (record { x = x; y = y }) cell
+    pub expanded : take (3 * n) table ≡ listing-numbers cs (cells-of kind ts) ds w (record { x = x; y = y }) place
+    pub counted : n ≡ listing-row-count cs (cells-of kind ts) ds w (record { x = x; y = y }) place
+    pub crossed : k ≡ listing-crossings cs (cells-of kind ts) ds w (record { x = x; y = y }) place
     -- every direction whose ray meets no corner is held by exactly one row, whose wall is the first met walking cell by cell
-    pub held : (d : Point) → Direction d → MeetsNoCorner cs (cells-of kind ts) ds w (record { x = x; y = y }) cell d → HeldOnce cs (cells-of kind ts) ds w (record { x = x; y = y }) cell n table d
+    pub held : (d : Point) → Direction d → MeetsNoCorner cs (cells-of kind ts) ds w (record { x = x; y = y }) place d → HeldOnce cs (cells-of kind ts) ds w (record { x = x; y = y }) place n table d
 
   -- whenever the answer is n rows, they are so, and beyond them the table is as it was
   pub record Demand-2 (before : List ℕ) (answer : Listed) (after : List ℕ) : Type 0 where
@@ -116,16 +117,16 @@ module _ (kind : ℕ) (cs : List ℤ) (ts ds : List ℕ) (w : ℕ) (s : Stand) (
     pub x : ℤ
     pub y : ℤ
     pub the-stand : stood cs s ≡ At x y
-    pub cell : ℕ
-    pub its-cell : located cs (cells-of kind ts) (record { x = x; y = y }) ≡ Cell cell
-    pub old-seen : old ≡ routed (sight-from cs (cells-of kind ts) ds w (record { x = x; y = y }) cell)
-    pub new-seen : new ≡ routed (sight-from cs (cells-of kind ts) ds (wished b w i) (record { x = x; y = y }) cell)
+    pub place : Footing
+    pub its-place : located cs (cells-of kind ts) ds w (record { x = x; y = y }) ≡ F.At place
+    pub old-seen : old ≡ routed (sight-from cs (cells-of kind ts) ds w (record { x = x; y = y }) place)
+    pub new-seen : new ≡ routed (sight-from cs (cells-of kind ts) ds (wished b w i) (record { x = x; y = y }) place)
 
   pub record Demand-3 (before : List ℕ) (answer : Listed) (after : List ℕ) : Type 0 where
     -- whenever the answer is rows, answer and table are those of a fresh listing under the new setting
     pub fresh : (n k : ℕ) → answer ≡ Rows n k → (answer, after) ≡ listed kind cs ts ds (wished b w i) s before
     pub run-by-run : (n k : ℕ) → answer ≡ Rows n k → RunByRun n after
-    -- and so it is from every true list of a door that is not yet so
-    pub from-the-true-list : (n k : ℕ) (t : List ℕ) → listed kind cs ts ds w s before ≡ (Rows n k, t) → no-change ds w i b ≡ false → given ≡ take (3 * n) t → (answer, after) ≡ listed kind cs ts ds (wished b w i) s before
+    -- and so it is from every true list of a door that is not yet so, unless the stand is on its line
+    pub from-the-true-list : (n k : ℕ) (t : List ℕ) → listed kind cs ts ds w s before ≡ (Rows n k, t) → door-underfoot cs (cells-of kind ts) ds w i (stood cs s) ≡ false → no-change ds w i b ≡ false → given ≡ take (3 * n) t → (answer, after) ≡ listed kind cs ts ds (wished b w i) s before
     -- while a given list that is not the true one is 13, and the table is as it was
-    pub from-another-list : (n k : ℕ) (t : List ℕ) → listed kind cs ts ds w s before ≡ (Rows n k, t) → no-change ds w i b ≡ false → (given ≡ take (3 * n) t → ⊥) → _≡_ {A = Listed × List ℕ} (answer, after) (Refused Untrue, before)
+    pub from-another-list : (n k : ℕ) (t : List ℕ) → listed kind cs ts ds w s before ≡ (Rows n k, t) → door-underfoot cs (cells-of kind ts) ds w i (stood cs s) ≡ false → no-change ds w i b ≡ false → (given ≡ take (3 * n) t → ⊥) → _≡_ {A = Listed × List ℕ} (answer, after) (Refused Untrue, before)

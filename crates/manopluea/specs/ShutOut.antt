@@ -1,17 +1,16 @@
 -- Wrong versions, which the laws of proofs/ShutOut.antt shut out (document 01, "What the promises have to say").
 use mathlib.Core.Bool.{true, false, _&&_}
 use mathlib.Core.List.{List, [], _∷_, _++_}
-use Prim.Native.Nat.{ℕ, zero, suc, _-_}
-use lib.ListN.{length}
+use Prim.Native.Nat.{ℕ}
 use lib.Seq.{sets}
 use lib.IntN.{ℤ}
-use Rattle.plane.specs.Side.{Point}
-use Rattle.cells.specs.Lists.{Cells, cell-count, first, side-count, next, start}
+use Rattle.limits.specs.declared.Refusal.the-variants.{Room}
+use Rattle.cells.specs.Lists.{Cells, cell-count, next, start}
 use Rattle.cells.specs.Cut.{cells-of}
 use Rattle.stand.specs.declared.spot.Stand.{Stand}
-use Rattle.fan.specs.Sight.{Sight, follow, numbers, row-count, crossings}
-use Rattle.fan.specs.Sight.Sight.{row, both}
-use Rattle.sight.specs.Listing.{plan-floor, viewed}
+use Rattle.fan.specs.Sight.{Floor, Sight, follow, lines-around, unentered, numbers, row-count, crossings}
+use Rattle.fan.specs.Sight.Sight.{row, both, cut}
+use Rattle.sight.specs.Listing.{plan-floor, standing, viewed, refuse, no-room}
 use Rattle.sight.specs.declared.view.View.{View}
 use Rattle.sight.specs.declared.view.View.the-variants.{From, Refused}
 use Rattle.sight.specs.declared.list.Listed.{Listed}
@@ -20,30 +19,34 @@ use Rattle.runs.specs.Route.{Routed}
 use Rattle.runs.specs.Door.{on-door}
 use Rattle.runs.specs.Shutting.{Piece, pieces, is-run, door-row, shut-rows}
 
--- ---- a listing that expands side 0 of the stand's cell fully and treats its other sides as walls
+-- ---- a listing that expands the first of the lines around the stand fully and treats the others as walls
 
--- side f of the stand's cell and the m sides after it as walls, free or not: one row each, with the side's two ends as limits
-unfoldable pub as-walls : Cells → ℕ → ℕ → Sight
-as-walls T zero f = row f (start T f) (start T (next T f))
-as-walls T (suc m) f = both (row f (start T f) (start T (next T f))) (as-walls T m (next T f))
+-- lines as walls, free or not: one row each, with the line's two ends as limits
+unfoldable pub as-walls : Cells → List ℕ → Sight
+as-walls T [] = cut
+as-walls T (f ∷ []) = row f (start T f) (start T (next T f))
+as-walls T (f ∷ g ∷ fs) = both (row f (start T f) (start T (next T f))) (as-walls T (g ∷ fs))
 
--- side 0, and the others as walls
-abbrev pub side-0-alone : List ℤ → Cells → List ℕ → ℕ → Point → ℕ → Sight
-side-0-alone cs T ds w q c =
-    both
-    (follow (plan-floor cs T ds w q) (cell-count T - 1) (first T c) (start T (first T c)) (start T (next T (first T c))))
-    (as-walls T (side-count T c - 2) (next T (first T c)))
+-- the first line, and the others as walls
+unfoldable pub first-line-alone : Floor → ℕ → Cells → List ℕ → Sight
+first-line-alone F n T [] = cut
+first-line-alone F n T (f ∷ fs) = both (follow F n f (start T f) (start T (next T f))) (as-walls T fs)
 
 abbrev pub sight-listed : Sight → List ℕ → Listed × List ℕ
 sight-listed t table = (L.Rows (row-count t) (crossings t), sets table 0 (numbers t))
 
-abbrev pub side-0-listed-from : List ℤ → Cells → List ℕ → ℕ → List ℕ → View → Listed × List ℕ
-side-0-listed-from cs T ds w table (From x y c) = sight-listed (side-0-alone cs T ds w (record { x = x; y = y }) c) table
-side-0-listed-from cs T ds w table (Refused r) = (L.Refused r, table)
+abbrev pub first-line-listed-from : List ℤ → Cells → List ℕ → ℕ → List ℕ → View → Listed × List ℕ
+first-line-listed-from cs T ds w table (From x y p) =
+    refuse (no-room cs table) Room table
+    (sight-listed
+    (first-line-alone (plan-floor cs T ds w (record { x = x; y = y })) (unentered (cell-count T) (standing T p)) T
+    (lines-around (plan-floor cs T ds w (record { x = x; y = y })) (standing T p)))
+    table)
+first-line-listed-from cs T ds w table (Refused r) = (L.Refused r, table)
 
 -- it refuses as the listing does
 abbrev pub other-sides-as-walls : ℕ → List ℤ → List ℕ → List ℕ → ℕ → Stand → List ℕ → Listed × List ℕ
-other-sides-as-walls kind cs ts ds w s table = side-0-listed-from cs (cells-of kind ts) ds w table (viewed kind cs ts ds w s (length table))
+other-sides-as-walls kind cs ts ds w s table = first-line-listed-from cs (cells-of kind ts) ds w table (viewed kind cs ts ds w s)
 
 -- ---- shutting a door, on rows with their routes
 

@@ -25,7 +25,7 @@ module _ (kind : ℕ) (cs : List ℤ) (ts ds : List ℕ) (w : ℕ) (ss : List St
     -- reply number, row count and crossings
     pub reply : take 3 (drop (3 * i) replies) ≡ three-of (listed kind cs ts ds w s lent .0)
     -- by the exact condition: the lowest of 8, 9 and 10 that applies to it, or 0
-    pub by-condition : getD replies (3 * i) 0 ≡ lowest (stand-conditions cs (cells-of kind ts) (stood cs s)) .0
+    pub by-condition : getD replies (3 * i) 0 ≡ lowest (stand-conditions cs (cells-of kind ts) ds w (stood cs s)) .0
     -- its rows, behind those of the stands before
     pub rows : take (3 * rows-of (listed kind cs ts ds w s lent .0)) (drop (3 * rows-before i) table) ≡ take (3 * rows-of (listed kind cs ts ds w s lent .0)) (listed kind cs ts ds w s lent .1)
     -- so demand 2 holds for them

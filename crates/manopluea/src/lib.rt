@@ -27,6 +27,7 @@ pub use limits::Plan;
 pub use limits::Refusal;
 pub use planfile::ReadPlan;
 pub use sight::list::Listed;
+pub use stand::locate::Footing;
 pub use stand::locate::Found;
 pub use stand::spot::Stand;
 
@@ -71,18 +72,27 @@ pub fn write(
     planfile::write(corners, cells, doors, kind, file)
 }
 
-// The stand's cell: the least-numbered cell that holds it strictly inside. Else 1 to 6 as the check has them, STAND where a number or corner is not
-// accepted, LINE where the stand is strictly inside no cell but on some cell's border, OUTSIDE where it is inside or on none.
-pub fn find(corners: &[i32], cells: &[u16], doors: &[u16], terms: Terms, stand: Stand) -> Found
-    ensures answer { λ r. ⌜ r ≡ found (terms .kind) (now (corners .entry)) (now (cells .entry)) (now (doors .entry)) stand ⌝ }
-    ensures numbers { λ r. ⌜ found-reply r ≡ find-replies (terms .kind) (now (corners .entry)) (now (cells .entry)) (now (doors .entry)) stand ⌝ }
+// Where the stand is under a door setting: strictly inside a cell, the least-numbered; else strictly within a side that is free under the setting, of the
+// least-numbered cell, its least side (document 02, A4). Else 1 to 6 as the check has them, SETTING, STAND where a number or corner is not accepted, LINE
+// where the stand is on some cell's border, OUTSIDE where it is inside or on no cell.
+pub fn find(
+    corners: &[i32],
+    cells: &[u16],
+    doors: &[u16],
+    terms: Terms,
+    setting: u64,
+    stand: Stand,
+) -> Found
+    ensures answer { λ r. ⌜ r ≡ found (terms .kind) (now (corners .entry)) (now (cells .entry)) (now (doors .entry)) setting stand ⌝ }
+    ensures numbers { λ r. ⌜ found-reply r ≡ find-replies (terms .kind) (now (corners .entry)) (now (cells .entry)) (now (doors .entry)) setting stand ⌝ }
 {
     let kind = terms.kind;
-    find::find(corners, cells, doors, kind, stand)
+    find::find(corners, cells, doors, kind, setting, stand)
 }
 
 // The listing: the walls seen from a stand under a door setting, three numbers a row (face on the side seen, right limit, left limit), in the order of
-// the expansion. Replies row count and crossings; else 1 to 6, SETTING, STAND, LINE, OUTSIDE, or ROOM for a table below 3·corners numbers.
+// the expansion. From a stand strictly within a free side, its cell's other sides are expanded in order after it, then the neighbour's; the line that it
+// stands on is not crossed. Replies row count and crossings; else 1 to 6, SETTING, STAND, LINE, OUTSIDE, or ROOM for a table below 3·corners numbers.
 pub fn list(
     corners: &[i32],
     cells: &[u16],
@@ -99,8 +109,8 @@ pub fn list(
     sight::list::list(corners, cells, doors, kind, setting, stand, table)
 }
 
-// The door change: from the true list under the old setting, the list and crossings with one door shut or opened. Refuses as the listing does;
-// then CHANGE where there is no such door or it is already in that state, and ROWS where the given list is not the true one.
+// The door change: from the true list under the old setting, the list and crossings with one door shut or opened. Refuses as the listing does, with LINE
+// also, for a stand on a side, where the door's line holds it strictly within; then CHANGE where there is no such door or it is already in that state, and ROWS where the given list is not the true one.
 pub fn change(
     corners: &[i32],
     cells: &[u16],

@@ -148,7 +148,7 @@ module _ {cs : List ℤ} {T : Cells} {ds : List ℕ} (sound : Sound cs T ds) (w 
     abbrev part : List ℕ
     part = take (length table - 3 * rows) (drop (3 * rows) table)
 
-    part-has-room : 3 * corner-count cs ≤ length part
+    pub part-has-room : 3 * corner-count cs ≤ length part
     part-has-room = omega (arith, ap length (part-to-end table (3 * rows)), length-drop (3 * rows) table, next .room-left)
 
     -- after it

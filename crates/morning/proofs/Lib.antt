@@ -1,4 +1,4 @@
--- one stand over the lines drawn: what following its cell's sides asks, and what is written
+-- one stand over the lines drawn: what following the lines around it asks, and what is written
 pub mod OverLines
 -- a listing in whatever table has room is the single listing
 pub mod Single

@@ -1,4 +1,5 @@
--- One stand over the lines drawn: what following its cell's sides asks, and what is written.
+-- One stand over the lines drawn: what following the lines around it asks, and what is written.
+use mathlib.Core.Bool.{Bool}
 use mathlib.Core.List.{List, [], _∷_}
 use mathlib.Core.Path.{_≡_, refl, sym, ap, _∙_, subst}
 use Prim.Native.Nat.{ℕ, suc, _+_, _*_, _^_, _<_, _≤_}
@@ -11,27 +12,28 @@ use mir.Val.{toZ, ofZ}
 use Rattle.plane.specs.Side.{Point, point, Near}
 use Rattle.limits.specs.Reply.{number}
 use Rattle.limits.specs.declared.Refusal.{Refusal}
-use Rattle.cells.specs.Lists.{Cells, cell-count, face-count}
-use Rattle.cells.specs.Sound.{CornersNear, CornersExist, Numbered, Sound}
-use Rattle.cells.proofs.Plans.{corners-exist}
+use Rattle.limits.specs.declared.Refusal.the-variants.{Room}
+use Rattle.cells.specs.Lists.{Cells, corner-count, face-count}
+use Rattle.cells.specs.Sound.{CornersNear, Numbered, Sound}
 use Rattle.stand.specs.Spot.{stood}
 use Rattle.stand.specs.declared.spot.Stand.{Stand}
+use Rattle.stand.specs.declared.locate.Footing.{Footing}
 use Rattle.stand.proofs.Finds.{as-read, near-as-read}
-use Rattle.stand.proofs.Located.{InCell, found-cell-holds-the-stand}
+use Rattle.stand.proofs.Located.{Stands, found-place-holds-the-stand}
 use Rattle.fan.specs.Sight.{Sight, numbers, row-count, crossings, Whole}
 use Rattle.expand.specs.Floor.{Lines}
 use Rattle.lines.specs.Lined.{Lined}
-use Rattle.sight.specs.CellTree.{stand-tree, Starts}
+use Rattle.sight.specs.CellTree.{stand-tree, Starts, StandsIn}
 use Rattle.sight.specs.Seen.{SeenFrom}
-use Rattle.sight.specs.Listing.{view-of-spot, listing-row-count, listing-crossings, listing-numbers, listed-from}
+use Rattle.sight.specs.Listing.{view-of-spot, listing-row-count, listing-crossings, listing-numbers, refuse, rows-from, listed-from}
 use Rattle.sight.specs.declared.view.View.{View}
 use Rattle.sight.specs.declared.view.View.the-variants as O
 use Rattle.sight.proofs.Lined.{lined-is-lines, starts-stand}
-use Rattle.sight.proofs.Lister.{tree-is-whole, tree-has-room, few-crossings, listing-written}
-use Rattle.sight.proofs.Views.{Spotted, spot-says}
+use Rattle.sight.proofs.Lister.{stands-in-the-tables, tree-is-whole, tree-has-room, few-crossings, listing-written}
+use Rattle.sight.proofs.Views.{Spotted, spot-says, is-long}
 use Rattle.sight.specs.declared.list.Listed.{Listed}
 use Rattle.morning.specs.Morning.{rows-of, crossings-of, three-of}
-use Rattle.morning.specs.OverLines.{Drawn, listed-on, over-lines}
+use Rattle.morning.specs.OverLines.{listed-on}
 
 -- three stores one behind the other
 pub three-put : (l : List ℕ) (at a b c : ℕ) → set (set (set l at a) (at + 1) b) (at + 2) c ≡ sets l at (a ∷ b ∷ c ∷ [])
@@ -44,82 +46,59 @@ three-put l at a b c =
 abbrev seen-from : ℤ → ℤ → Point
 seen-from x y = point (toZ w64 (ofZ w64 x) ∷ toZ w64 (ofZ w64 y) ∷ [])
 
-abbrev pub lines-drawn : {cs : List ℤ} {T : Cells} {ds : List ℕ} → Sound cs T ds → (w : ℕ) {ls : List ℕ} → Lined T ds w ls → Drawn cs T ls
-lines-drawn {ds = ds} sound w lined = record { doors = ds; setting = w; sound = sound; lined = lined }
-
-module _ {cs : List ℤ} {T : Cells} {ls : List ℕ} (drawn : Drawn cs T ls) where
-  pub plan-checked : CornersNear cs × CornersExist cs T × Numbered T
-  plan-checked = (drawn .sound .corners, corners-exist (drawn .sound .numbered) (drawn .sound .cells), drawn .sound .numbered)
-
-  module _ (s : Stand) (table : List ℕ) {x y : ℤ} {c : ℕ} (view : view-of-spot cs T (length table) (stood cs s) ≡ O.From x y c) where
-    abbrev q : Point
-    q = seen-from x y
-
-    spot : Spotted cs T s (length table) x y c
-    spot = spot-says cs T s (length table) view
-
-    read : q ≡ record { x = x; y = y }
-    read = as-read (spot .stand-near)
-
-    near : Near q
-    near = near-as-read (spot .stand-near)
-
-    in-cell : InCell cs T q c
-    in-cell = subst (λ (p : Point). InCell cs T p c) (sym read) (found-cell-holds-the-stand cs (drawn .sound .numbered) _ (spot .stand-cell))
-
-    pub corners-seen-asked : CornersNear cs × Near q
-    corners-seen-asked = (drawn .sound .corners, near)
-
-    module _ {zs : List ℤ} (seen : SeenFrom cs q zs) where
-      abbrev tree : Sight
-      tree = stand-tree zs ls T c
-
-      pub sides-asked : (Lines zs ls × Starts zs ls (T .faces) × Numbered T) × (((c < cell-count T) × (length ls ≡ 4 * face-count T)) × (Whole tree × ((3 * row-count tree ≤ length table) × (crossings tree < 2 ^ 63))))
-      sides-asked =
-          let sound = drawn .sound in
-          let lined = drawn .lined in
-          let w = drawn .setting in (
-            (lined-is-lines w sound near lined seen, starts-stand w sound near lined seen, sound .numbered),
-            (
-              (in-cell .cell-exists, lined .whole),
-              (tree-is-whole sound w q near c in-cell lined seen, (tree-has-room sound w q near c in-cell lined seen (length table) (spot .has-room), few-crossings sound w q near c in-cell lined seen)),
-            ),
-          )
-
--- counts, table and replies are left by a listing
+-- counts, table and replies are left by the stand's listing
 abbrev Left : ℕ → List ℕ → ℕ → ℕ → List ℕ → List ℕ → Listed × List ℕ → Type 0
 Left at old i j new new-replies l =
     (i ≡ rows-of (l .0)) × ((j ≡ crossings-of (l .0)) × ((new ≡ l .1) × (new-replies ≡ sets old at (three-of (l .0)))))
 
-module _ (cs : List ℤ) (T : Cells) (ls : List ℕ) (s : Stand) (table : List ℕ) (at : ℕ) (old : List ℕ) (i j : ℕ) (new new-replies : List ℕ) where
-  -- they are left by the stand's listing over the lines, whatever doors and setting these are of
-  abbrev Promised : Type 0
-  Promised =
-      ((d : Drawn cs T ls) → i ≡ rows-of (over-lines d s table .0))
-      × (((d : Drawn cs T ls) → j ≡ crossings-of (over-lines d s table .0))
-      × (((d : Drawn cs T ls) → new ≡ over-lines d s table .1) × ((d : Drawn cs T ls) → new-replies ≡ sets old at (three-of (over-lines d s table .0)))))
-
-  by-view : (v : View) → view-of-spot cs T (length table) (stood cs s) ≡ v → ((d : Drawn cs T ls) → Left at old i j new new-replies (listed-from cs T (d .doors) (d .setting) table v)) → Promised
+module _ (cs : List ℤ) (T : Cells) (ds : List ℕ) (w : ℕ) (s : Stand) (table : List ℕ) (at : ℕ) (old : List ℕ) where
+  by-view : {i j : ℕ} {new new-replies : List ℕ} {v : View} → view-of-spot cs T ds w (stood cs s) ≡ v → Left at old i j new new-replies (listed-from cs T ds w table v) → Left at old i j new new-replies (listed-on cs T ds w s table)
   unfolding listed-on
-  by-view v e h =
-      let left : (d : Drawn cs T ls) → Left at old i j new new-replies (over-lines d s table) = λ d. subst (λ (v : View). Left at old i j new new-replies (listed-from cs T (d .doors) (d .setting) table v)) (sym e) (h d) in
-      (λ d. left d .0, (λ d. left d .1 .0, (λ d. left d .1 .1 .0, λ d. left d .1 .1 .1)))
+  by-view {i} {j} {new} {new-replies} e = subst (λ (v : View). Left at old i j new new-replies (listed-from cs T ds w table v)) (sym e)
 
-pub stand-refused : {cs : List ℤ} {T : Cells} {ls : List ℕ} (s : Stand) (table : List ℕ) (at : ℕ) (old : List ℕ) {r : Refusal} {n : ℕ} {new : List ℕ} → view-of-spot cs T (length table) (stood cs s) ≡ O.Refused r → n ≡ number r → new ≡ sets old at (n ∷ 0 ∷ 0 ∷ []) → Promised cs T ls s table at old 0 0 table new
-stand-refused {cs} {T} {ls} s table at old {r} {new = new} v e h =
-    by-view cs T ls s table at old 0 0 table new (O.Refused r) v (λ d. (refl, (refl, (refl, h ∙ ap (λ (n : ℕ). sets old at (n ∷ 0 ∷ 0 ∷ [])) e))))
+  pub stand-refused : {r : Refusal} {n : ℕ} {new : List ℕ} → view-of-spot cs T ds w (stood cs s) ≡ O.Refused r → n ≡ number r → new ≡ sets old at (n ∷ 0 ∷ 0 ∷ []) → Left at old 0 0 table new (listed-on cs T ds w s table)
+  stand-refused view e h = by-view view (refl, (refl, (refl, h ∙ ap (λ (n : ℕ). sets old at (n ∷ 0 ∷ 0 ∷ [])) e)))
 
-pub stand-listed : {cs : List ℤ} {T : Cells} {ls : List ℕ} (s : Stand) (table : List ℕ) (at : ℕ) (old : List ℕ) {x y : ℤ} {c : ℕ} (view : view-of-spot cs T (length table) (stood cs s) ≡ O.From x y c) {zs : List ℤ} → SeenFrom cs (seen-from x y) zs → {i j : ℕ} {new new-replies : List ℕ} → (i ≡ row-count (stand-tree zs ls T c)) × ((j ≡ crossings (stand-tree zs ls T c)) × (new ≡ sets table 0 (numbers (stand-tree zs ls T c)))) → new-replies ≡ sets old at (0 ∷ i ∷ j ∷ []) → Promised cs T ls s table at old i j new new-replies
-stand-listed {cs} {T} {ls} s table at old {x} {y} {c} view seen {i} {j} {new} {new-replies} h e =
-    by-view cs T ls s table at old i j new new-replies (O.From x y c) view left
-  where
-    left : (d : Drawn cs T ls) → Left at old i j new new-replies (listed-from cs T (d .doors) (d .setting) table (O.From x y c))
-    left d =
-        let ds = d .doors in
-        let w = d .setting in
-        let says = listing-written (d .sound) w (seen-from x y) (near d s table view) c (in-cell d s table view) (d .lined) seen table h in
-        let is = read d s table view in
-        let rows = says .0 ∙ ap (λ (p : Point). listing-row-count cs T ds w p c) is in
-        let passed = says .1 .0 ∙ ap (λ (p : Point). listing-crossings cs T ds w p c) is in
-        let written = says .1 .1 ∙ ap (λ (p : Point). sets table 0 (listing-numbers cs T ds w p c)) is in
-        (rows, (passed, (written, e ∙ (λ k. sets old at (0 ∷ rows k ∷ passed k ∷ [])))))
+-- ---- a stand that is found
+
+module _ {cs : List ℤ} {T : Cells} {ds : List ℕ} (sound : Sound cs T ds) (w : ℕ) (s : Stand) {x y : ℤ} {p : Footing} (view : view-of-spot cs T ds w (stood cs s) ≡ O.From x y p) where
+  abbrev q : Point
+  q = seen-from x y
+
+  spot : Spotted cs T ds w s x y p
+  spot = spot-says cs T ds w s view
+
+  read : q ≡ record { x = x; y = y }
+  read = as-read (spot .stand-near)
+
+  near : Near q
+  near = near-as-read (spot .stand-near)
+
+  stands : Stands cs T ds w q p
+  stands = subst (λ (q : Point). Stands cs T ds w q p) (sym read) (found-place-holds-the-stand cs (sound .numbered) ds w _ (spot .stand-place))
+
+  pub corners-seen-asked : CornersNear cs × Near q
+  corners-seen-asked = (sound .corners, near)
+
+  module _ {ls : List ℕ} (lined : Lined T ds w ls) {zs : List ℤ} (seen : SeenFrom cs q zs) (table : List ℕ) (room : 3 * corner-count cs ≤ length table) where
+    abbrev tree : Sight
+    tree = stand-tree zs ls T p
+
+    pub lines-asked : (Lines zs ls × Starts zs ls (T .faces) × Numbered T) × ((StandsIn ls T p × (length ls ≡ 4 * face-count T)) × (Whole tree × ((3 * row-count tree ≤ length table) × (crossings tree < 2 ^ 63))))
+    lines-asked = (
+      (lined-is-lines w sound near lined seen, starts-stand w sound near lined seen, sound .numbered),
+      (
+        (stands-in-the-tables sound w q near lined seen p stands, lined .whole),
+        (tree-is-whole sound w q near lined seen p stands, (tree-has-room sound w q near lined seen p stands (length table) room, few-crossings sound w q near lined seen p stands)),
+      ),
+    )
+
+    pub stand-listed : (at : ℕ) (old : List ℕ) {i j : ℕ} {new new-replies : List ℕ} → (i ≡ row-count tree) × ((j ≡ crossings tree) × (new ≡ sets table 0 (numbers tree))) → new-replies ≡ sets old at (0 ∷ i ∷ j ∷ []) → Left at old i j new new-replies (listed-on cs T ds w s table)
+    stand-listed at old {i} {j} {new} {new-replies} h e =
+        let says = listing-written sound w q near lined seen p stands table h in
+        let rows = says .0 ∙ ap (λ (q : Point). listing-row-count cs T ds w q p) read in
+        let passed = says .1 .0 ∙ ap (λ (q : Point). listing-crossings cs T ds w q p) read in
+        let written = says .1 .1 ∙ ap (λ (q : Point). sets table 0 (listing-numbers cs T ds w q p)) read in
+        by-view cs T ds w s table at old view
+        (subst (λ (b : Bool). Left at old i j new new-replies (refuse b Room table (rows-from cs T ds w table (record { x = x; y = y }) p))) (sym (is-long cs table room))
+        (rows, (passed, (written, e ∙ (λ k. sets old at (0 ∷ rows k ∷ passed k ∷ []))))))

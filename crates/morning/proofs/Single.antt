@@ -1,10 +1,9 @@
 -- A listing in whatever table has room is the single listing.
 use mathlib.Core.Bool.{Bool, false}
 use mathlib.Core.List.{List}
-use mathlib.Core.Path.{_≡_, refl, sym, ap, _∙_, subst, subst₂}
+use mathlib.Core.Path.{_≡_, refl, sym, ap, _∙_, subst₂}
 use Prim.Native.Nat.{ℕ, _*_, _≤_}
 use native.Mathlib.Omega.{arith}
-use borrow.Author.Tests.{le-ltb}
 use lib.ListN.{length, replicate, length-replicate}
 use lib.Seq.{sets}
 use lib.IntN.{ℤ}
@@ -21,31 +20,17 @@ use Rattle.cells.specs.Sound.{Sound}
 use Rattle.cells.proofs.Accepted.{accepted-is-sound, accepted-doors}
 use Rattle.setting.specs.Setting.{wrong-setting}
 use Rattle.stand.specs.Spot.{stood}
-use Rattle.stand.specs.Find.{located}
 use Rattle.stand.specs.declared.spot.Stand.{Stand}
-use Rattle.stand.specs.declared.spot.Spot.{Spot}
-use Rattle.stand.specs.declared.spot.Spot.the-variants as S
-use Rattle.stand.specs.declared.locate.Found.{Found}
-use Rattle.stand.specs.declared.locate.Found.the-variants as F
-use Rattle.stand.proofs.Located.{found-cell-holds-the-stand}
-use Rattle.sight.specs.Listing.{unless, view-of-cell, view-of-spot, listing-numbers, listing-row-count, listed-from, listed}
+use Rattle.stand.proofs.Located.{found-place-holds-the-stand}
+use Rattle.sight.specs.Listing.{view-of-spot, listing-numbers, listing-row-count, refuse, rows-from, listed-from, listed}
 use Rattle.sight.specs.declared.view.View.{View}
 use Rattle.sight.specs.declared.view.View.the-variants as O
 use Rattle.sight.specs.declared.list.Listed.{Listed}
 use Rattle.sight.proofs.Sightings.{rows-never-outnumber-corners, few-crossings}
-use Rattle.sight.proofs.Views.{setting-accepted, spot-says}
+use Rattle.sight.proofs.Views.{setting-accepted, spot-says, is-long}
 use Rattle.sight.proofs.Written.{the-numbers-are-three-a-row}
 use Rattle.morning.specs.Morning.{rows-of, crossings-of, rows-in, single}
 use Rattle.morning.specs.OverLines.{listed-on, single-on}
-
--- a table that has room for 3·corners numbers shows in no view
-pub enough-is-enough : (cs : List ℤ) (T : Cells) (n m : ℕ) → 3 * corner-count cs ≤ n → 3 * corner-count cs ≤ m → (t : Spot) → view-of-spot cs T n t ≡ view-of-spot cs T m t
-enough-is-enough cs T n m h k (S.At x y) = by-cell (located cs T (record { x = x; y = y }))
-  where
-    by-cell : (f : Found) → view-of-cell cs n x y f ≡ view-of-cell cs m x y f
-    by-cell (F.Cell c) = ap (λ (b : Bool). unless b Room (O.From x y c)) (le-ltb _ _ h ∙ sym (le-ltb _ _ k))
-    by-cell (F.Refused r) = refl
-enough-is-enough cs T n m h k S.Refused = refl
 
 -- a listing of few rows and crossings, that has three numbers a row
 pub record Small (cs : List ℤ) (one : Listed × List ℕ) : Type 0 where
@@ -66,28 +51,27 @@ module _ {cs : List ℤ} {T : Cells} {ds : List ℕ} (sound : Sound cs T ds) (w 
     abbrev blank : List ℕ
     blank = replicate (3 * corner-count cs) 0
 
-    by-view : (v : View) → view-of-spot cs T (length t) (stood cs s) ≡ v → AsSingle cs t (listed-from cs T ds w blank v) (listed-from cs T ds w t v)
-    by-view (O.From x y c) e =
+    blank-is-long : length blank ≡ 3 * corner-count cs
+    blank-is-long = length-replicate (3 * corner-count cs) 0
+
+    by-view : (v : View) → view-of-spot cs T ds w (stood cs s) ≡ v → AsSingle cs t (listed-from cs T ds w blank v) (listed-from cs T ds w t v)
+    by-view (O.From x y p) e =
         let q : Point = record { x = x; y = y } in
-        let in-cell = found-cell-holds-the-stand cs (sound .numbered) q (spot-says cs T s (length t) e .stand-cell) in
-        let few = rows-never-outnumber-corners sound w q c in-cell in
-        let long : length blank ≡ 3 * corner-count cs = length-replicate (3 * corner-count cs) 0 in
-        let three = the-numbers-are-three-a-row cs T ds w q c in
-        let new = first-is-new blank (listing-numbers cs T ds w q c) (3 * listing-row-count cs T ds w q c) three (omega arith) in
-        record {
-          small = record { few-rows = few; few-crossings = few-crossings sound w q c in-cell; three-a-row = ap length new ∙ three };
+        let stands = found-place-holds-the-stand cs (sound .numbered) ds w q (spot-says cs T ds w s e .stand-place) in
+        let few = rows-never-outnumber-corners sound w q p stands in
+        let three = the-numbers-are-three-a-row cs T ds w q p in
+        let new = first-is-new blank (listing-numbers cs T ds w q p) (3 * listing-row-count cs T ds w q p) three (omega (arith, few, blank-is-long)) in
+        subst₂ (λ (a b : Bool). AsSingle cs t (refuse a Room blank (rows-from cs T ds w blank q p)) (refuse b Room t (rows-from cs T ds w t q p))) (sym (is-long cs blank (omega (arith, blank-is-long)))) (sym (is-long cs t room))
+        (record {
+          small = record { few-rows = few; few-crossings = few-crossings sound w q p stands; three-a-row = ap length new ∙ three };
           same-answer = refl;
           same-rows = ap (sets t 0) (sym new);
-        }
+        })
     by-view (O.Refused r) e = record { small = record { few-rows = omega arith; few-crossings = omega arith; three-a-row = refl }; same-answer = refl; same-rows = refl }
 
     pub listed-on-as-single : AsSingle cs t (single-on cs T ds w s) (listed-on cs T ds w s t)
     unfolding single-on listed-on
-    listed-on-as-single =
-        let v = view-of-spot cs T (length t) (stood cs s) in
-        let long : length blank ≡ 3 * corner-count cs = length-replicate (3 * corner-count cs) 0 in
-        let same : view-of-spot cs T (length blank) (stood cs s) ≡ v = enough-is-enough cs T (length blank) (length t) (omega arith) room (stood cs s) in
-        subst (λ (u : View). AsSingle cs t (listed-from cs T ds w blank u) (listed-from cs T ds w t v)) (sym same) (by-view v refl)
+    listed-on-as-single = by-view (view-of-spot cs T ds w (stood cs s)) refl
 
   pub single-on-is-small : Small cs (single-on cs T ds w s)
   single-on-is-small = listed-on-as-single (replicate (3 * corner-count cs) 0) (omega (arith, length-replicate {A = ℕ} (3 * corner-count cs) 0)) .small
@@ -96,11 +80,11 @@ module _ {cs : List ℤ} {T : Cells} {ds : List ℕ} (sound : Sound cs T ds) (w 
 
 module _ (k : ℕ) (cs : List ℤ) (ts ds : List ℕ) (w : ℕ) {p : Plan} (accepted : checked k cs ts ds ≡ Accepted p) (right : wrong-setting w (length ds) ≡ false) (s : Stand) where
   -- whatever table has room, the listing is by the view of the stand
-  pub listed-by-spot : (t : List ℕ) → listed k cs ts ds w s t ≡ listed-from cs (cells-of k ts) ds w t (view-of-spot cs (cells-of k ts) (length t) (stood cs s))
+  pub listed-by-spot : (t : List ℕ) → listed k cs ts ds w s t ≡ listed-from cs (cells-of k ts) ds w t (view-of-spot cs (cells-of k ts) ds w (stood cs s))
   unfolding listed
   listed-by-spot t =
       ap (listed-from cs (cells-of k ts) ds w t)
-      (sym (setting-accepted k cs ts ds w s (length t) accepted (ap (wrong-setting w) (sym (accepted-doors k cs ts ds accepted))) right refl))
+      (sym (setting-accepted k cs ts ds w s accepted (ap (wrong-setting w) (sym (accepted-doors k cs ts ds accepted))) right refl))
 
   pub single-by-spot : single k cs ts ds w s ≡ single-on cs (cells-of k ts) ds w s
   unfolding single single-on listed-on

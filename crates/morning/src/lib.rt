@@ -11,9 +11,10 @@ ghost use Rattle.cells.specs.Cut.{cells-of};
 ghost use Rattle.cells.specs.Check.{framed};
 ghost use Rattle.cells.specs.Backed.{Backed};
 ghost use Rattle.cells.specs.Sound.{Sound};
+ghost use Rattle.lines.specs.Lined.{Lined};
 ghost use Rattle.checking.specs.Sizes.{sizes-of};
 ghost use Rattle.checking.specs.declared.Sizes.the-variants.{Of};
-ghost use Rattle.morning.specs.OverLines.{Drawn, over-lines, single-on, RoomFor};
+ghost use Rattle.morning.specs.OverLines.{listed-on, single-on, RoomFor};
 ghost use Rattle.morning.specs.Morning.{rows-of, crossings-of, three-of, rows-in-all, crossings-in-all, all-rows, all-replies, listed-stands};
 use checking::Sizes;
 use expand::Counts;
@@ -46,6 +47,9 @@ fn list_stand(
     corners: &[i32],
     faces: &[u16],
     firsts: &[u16],
+    backs: &[u16],
+    doors: &[u16],
+    setting: u64,
     lines: &[u16],
     stand: Stand,
     table: &mut [u16],
@@ -53,15 +57,16 @@ fn list_stand(
     at: usize,
     seen: &mut [i32],
 ) -> Counts
-    requires { ⌜ Drawn (now corners) (tabled (now faces) (now firsts)) (now lines) ⌝ }
-    requires { ⌜ at + 3 ≤ length (now replies) ⌝ }
+    requires { ⌜ Sound (now corners) (tabled (now faces) (now firsts)) (now doors) × Backed (tabled (now faces) (now firsts)) (now backs) ⌝ }
+    requires { ⌜ Lined (tabled (now faces) (now firsts)) (now doors) setting (now lines) ⌝ }
+    requires { ⌜ (3 * corner-count (now corners) ≤ length (now table)) × (at + 3 ≤ length (now replies)) ⌝ }
     requires { ⌜ length (now seen) ≡ length (now corners) ⌝ }
-    ensures { λ r. ⌜ ((d : Drawn (now (corners .entry)) (tabled (now (faces .entry)) (now (firsts .entry))) (now (lines .entry))) → r .rows ≡ rows-of (over-lines d stand (now (table .entry)) .0)) ⌝ }
-    ensures { λ r. ⌜ ((d : Drawn (now (corners .entry)) (tabled (now (faces .entry)) (now (firsts .entry))) (now (lines .entry))) → r .crossings ≡ crossings-of (over-lines d stand (now (table .entry)) .0)) ⌝ }
-    ensures { λ _. ⌜ ((d : Drawn (now (corners .entry)) (tabled (now (faces .entry)) (now (firsts .entry))) (now (lines .entry))) → now (table .exit) ≡ over-lines d stand (now (table .entry)) .1) ⌝ }
-    ensures { λ _. ⌜ ((d : Drawn (now (corners .entry)) (tabled (now (faces .entry)) (now (firsts .entry))) (now (lines .entry))) → now (replies .exit) ≡ sets (now (replies .entry)) at (three-of (over-lines d stand (now (table .entry)) .0))) ⌝ }
+    ensures { λ r. ⌜ r .rows ≡ rows-of (listed-on (now (corners .entry)) (tabled (now (faces .entry)) (now (firsts .entry))) (now (doors .entry)) setting stand (now (table .entry)) .0) ⌝ }
+    ensures { λ r. ⌜ r .crossings ≡ crossings-of (listed-on (now (corners .entry)) (tabled (now (faces .entry)) (now (firsts .entry))) (now (doors .entry)) setting stand (now (table .entry)) .0) ⌝ }
+    ensures { λ _. ⌜ now (table .exit) ≡ listed-on (now (corners .entry)) (tabled (now (faces .entry)) (now (firsts .entry))) (now (doors .entry)) setting stand (now (table .entry)) .1 ⌝ }
+    ensures { λ _. ⌜ now (replies .exit) ≡ sets (now (replies .entry)) at (three-of (listed-on (now (corners .entry)) (tabled (now (faces .entry)) (now (firsts .entry))) (now (doors .entry)) setting stand (now (table .entry)) .0)) ⌝ }
 {
-    match view_of_stand(corners, faces, firsts, stand, table.len()) {
+    match view_of_stand(corners, faces, firsts, backs, doors, setting, stand) {
         View::Refused(r) => {
             put(replies, at, reply::number(r), 0, 0);
             Counts {
@@ -69,9 +74,9 @@ fn list_stand(
                 crossings: 0,
             }
         }
-        View::From(x, y, c) => {
+        View::From(x, y, p) => {
             see(corners, [x, y], seen);
-            let counts = list_over(seen, lines, faces, firsts, table, c);
+            let counts = list_over(seen, lines, faces, firsts, table, p);
             put(replies, at, 0, counts.rows as u64, counts.crossings as u64);
             counts
         }
@@ -112,6 +117,9 @@ fn list_each(
             corners,
             faces,
             firsts,
+            backs,
+            doors,
+            setting,
             lines,
             stand,
             &mut table[row..],

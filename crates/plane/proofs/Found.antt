@@ -407,3 +407,16 @@ left-of-the-other-end-is-right a b v h₁ h₂ = prove (coordinates (a ∷ b ∷
 pub a-ray-along-a-line-has-one-side-left : (u d b c : Point) → cross u d ≡ 𝟘 → 𝟘 <ℤ cross u b → 𝟘 <ℤ cross d b → cross u c <ℤ 𝟘 → 𝟘 <ℤ cross d c → ⊥
 unfolding cross
 a-ray-along-a-line-has-one-side-left u d b c h₁ h₂ h₃ h₄ h₅ = refute (coordinates (u ∷ d ∷ b ∷ c ∷ [])) ((crossᵉ (pt 0) (pt 1) ≈ 𝟘ᵉ) ∷ (𝟘ᵉ ≺ crossᵉ (pt 0) (pt 2)) ∷ (𝟘ᵉ ≺ crossᵉ (pt 1) (pt 2)) ∷ (crossᵉ (pt 0) (pt 3) ≺ 𝟘ᵉ) ∷ (𝟘ᵉ ≺ crossᵉ (pt 1) (pt 3)) ∷ []) (given 2 ⊠ given 5 ⊞ given 3 ⊠ given 4 ⊞ by (crossᵉ (pt 2) (pt 3)) (given 1)) tt h₁ h₂ h₃ h₄ h₅
+
+-- from one direction to another on its left: the way there is left of both
+pub the-way-to-the-left-is-left-of-the-first : (u v : Point) → 𝟘 <ℤ cross u v → 𝟘 <ℤ cross u (minus v u)
+unfolding cross minus
+the-way-to-the-left-is-left-of-the-first u v h₁ = prove (coordinates (u ∷ v ∷ [])) ((𝟘ᵉ ≺ crossᵉ (pt 0) (pt 1)) ∷ []) (𝟘ᵉ ≺ crossᵉ (pt 0) (minusᵉ (pt 1) (pt 0))) (only (given 0 ⊞ given 1)) tt h₁
+
+pub the-way-to-the-left-is-left-of-the-second : (u v : Point) → 𝟘 <ℤ cross u v → 𝟘 <ℤ cross v (minus v u)
+unfolding cross minus
+the-way-to-the-left-is-left-of-the-second u v h₁ = prove (coordinates (u ∷ v ∷ [])) ((𝟘ᵉ ≺ crossᵉ (pt 0) (pt 1)) ∷ []) (𝟘ᵉ ≺ crossᵉ (pt 1) (minusᵉ (pt 1) (pt 0))) (only (given 0 ⊞ given 1)) tt h₁
+
+pub a-line-against-goes-along-when-turned : (a b v : Point) → dot (minus b a) v <ℤ 𝟘 → 𝟘 <ℤ dot (minus a b) v
+unfolding dot minus
+a-line-against-goes-along-when-turned a b v h₁ = prove (coordinates (a ∷ b ∷ v ∷ [])) ((dotᵉ (minusᵉ (pt 1) (pt 0)) (pt 2) ≺ 𝟘ᵉ) ∷ []) (𝟘ᵉ ≺ dotᵉ (minusᵉ (pt 0) (pt 1)) (pt 2)) (only (given 0 ⊞ given 1)) tt h₁

@@ -6,3 +6,7 @@ pub mod Found
 pub mod Cones
 -- the containment test: what each sign of a side value answers
 pub mod Sides
+-- whether a point is strictly within a side: by the side value, and by its ends, which lie in opposite directions
+pub mod Within
+-- differences of coordinates as the code has them, and their products
+mod Differences

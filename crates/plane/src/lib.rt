@@ -1,6 +1,7 @@
 ghost use mathlib.Core.Path.{_≡_};
-ghost use Rattle.plane.specs.Side.{side-of, AllNear};
-ghost use Rattle.plane.specs.Tests.{right-cell, by-value, beside-of};
+ghost use Rattle.plane.specs.Side.{corner, side-of, AllNear};
+ghost use Rattle.plane.specs.Cone.{minus, dot};
+ghost use Rattle.plane.specs.Tests.{right-cell, by-value, beside-of, within-of};
 
 // The side value of three points (document 01, "Side value and plan check").
 pub fn side_value(p: [[i64; 2]; 3]) -> i64
@@ -55,4 +56,37 @@ pub fn beside(p: [[i64; 2]; 3]) -> Containment
 {
     let value = side_value(p);
     placed(value)
+}
+
+// The dot product of a side's two ends, seen from a third point.
+fn ends_seen(p: [[i64; 2]; 3]) -> i64
+    requires { ⌜ AllNear p ⌝ }
+    ensures { λ r. ⌜ r ≡ dot (minus (corner p 0) (corner p 2)) (minus (corner p 1) (corner p 2)) ⌝ }
+{
+    let a = p[0];
+    let b = p[1];
+    let q = p[2];
+    let ux = a[0] - q[0];
+    let uy = a[1] - q[1];
+    let vx = b[0] - q[0];
+    let vy = b[1] - q[1];
+    let across = ux * vx;
+    let up = uy * vy;
+    across + up
+}
+
+// Is a point strictly within a side (document 02, A4)? It is on the side's line, and seen from it the ends lie in opposite directions.
+pub fn is_within(p: [[i64; 2]; 3]) -> bool
+    requires { ⌜ AllNear p ⌝ }
+    ensures { λ r. ⌜ r ≡ within-of p ⌝ }
+{
+    let value = side_value(p);
+    if value < 0 {
+        return false;
+    }
+    if 0 < value {
+        return false;
+    }
+    let seen = ends_seen(p);
+    seen < 0
 }

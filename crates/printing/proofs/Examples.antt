@@ -6,6 +6,8 @@ use borrow.Author.Tests.{lt-ltb}
 use lib.Ieee.{ofBits}
 use lib.ListN.{length}
 use Rattle.plane.specs.Side.{side}
+use Rattle.plane.specs.Cone.{minus, dot}
+use Rattle.plane.specs.Tests.{is-within}
 use Rattle.limits.specs.Limits.{sized}
 use Rattle.cells.specs.Least.{least}
 use Rattle.cells.specs.Lists.{home, next, start, neighbour, answers, back}
@@ -18,9 +20,9 @@ use Rattle.planfile.specs.File.{corners-in, cells-in, doors-in}
 use Rattle.planfile.proofs.PlanQ.{file}
 use Rattle.number.specs.Whole.{whole}
 use Rattle.stand.specs.Spot.{whole-point, stood}
-use Rattle.stand.specs.Find.{not-left-of, right-of, against, located}
-use Rattle.fan.specs.Sight.{fan, follow, sides, from-inside, numbers, row-count, crossings}
-use Rattle.sight.specs.Listing.{placed, viewed, listing-numbers, listing-row-count, listing-crossings, listed}
+use Rattle.stand.specs.Find.{not-left-of, right-of, against, strictly-within, within-free, located}
+use Rattle.fan.specs.Sight.{fan, follow, sides, lines-around, unentered, lines-seen, seen-from, numbers, row-count, crossings}
+use Rattle.sight.specs.Listing.{no-room, placed, viewed, listing-numbers, listing-row-count, listing-crossings, listed}
 use Rattle.text.specs.Word.{word}
 use Rattle.text.specs.Text.{digits, decimal, refusal-line, count-line, row-line, row-lines}
 use Rattle.printing.specs.Print.{most-input, begins, file-listed, printed}
@@ -35,7 +37,7 @@ query =
 
 -- query (6,3), setting 0, with plan Q prints exactly
 pub case-a-is-printed : printed (query ++ file) ≡ word "rows 4 crossings 1\n0 0 1\n1 1 2\n4 2 3\n5 3 0\n"
-unfolding ofBits side sized least home next start neighbour answers back cell-of cut-triangles cut-polygons cut pairs faces-of firsts-from tables cells-of framed-lists outside wrong-corner some-face wrong-for-side missing-corner wrong-side wrong-cell wrong-neighbour names wrong-door checked-cells checked shut wrong-setting bars ends whole whole-point stood not-left-of right-of against located fan follow sides from-inside numbers row-count crossings placed viewed listing-numbers listing-row-count listing-crossings listed number-at numbers-at signed end-of is-record is-cells framed corners-in cells-in doors-in digits decimal refusal-line count-line row-line row-lines begins file-listed printed
+unfolding ofBits side sized least home next start neighbour answers back cell-of cut-triangles cut-polygons cut pairs faces-of firsts-from tables cells-of framed-lists outside wrong-corner some-face wrong-for-side missing-corner wrong-side wrong-cell wrong-neighbour names wrong-door checked-cells checked shut wrong-setting bars ends whole whole-point stood not-left-of right-of against is-within strictly-within within-free minus dot located fan follow sides lines-around unentered lines-seen seen-from numbers row-count crossings placed viewed no-room listing-numbers listing-row-count listing-crossings listed number-at numbers-at signed end-of is-record is-cells framed corners-in cells-in doors-in digits decimal refusal-line count-line row-line row-lines begins file-listed printed
 case-a-is-printed = refl
 
 -- a missing query

@@ -72,7 +72,7 @@ module _ (file : List ℕ) (cs₀ : List ℤ) (ts₀ ds₀ : List ℕ) (room : (
         by-frame : (b : Bool) → framed file ≡ b → (L.Refused r, table) ≡ file-listed file w s table
         by-frame true fr =
             listing-refused (kind-in file) (corners-in file) (cells-in file) (doors-in file) w s table
-            (sym (plan-refused (kind-in file) (corners-in file) (cells-in file) (doors-in file) w s (length table) (sym (by-the-check fr) ∙ e)))
+            (sym (plan-refused (kind-in file) (corners-in file) (cells-in file) (doors-in file) w s (sym (by-the-check fr) ∙ e)))
             ∙ sym (framed-is-listed file w s table fr)
         by-frame false fr =
             let both : Refused R.Frame ≡ Refused r = sym (unframed file (length cs₀) (length ts₀) (length ds₀) fr) ∙ e in

@@ -1,9 +1,10 @@
 -- Demand 3 over any floor: the listing from a stand with a door open, and with it shut (document 01, "Changing a door").
 use mathlib.Core.Bool.{Bool, true}
-use mathlib.Core.List.{map}
-use mathlib.Core.Path.{_≡_, sym, _∙_, ap}
-use Prim.Native.Nat.{ℕ, _+_, _<_}
-use Rattle.fan.specs.Sight.{Floor, Sight, from-inside, numbers, crossings, Whole}
+use mathlib.Core.List.{List, map}
+use mathlib.Core.Path.{_≡_, refl, sym, _∙_, ap}
+use Prim.Native.Nat.{ℕ, _+_}
+use Rattle.fan.specs.Sight.{Floor, Sight, Standing, lines-around, unentered, lines-seen, seen-from, numbers, crossings}
+use Rattle.fan.specs.Sight.Standing.{inside, within}
 use Rattle.fan.specs.Once.{At}
 use Rattle.runs.specs.Route.{routed, row-numbers}
 use Rattle.runs.specs.Door.{same-to-door, on-door, untouched, those}
@@ -16,49 +17,54 @@ use Rattle.runs.proofs.Untouched.{untouched-rows-stay}
 use Rattle.runs.proofs.SideBySide.{an-end-is-no-door, shut-faces}
 use Rattle.runs.proofs.Shut.{shut-listing-is-pruned}
 use Rattle.runs.proofs.Opened.{open-rows-are-opened}
-use Rattle.runs.proofs.Through.{Listed, from-inside-goes-through}
+use Rattle.runs.proofs.Through.{Through, Lines, linked-alike, some-line, listing-goes-through}
 use Rattle.runs.proofs.Runs.{shut-rows-are-the-pruned-rows}
 use Rattle.runs.proofs.Visits as Visits
 
--- the first side of the stand's cell is a face, and nothing is cut of what is seen through its sides
-pub record Sides (N : ℕ) (F : Floor) (n f : ℕ) : Type 0 where
-  pub is-a-face : f < N
-  pub whole : Whole (from-inside F n f)
+-- where sight ends has no part in which lines are around the stand
+same-lines : (F : Floor) (ends : ℕ → Bool) (p : Standing) → lines-around (ending F ends) p ≡ lines-around F p
+unfolding lines-around
+same-lines F ends (inside f) = refl
+same-lines F ends (within s) = refl
 
-pub listed : {N : ℕ} {F : Floor} {n f : ℕ} → Faces N F → Sides N F n f → Listed F f (from-inside F n f)
-listed {n = n} {f = f} A L = from-inside-goes-through A n f (L .is-a-face) (L .whole)
-
--- one door of a floor, open and shut, seen from a stand in the cell whose first face is f
-pub record DoorChange (N f₀ g₀ : ℕ) (F : Floor) (once-shut : ℕ → Bool) (n f : ℕ) : Type 0 where
+-- one door of a floor of M cells, open and shut, seen from a stand
+pub record DoorChange (N f₀ g₀ : ℕ) (F : Floor) (once-shut : ℕ → Bool) (M : ℕ) (p : Standing) : Type 0 where
   pub shuts : Shuts N f₀ g₀ (F .ends) once-shut
   pub faces : Faces N F
-  pub sides-of-the-cell : Sides N F n f
+  pub lines : Lines N F (unentered M p) (lines-around F p)
 
-module _ {N f₀ g₀ : ℕ} {F : Floor} {once-shut : ℕ → Bool} {n f : ℕ} (D : DoorChange N f₀ g₀ F once-shut n f) where
+module _ {N f₀ g₀ : ℕ} {F : Floor} {once-shut : ℕ → Bool} {M : ℕ} {p : Standing} (D : DoorChange N f₀ g₀ F once-shut M p) where
   S : Shuts N f₀ g₀ (F .ends) once-shut
   S = D .shuts
 
   A : Faces N F
   A = D .faces
 
-  L : Sides N F n f
-  L = D .sides-of-the-cell
+  L : Lines N F (unentered M p) (lines-around F p)
+  L = D .lines
 
   -- the listing while the door is open, and once it is shut
   abbrev pub while-open : Sight
-  while-open = from-inside F n f
+  while-open = seen-from F M p
 
   abbrev pub once : Sight
-  once = from-inside (ending F once-shut) n f
+  once = seen-from (ending F once-shut) M p
+
+  through : Through (F .ends) (lines-around F p) (L .right) (L .left) while-open
+  unfolding seen-from
+  through = listing-goes-through A L
 
   -- ---- shutting
 
   pub shutting-prunes : once ≡ prune f₀ g₀ while-open
-  shutting-prunes = shut-listing-is-pruned F S A n f (L .is-a-face) (L .whole)
+  unfolding seen-from
+  shutting-prunes =
+      ap (lines-seen (ending F once-shut) (unentered M p)) (same-lines F once-shut p)
+      ∙ shut-listing-is-pruned F S A (unentered M p) (lines-around F p) (some-line (L .linked)) (L .are-faces) (L .whole)
 
   -- the listing under the shut setting is the listing under the open one with each run replaced by one row
   pub shutting-replaces-each-run : routed once ≡ shut-rows f₀ g₀ (routed while-open)
-  shutting-replaces-each-run = ap routed shutting-prunes ∙ shut-rows-are-the-pruned-rows f₀ g₀ (listed A L .through)
+  shutting-replaces-each-run = ap routed shutting-prunes ∙ shut-rows-are-the-pruned-rows f₀ g₀ through
 
   pub shut-numbers-are-the-numbers : numbers once ≡ row-numbers (shut-rows f₀ g₀ (routed while-open))
   shut-numbers-are-the-numbers = sym (routed-numbers-are-the-numbers once) ∙ ap row-numbers shutting-replaces-each-run
@@ -71,20 +77,30 @@ module _ {N f₀ g₀ : ℕ} {F : Floor} {once-shut : ℕ → Bool} {n f : ℕ} 
   pub rows-on-the-shut-door-are-the-runs : those (on-door f₀ g₀) (routed once) ≡ map (door-row f₀ g₀) (runs f₀ g₀ (routed while-open))
   rows-on-the-shut-door-are-the-runs =
       ap (λ (t : Sight). those (on-door f₀ g₀) (routed t)) shutting-prunes
-      ∙ Visits.rows-on-the-door-are-the-runs f₀ g₀ (listed A L .through) (an-end-is-no-door S)
+      ∙ Visits.rows-on-the-door-are-the-runs f₀ g₀ through (an-end-is-no-door S)
 
   -- nothing is cut once the door is shut
-  pub shut-sides : Sides N (ending F once-shut) n f
-  shut-sides = record { is-a-face = L .is-a-face; whole = rw shutting-prunes (pruned-is-whole f₀ g₀ (L .whole)) }
+  shut-lines : Lines N (ending F once-shut) (unentered M p) (lines-around F p)
+  unfolding seen-from
+  shut-lines =
+      record {
+        are-faces = L .are-faces;
+        right = L .right;
+        left = L .left;
+        linked = linked-alike (L .linked);
+        once = L .once;
+        whole = rw (← same-lines F once-shut p) (rw shutting-prunes (pruned-is-whole f₀ g₀ (L .whole)));
+      }
 
-  shut-listed : Listed (ending F once-shut) f (prune f₀ g₀ while-open)
-  shut-listed = rw (← shutting-prunes) (listed (shut-faces F S A) shut-sides)
+  shut-through : Through once-shut (lines-around F p) (shut-lines .right) (shut-lines .left) (prune f₀ g₀ while-open)
+  unfolding seen-from
+  shut-through = rw (← shutting-prunes, same-lines F once-shut p) (listing-goes-through (shut-faces F S A) shut-lines)
 
   -- no two runs have the same route up to and including the door
   pub runs-have-routes-of-their-own : {k k′ : Piece} {i j : ℕ} → At k (runs f₀ g₀ (routed while-open)) i → At k′ (runs f₀ g₀ (routed while-open)) j
       → same-to-door f₀ g₀ (k .first .route) (k′ .first .route) ≡ true → i ≡ j
-  runs-have-routes-of-their-own p q same =
-      Visits.runs-have-routes-of-their-own f₀ g₀ (listed A L .through) (an-end-is-no-door S) (shut-listed .through) p q same
+  runs-have-routes-of-their-own a b same =
+      Visits.runs-have-routes-of-their-own f₀ g₀ through (an-end-is-no-door S) shut-through a b same
 
   -- the crossings
   pub crossings-once-shut-are-those-left : crossings once ≡ crossings-left f₀ g₀ while-open
@@ -97,12 +113,15 @@ module _ {N f₀ g₀ : ℕ} {F : Floor} {once-shut : ℕ → Bool} {n f : ℕ} 
   -- ---- opening
 
   -- the listing under the open setting is the listing under the shut one with each row on the door replaced by its run
-  pub opening-replaces-each-door-row : routed while-open ≡ open-rows F f₀ g₀ n (routed once)
-  opening-replaces-each-door-row = open-rows-are-opened F S A n f (L .is-a-face)
+  pub opening-replaces-each-door-row : routed while-open ≡ open-rows F f₀ g₀ (unentered M p) (routed once)
+  unfolding seen-from
+  opening-replaces-each-door-row =
+      open-rows-are-opened F S A (unentered M p) (lines-around F p) (some-line (L .linked)) (L .are-faces)
+      ∙ ap (λ (es : List ℕ). open-rows F f₀ g₀ (unentered M p) (routed (lines-seen (ending F once-shut) (unentered M p) es))) (sym (same-lines F once-shut p))
 
   -- shutting and then opening returns the first list, and so does opening and then shutting
-  pub shut-then-opened : open-rows F f₀ g₀ n (shut-rows f₀ g₀ (routed while-open)) ≡ routed while-open
-  shut-then-opened = ap (open-rows F f₀ g₀ n) (sym shutting-replaces-each-run) ∙ sym opening-replaces-each-door-row
+  pub shut-then-opened : open-rows F f₀ g₀ (unentered M p) (shut-rows f₀ g₀ (routed while-open)) ≡ routed while-open
+  shut-then-opened = ap (open-rows F f₀ g₀ (unentered M p)) (sym shutting-replaces-each-run) ∙ sym opening-replaces-each-door-row
 
-  pub opened-then-shut : shut-rows f₀ g₀ (open-rows F f₀ g₀ n (routed once)) ≡ routed once
+  pub opened-then-shut : shut-rows f₀ g₀ (open-rows F f₀ g₀ (unentered M p) (routed once)) ≡ routed once
   opened-then-shut = ap (shut-rows f₀ g₀) (sym opening-replaces-each-door-row) ∙ sym shutting-replaces-each-run

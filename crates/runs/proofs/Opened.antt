@@ -5,8 +5,9 @@ use mathlib.Core.Path.{_≡_, refl, sym, _∙_, ap}
 use Prim.Native.Nat.{ℕ, suc, _-_, _<_}
 use native.Mathlib.Omega.{arith}
 use lib.ListN.{length}
-use Rattle.fan.specs.Sight.{Floor, Sight, follow, from-inside}
+use Rattle.fan.specs.Sight.{Floor, Sight, follow, lines-seen}
 use Rattle.fan.specs.Sight.Sight.{row}
+use Rattle.fan.specs.Once.{At}
 use Rattle.runs.specs.Route.{Routed, via, routed}
 use Rattle.runs.specs.Door.{is-door, on-door}
 use Rattle.runs.specs.Opening.{behind, run-of, open-rows}
@@ -67,10 +68,12 @@ module _ {N f₀ g₀ : ℕ} (F : Floor) {once-shut : ℕ → Bool} (S : Shuts N
   abbrev OpenedRows : ℕ → Sight → Sight → Type 0
   OpenedRows n t t′ = routed t ≡ open-rows F f₀ g₀ n (routed t′)
 
-  pub open-rows-are-opened : (n f : ℕ) → f < N → routed (from-inside F n f) ≡ open-rows F f₀ g₀ n (routed (from-inside (ending F once-shut) n f))
+  pub open-rows-are-opened :
+      (n : ℕ) (es : List ℕ) → 0 < length es → ((e i : ℕ) → At e es i → e < N) →
+      routed (lines-seen F n es) ≡ open-rows F f₀ g₀ n (routed (lines-seen (ending F once-shut) n es))
   unfolding routed open-rows
-  open-rows-are-opened n f h =
+  open-rows-are-opened n es some faces =
       listings-side-by-side F S A OpenedRows (λ n f r l d. sym (row-elsewhere F f₀ g₀ n f r l d)) refl (λ n f r l d. sym (run-of-a-row F f₀ g₀ n f r l d))
       (λ n f r l t t′ d p. ap (map (via f)) p ∙ sym (open-rows-further-on F f₀ g₀ n f (routed t′)))
       (λ n t t′ u u′ p q. rw (p, q) (sym (open-rows-of-both F f₀ g₀ n (routed t′) (routed u′))))
-      n f h
+      n es some faces

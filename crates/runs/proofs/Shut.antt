@@ -1,10 +1,13 @@
 -- The listing with the door shut is the listing with it open, pruned.
 use mathlib.Core.Bool.{Bool, true, false}
+use mathlib.Core.List.{List}
 use mathlib.Core.Path.{_≡_, refl, sym, _∙_, ap}
 use Prim.Native.Nat.{ℕ, zero, suc, _<_}
-use Rattle.fan.specs.Sight.{Floor, Sight, follow, from-inside, Whole}
+use lib.ListN.{length}
+use Rattle.fan.specs.Sight.{Floor, Sight, follow, lines-seen, Whole}
 use Rattle.fan.specs.Sight.Sight.{row, pass, both, cut}
 use Rattle.fan.specs.Sight.Whole.{whole-pass, whole-both}
+use Rattle.fan.specs.Once.{At}
 use Rattle.fan.proofs.Trees.{follow-too-far, follow-across}
 use Rattle.runs.specs.Door.{is-door}
 use Rattle.runs.specs.Shutting.{prune}
@@ -29,7 +32,9 @@ module _ {N f₀ g₀ : ℕ} (F : Floor) {once-shut : ℕ → Bool} (S : Shuts N
   unfolding prune
   over-a-split n t t′ u u′ p q (whole-both w v) = rw (p w, q v)
 
-  pub shut-listing-is-pruned : (n f : ℕ) → f < N → Whole (from-inside F n f) → from-inside (ending F once-shut) n f ≡ prune f₀ g₀ (from-inside F n f)
+  pub shut-listing-is-pruned :
+      (n : ℕ) (es : List ℕ) → 0 < length es → ((e i : ℕ) → At e es i → e < N) → Whole (lines-seen F n es) →
+      lines-seen (ending F once-shut) n es ≡ prune f₀ g₀ (lines-seen F n es)
   unfolding prune
-  shut-listing-is-pruned n f h w =
-      listings-side-by-side F S A Pruned (λ n f r l d w. refl) (λ w. refl) at-the-door over-a-passage over-a-split n f h w
+  shut-listing-is-pruned n es some faces w =
+      listings-side-by-side F S A Pruned (λ n f r l d w. refl) (λ w. refl) at-the-door over-a-passage over-a-split n es some faces w

@@ -1,11 +1,16 @@
 -- One line followed on two floors side by side, with a door open and with it shut: the one induction that shutting and opening go by.
 use mathlib.Core.Bool.{Bool, true, false, true≢false}
+use mathlib.Core.List.{List, [], _∷_}
 use mathlib.Core.Logic.{_⊎_, inl, inr}
 use mathlib.Core.Path.{_≡_, refl, sym, _∙_, ap}
 use Prim.Native.Nat.{ℕ, zero, suc, _<_}
-use Rattle.fan.specs.Sight.{Floor, Place, Sight, fan, follow, hand-on, sides, from-inside}
+use native.Mathlib.Omega.{arith}
+use lib.ListN.{length}
+use Rattle.fan.specs.Sight.{Floor, Place, Sight, fan, follow, hand-on, lines-seen}
 use Rattle.fan.specs.Sight.Place.{between, right-of-r, left-of-l}
 use Rattle.fan.specs.Sight.Sight.{row, pass, both, cut}
+use Rattle.fan.specs.Once.{At}
+use Rattle.fan.specs.Once.At.{first, later}
 use Rattle.fan.specs.Walk.{Among}
 use Rattle.fan.specs.Walk.Among.{this, after}
 use Rattle.fan.proofs.Trees.{follow-a-wall, follow-too-far, follow-across, fan-last, fan-both, fan-skips, fan-ends}
@@ -63,7 +68,6 @@ module _ {N f₀ g₀ : ℕ} (F : Floor) {once-shut : ℕ → Bool} (S : Shuts N
         next-is-a-face = A .next-is-a-face;
         as-many-sides = A .as-many-sides;
         never-itself = λ g h a. A .never-itself g h (same-sides a);
-        next-starts = A .next-starts;
       }
 
   module _ (P : ℕ → Sight → Sight → Type 0)
@@ -113,12 +117,10 @@ module _ {N f₀ g₀ : ℕ} (F : Floor) {once-shut : ℕ → Bool} (S : Shuts N
             rw (follow-across F n f r l e, follow-across F′ n f r l (same-elsewhere S f h d ∙ e))
             (over-a-passage n f r l _ _ d (fans n below (F .more (F .back f)) _ r l (A .next-is-a-face _ (A .back-is-a-face f h e))))
 
-    sides-side-by-side : (n m e : ℕ) → e < N → P n (sides F n m e) (sides F′ n m e)
-    unfolding sides
-    sides-side-by-side n zero e h = side-by-side n e _ _ h
-    sides-side-by-side n (suc m) e h = over-a-split n _ _ _ _ (side-by-side n e _ _ h) (sides-side-by-side n m (F .next e) (A .next-is-a-face e h))
-
-    -- what is seen from the stand, side by side
-    pub listings-side-by-side : (n f : ℕ) → f < N → P n (from-inside F n f) (from-inside F′ n f)
-    unfolding from-inside
-    listings-side-by-side n f h = sides-side-by-side n (suc (F .more f)) f h
+    -- what is seen through lines, side by side
+    pub listings-side-by-side : (n : ℕ) (es : List ℕ) → 0 < length es → ((e i : ℕ) → At e es i → e < N) → P n (lines-seen F n es) (lines-seen F′ n es)
+    unfolding lines-seen
+    listings-side-by-side n [] h faces = absurd (omega arith)
+    listings-side-by-side n (e ∷ []) h faces = side-by-side n e _ _ (faces e 0 first)
+    listings-side-by-side n (e ∷ x ∷ es) h faces =
+        over-a-split n _ _ _ _ (side-by-side n e _ _ (faces e 0 first)) (listings-side-by-side n (x ∷ es) (omega arith) (λ y i p. faces y (suc i) (later p)))

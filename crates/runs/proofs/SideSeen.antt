@@ -3,7 +3,7 @@ use mathlib.Core.Bool.{true}
 use mathlib.Core.List.{List, [], _∷_}
 use mathlib.Core.Logic.{_⊎_, inl, inr}
 use mathlib.Core.Path.{_≡_, sym, _∙_, ap, subst}
-use Prim.Native.Nat.{ℕ, suc, _<_}
+use Prim.Native.Nat.{ℕ, _<_}
 use native.Mathlib.Omega.{arith}
 use lib.ListN.{length, getD}
 use lib.Signed.{_<ℤ_, clashℤ}
@@ -11,15 +11,15 @@ use Rattle.exact.proofs.Order.{𝟘, less-is-at-most}
 use Rattle.plane.specs.Side.{Point}
 use Rattle.plane.specs.Cone.{cross}
 use Rattle.plane.proofs.Found.{left-turned-is-right}
-use Rattle.fan.specs.Sight.{Floor, Sight, follow, from-inside}
+use Rattle.fan.specs.Sight.{Floor, Sight, Standing, follow, lines-around, unentered, seen-from}
 use Rattle.fan.specs.Sight.Sight.{row, pass, both, cut}
 use Rattle.fan.specs.Once.{At}
 use Rattle.fan.proofs.Places.{at-no-place, at-the-only-place, either-list, read-is-at}
-use Rattle.fan.proofs.RowCounts.{over-sides}
+use Rattle.fan.proofs.RowCounts.{over-lines}
 use Rattle.fan.proofs.Geometry.{Geometry, InSight}
 use Rattle.fan.proofs.Tree.{Source, Grown, grown}
 use Rattle.fan.proofs.Tree.Grown.{ends, too-many, crosses, keeps, splits}
-use Rattle.fan.proofs.Start.{Start, start-run, side-in-sight}
+use Rattle.fan.proofs.Around.{Stands, around-the-stand}
 use Rattle.fan.proofs.Twice.{AllDifferent, WayDown, no-line-of-sight-enters-a-cell-twice}
 use Rattle.fan.proofs.Twice.WayDown.{at-a-row, across, right-of-the-split, left-of-the-split}
 use Rattle.runs.specs.Route.{Routed, routed, way}
@@ -98,29 +98,31 @@ module _ {F : Floor} {N M : ℕ} {see : ℕ → Point} {cell : ℕ → ℕ} (G :
 
   -- ---- the listing
 
-  module _ {f : ℕ} (S : Start F N see f) (n : ℕ) where
-    -- what the ways through each side have
-    every-way-from-inside : (P : List ℕ → Type 0)
-        → ((e : ℕ) → InSight G e (F .right-end e) (F .left-end e) → EveryWay P (follow F n e (F .right-end e) (F .left-end e))) → EveryWay P (from-inside F n f)
-    unfolding from-inside
-    every-way-from-inside P each = over-sides F (EveryWay P) (every-way-of-both P) n (suc (F .more f)) f (λ e a. each e (side-in-sight G (start-run G S) a))
+  module _ {p : Standing} (S : Stands F N see p) where
+    -- what the ways through each line have
+    every-way-from-the-stand : (P : List ℕ → Type 0)
+        → ((e : ℕ) → InSight G e (F .right-end e) (F .left-end e) → EveryWay P (follow F (unentered M p) e (F .right-end e) (F .left-end e))) → EveryWay P (seen-from F M p)
+    unfolding seen-from
+    every-way-from-the-stand P each =
+        let A = around-the-stand G S in
+        over-lines F (EveryWay P) (every-way-of-both P) (unentered M p) (lines-around F p) (A .some-line) (λ e i a. each e (A .in-sight e i a))
 
     -- every face on the way to a row is seen
-    pub way-is-seen : {i j e : ℕ} {x : Routed} → At x (routed (from-inside F n f)) i → At e (way x) j → Facing F see e
-    way-is-seen p q = every-way-from-inside (AllFacing F see) (λ e s. tree-way-is-seen (grown G n e _ _ s)) _ _ p _ _ q
+    pub way-is-seen : {i j e : ℕ} {x : Routed} → At x (routed (seen-from F M p)) i → At e (way x) j → Facing F see e
+    way-is-seen p q = every-way-from-the-stand (AllFacing F see) (λ e s. tree-way-is-seen (grown G _ e _ _ s)) _ _ p _ _ q
 
     -- no way enters a cell twice
-    pub no-way-enters-a-cell-twice : {i : ℕ} {x : Routed} → At x (routed (from-inside F n f)) i → AllDifferent cell (way x)
+    pub no-way-enters-a-cell-twice : {i : ℕ} {x : Routed} → At x (routed (seen-from F M p)) i → AllDifferent cell (way x)
     no-way-enters-a-cell-twice p =
-        every-way-from-inside (AllDifferent cell)
+        every-way-from-the-stand (AllDifferent cell)
         (λ s c x i o.
         let (e, q, w, same) = way-goes-down _ o in
-        rw same (no-line-of-sight-enters-a-cell-twice G n s _ _ c e q w))
+        rw same (no-line-of-sight-enters-a-cell-twice G _ s _ _ c e q w))
         _ _ p
 
     module _ (f₀ g₀ : ℕ) (reversed-start : F .right-end g₀ ≡ F .left-end f₀) (reversed-finish : F .left-end g₀ ≡ F .right-end f₀) where
       -- no route crosses the door twice, nor ends on it after crossing it
-      pub no-way-meets-the-door-twice : {i : ℕ} {x : Routed} → At x (routed (from-inside F n f)) i → (a b : ℕ) → a < b → b < length (way x)
+      pub no-way-meets-the-door-twice : {i : ℕ} {x : Routed} → At x (routed (seen-from F M p)) i → (a b : ℕ) → a < b → b < length (way x)
           → is-door f₀ g₀ (getD (way x) a 0) ≡ true → is-door f₀ g₀ (getD (way x) b 0) ≡ true → ⊥
       no-way-meets-the-door-twice {x = x} p a b h k d d′ =
           no-way-enters-a-cell-twice p a b h k

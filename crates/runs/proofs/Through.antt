@@ -4,20 +4,21 @@ use mathlib.Core.List.{List, [], _∷_, _++_, map}
 use mathlib.Core.Path.{_≡_, refl, sym, ap, subst}
 use Prim.Native.Nat.{ℕ, zero, suc, _≤_, _<_}
 use native.Mathlib.Omega.{arith}
-use Rattle.fan.specs.Sight.{Floor, Place, Sight, fan, follow, hand-on, sides, from-inside, Whole}
+use lib.ListN.{length}
+use Rattle.fan.specs.Sight.{Floor, Place, Sight, fan, follow, hand-on, lines-seen, Whole}
 use Rattle.fan.specs.Sight.Place.{between, right-of-r, left-of-l}
 use Rattle.fan.specs.Sight.Sight.{row, pass, both, cut}
 use Rattle.fan.specs.Sight.Whole.{whole-pass, whole-both}
 use Rattle.fan.specs.Walk.{Among}
 use Rattle.fan.specs.Walk.Among.{this, after}
 use Rattle.fan.specs.Once.{At}
-use Rattle.fan.specs.Once.At.{first}
-use Rattle.fan.proofs.Geometry.{around, among-more}
+use Rattle.fan.specs.Once.At.{first, later}
+use Rattle.fan.proofs.Geometry.{among-more}
 use Rattle.fan.proofs.Places.{at-the-only-place, either-list, first-joined, second-joined}
 use Rattle.fan.proofs.Trees.{follow-a-wall, follow-too-far, follow-across, fan-last, fan-both, fan-skips, fan-ends}
 use Rattle.runs.specs.Route.{Routed, via, routed, way}
 use Rattle.runs.specs.Shutting.{last}
-use Rattle.runs.specs.Floors.{Faces}
+use Rattle.runs.specs.Floors.{ending, Faces}
 use Rattle.runs.proofs.Lists.{at-mapped, first-or-after}
 
 -- no face is in both lists
@@ -41,9 +42,33 @@ pub record ThroughSides (F : Floor) (m e r l : ℕ) (t : Sight) : Type 0 where
   pub are-sides : (x i : ℕ) → At x lines i → Among F m e x
   pub through : Through (F .ends) lines r l t
 
--- t is seen through sides of the cell whose first face is f, all the way round
-abbrev pub Listed : Floor → ℕ → Sight → Type 0
-Listed F f t = ThroughSides F (suc (F .more f)) f (F .right-end f) (F .left-end (around F (suc (F .more f)) f)) t
+-- lines one behind the other from the limit r to the limit l: each starts where the one before it ends
+pub data Linked (F : Floor) : List ℕ → ℕ → ℕ → Type 0 where
+  alone : {e : ℕ} → Linked F (e ∷ []) (F .right-end e) (F .left-end e)
+  in-front : {e l : ℕ} {es : List ℕ} → Linked F es (F .left-end e) l → Linked F (e ∷ es) (F .right-end e) l
+
+pub linked-joined : {F : Floor} {xs ys : List ℕ} {r v l : ℕ} → Linked F xs r v → Linked F ys v l → Linked F (xs ++ ys) r l
+linked-joined alone q = in-front q
+linked-joined (in-front p) q = in-front (linked-joined p q)
+
+-- there is one
+pub some-line : {F : Floor} {es : List ℕ} {r l : ℕ} → Linked F es r l → 0 < length es
+some-line alone = omega arith
+some-line (in-front p) = omega arith
+
+-- where sight ends has no part in it
+pub linked-alike : {F : Floor} {ends : ℕ → Bool} {es : List ℕ} {r l : ℕ} → Linked F es r l → Linked (ending F ends) es r l
+linked-alike alone = alone
+linked-alike (in-front p) = in-front (linked-alike p)
+
+-- the lines around a stand: faces, one behind the other, none of them twice, and nothing is cut of what is seen through them
+pub record Lines (N : ℕ) (F : Floor) (n : ℕ) (es : List ℕ) : Type 0 where
+  pub are-faces : (e i : ℕ) → At e es i → e < N
+  pub right : ℕ
+  pub left : ℕ
+  pub linked : Linked F es right left
+  pub once : (e i j : ℕ) → At e es i → At e es j → i ≡ j
+  pub whole : Whole (lines-seen F n es)
 
 module _ {F : Floor} {e r l : ℕ} {t : Sight} where
   -- through the first side alone
@@ -123,17 +148,22 @@ module _ {N : ℕ} {F : Floor} (A : Faces N F) where
       by-end below true e = rw (follow-a-wall F (suc n) f r l e) (wall e)
       by-end below false e = rw (follow-across F n f r l e) (beyond below e (rw (follow-across F n f r l e) at w))
 
-  sides-go-through : (n m e : ℕ) → Round m e → Whole (sides F n m e) → ThroughSides F m e (F .right-end e) (F .left-end (around F m e)) (sides F n m e)
-  unfolding sides around
-  sides-go-through n zero e o w = through-the-first (follow-goes-through n e _ _ (o .is-a-face) w)
-  sides-go-through n (suc m) e o (whole-both w₁ w₂) =
-      through-first-and-rest o (follow-goes-through n e _ _ (o .is-a-face) w₁)
-      (rw (← A .next-starts e (o .is-a-face)) (sides-go-through n m (F .next e) (one-further o) w₂))
+  lines-go-through :
+      (n : ℕ) (es : List ℕ) {r l : ℕ} → ((e i : ℕ) → At e es i → e < N) → ((e i j : ℕ) → At e es i → At e es j → i ≡ j) → Linked F es r l →
+      Whole (lines-seen F n es) → Through (F .ends) es r l (lines-seen F n es)
+  unfolding lines-seen
+  lines-go-through n (e ∷ []) faces once alone w = follow-goes-through n e _ _ (faces e 0 first) w
+  lines-go-through n (e ∷ []) faces once (in-front p) w = elim p [ ]
+  lines-go-through n (e ∷ x ∷ es) faces once (in-front p) (whole-both w₁ w₂) =
+      shared apart (follow-goes-through n e _ _ (faces e 0 first) w₁)
+      (lines-go-through n (x ∷ es) (λ y i q. faces y (suc i) (later q)) (λ y i j q q′. omega (arith, once y (suc i) (suc j) (later q) (later q′))) p w₂)
+    where
+      apart : NoneInBoth (e ∷ []) (x ∷ es)
+      apart y i j q q′ = let here = subst (λ (z : ℕ). At z (e ∷ x ∷ es) 0) (sym (at-the-only-place q)) first in omega (arith, once y 0 (suc j) here (later q′))
 
-  -- what is seen from the stand goes through the sides of its cell
-  pub from-inside-goes-through : (n f : ℕ) → f < N → Whole (from-inside F n f) → Listed F f (from-inside F n f)
-  unfolding from-inside
-  from-inside-goes-through n f h w = sides-go-through n (suc (F .more f)) f (record { is-a-face = h; once-at-most = omega arith }) w
+  -- what is seen from the stand goes through the lines around it
+  pub listing-goes-through : {n : ℕ} {es : List ℕ} (L : Lines N F n es) → Through (F .ends) es (L .right) (L .left) (lines-seen F n es)
+  listing-goes-through {n} {es} L = lines-go-through n es (L .are-faces) (L .once) (L .linked) (L .whole)
 
 -- ---- its limits
 

@@ -27,7 +27,7 @@ pub record Shuts (N f₀ g₀ : ℕ) (while-open once-shut : ℕ → Bool) : Typ
   pub shut-back : once-shut g₀ ≡ true
   pub elsewhere : (f : ℕ) → f < N → (f ≡ f₀ → ⊥) → (f ≡ g₀ → ⊥) → once-shut f ≡ while-open f
 
--- the N faces of a floor: across a free face, and next to a face in its cell, are faces; the sides of a cell differ and follow each other
+-- the N faces of a floor: across a free face, and next to a face in its cell, are faces; the sides of a cell differ
 pub record Faces (N : ℕ) (F : Floor) : Type 0 where
   pub back-is-a-face : (f : ℕ) → f < N → F .ends f ≡ false → F .back f < N
   pub next-is-a-face : (g : ℕ) → g < N → F .next g < N
@@ -35,5 +35,3 @@ pub record Faces (N : ℕ) (F : Floor) : Type 0 where
   pub as-many-sides : (g : ℕ) → g < N → F .more (F .next g) ≡ F .more g
   -- going round from a face, it does not come again among the others
   pub never-itself : (g : ℕ) → g < N → Other F g g → ⊥
-  -- a side starts where the one before it ends
-  pub next-starts : (g : ℕ) → g < N → F .right-end (F .next g) ≡ F .left-end g

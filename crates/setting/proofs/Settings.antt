@@ -1,5 +1,5 @@
 -- Laws of the door setting: a door that is shut or opened, the others, wrong settings, and where sight ends.
-use mathlib.Core.Bool.{Bool, true, false, not, _&&_, _||_, and-false, or-true}
+use mathlib.Core.Bool.{Bool, true, false, not, _&&_, _||_, and-false, or-true, or-comm}
 use mathlib.Core.List.{List}
 use mathlib.Core.Logic.{_↔_}
 use mathlib.Core.Path.{_≡_, refl, sym, ap, _∙_, subst, fun-ext}
@@ -12,14 +12,17 @@ use borrow.Author.Tests.{eq-eqb, ne-eqb, lt-ltb, le-ltb, eqb-true, eqb-false, lt
 use lib.Arith.{bin-ind}
 use lib.Bits.{bitAnd, bitOr, and-high, and-le-l, and-step, or-add-and, or-lt}
 use lib.Dec.{eqb, ltb, lit<}
+use lib.IntN.{ℤ}
 use lib.ListN.{length, getD}
 use lib.Pow.{pow-pos, pow-mono, pow-lt, shl-exact, shr-shr}
 use Rattle.limits.specs.Limits.{wall}
 use Rattle.cells.specs.Least.{least}
-use Rattle.cells.specs.Lists.{Cells, neighbour, back}
+use Rattle.cells.specs.Lists.{Cells, face-count, neighbour, back}
 use Rattle.cells.specs.Check.{names}
+use Rattle.cells.specs.Sound.{Sound}
 use Rattle.setting.specs.Setting.{shut, with-shut, with-open, wrong-setting, bars, ends}
-use Rattle.cells.proofs.Least.{not-both, none-holds, least-is-none}
+use Rattle.cells.proofs.Least.{not-both, none-holds, least-is-none, Seeks, seek-goes-on, seek-found}
+use Rattle.cells.proofs.Plans.{back-is-free, back-of-back}
 use Rattle.cells.proofs.Doors.{names-the-face, names-the-back, names-neither}
 
 -- ---- bit by bit
@@ -289,6 +292,10 @@ module _ (ds : List ℕ) (w f g e : ℕ) where
   unfolding bars
   a-door-elsewhere-bars-nothing h = simp (h, and-false (shut w e))
 
+  pub a-shut-door-bars-what-it-names : shut w e ≡ true → bars ds w f g e ≡ names ds f g e
+  unfolding bars
+  a-shut-door-bars-what-it-names h = ap (λ (a : Bool). a && names ds f g e) h
+
 module _ (T : Cells) (ds : List ℕ) (w f : ℕ) where
   pub sight-ends-at-a-wall : neighbour T f ≡ wall → ends T ds w f ≡ true
   unfolding ends
@@ -309,6 +316,27 @@ module _ (T : Cells) (ds : List ℕ) (w f : ℕ) where
       omega (arith, least-is-none (bars ds w f (back T f)) (length ds) 0 (λ e h l. none e (omega arith)))
       in
       simp (ne-eqb _ _ free, le-ltb _ _ all)
+
+  -- at a face that is not wall the doors that are shut decide
+  sight-by-the-doors : (neighbour T f ≡ wall → ⊥) → ends T ds w f ≡ ltb (least (bars ds w f (back T f)) (length ds) 0) (length ds)
+  unfolding ends
+  sight-by-the-doors free = simp (ne-eqb _ _ free)
+
+  -- as the code reads them
+  pub the-doors-decide : (neighbour T f ≡ wall → ⊥) → {g : ℕ} → g ≡ back T f → {b : Bool} → b ≡ ltb (least (bars ds w f g) (length ds) 0) (length ds) → not b ≡ not (ends T ds w f)
+  the-doors-decide free is-g is-b =
+      ap not (is-b ∙ ap (λ (g : ℕ). ltb (least (bars ds w f g) (length ds) 0) (length ds)) is-g ∙ sym (sight-by-the-doors free))
+
+-- a loop over the doors, by the code's answer for door e
+module _ (ds : List ℕ) (w f g : ℕ) {e : ℕ} (s : Seeks (bars ds w f g) (length ds) e) (h : e < length ds) {b : Bool} (is-b : b ≡ bars ds w f g e) where
+  pub a-door-is-met : b ≡ true → true ≡ ltb (least (bars ds w f g) (length ds) 0) (length ds)
+  a-door-is-met k =
+      let is-e : e ≡ least (bars ds w f g) (length ds) 0 = seek-found s h (sym is-b ∙ k) in
+      let below : least (bars ds w f g) (length ds) 0 < length ds = rw is-e at h in
+      sym (lt-ltb _ _ below)
+
+  pub a-door-is-passed : b ≡ false → Seeks (bars ds w f g) (length ds) (e + 1)
+  a-door-is-passed k = seek-goes-on s h (sym is-b ∙ k)
 
 -- only the doors that name a face count there
 pub sight-by-the-doors-named : (T : Cells) (ds : List ℕ) (v w f : ℕ) → ((e : ℕ) → names ds f (back T f) e ≡ true → shut v e ≡ shut w e) → ends T ds v f ≡ ends T ds w f
@@ -367,3 +395,17 @@ module _ (T : Cells) (ds : List ℕ) (w i : ℕ) where
 -- its door count, replied, tells whether a setting is wrong
 pub wrong-for-the-plan : (ds : List ℕ) (w : ℕ) {n : ℕ} → n ≡ length ds → {b : Bool} → b ≡ wrong-setting w n → wrong-setting w (length ds) ≡ b
 wrong-for-the-plan ds w is-n e = ap (wrong-setting w) (sym is-n) ∙ sym e
+
+-- a line that is not wall is free from both its faces, or from neither
+module _ {cs : List ℤ} {T : Cells} {ds : List ℕ} (sound : Sound cs T ds) (w f : ℕ) (h : f < face-count T) (free : neighbour T f ≡ wall → ⊥) where
+  the-same-doors : (e : ℕ) → bars ds w (back T f) (back T (back T f)) e ≡ bars ds w f (back T f) e
+  unfolding bars names
+  the-same-doors e =
+      ap (λ (g : ℕ). shut w e && (eqb (getD ds e 0) (back T f) || eqb (getD ds e 0) g)) (back-of-back sound f h free)
+      ∙ ap (λ (a : Bool). shut w e && a) (or-comm (eqb (getD ds e 0) (back T f)) (eqb (getD ds e 0) f))
+
+  pub a-line-is-free-from-both-sides : ends T ds w (back T f) ≡ ends T ds w f
+  a-line-is-free-from-both-sides =
+      sight-by-the-doors T ds w (back T f) (back-is-free sound f h free)
+      ∙ ap (λ (t : ℕ → Bool). ltb (least t (length ds) 0) (length ds)) (fun-ext the-same-doors)
+      ∙ sym (sight-by-the-doors T ds w f free)

@@ -70,14 +70,14 @@ module _ {cs : List ℤ} {q : Point} {zs : List ℤ} (near : CornersNear cs) (st
 -- ---- the table of an accepted plan
 
 module _ {cs : List ℤ} {T : Cells} {ds ls : List ℕ} {q : Point} {zs : List ℤ} (w : ℕ) (sound : Sound cs T ds) (stand : Near q) (lined : Lined T ds w ls) (S : SeenFrom cs q zs) where
-  few-faces : face-count T ≤ most-sides * most-cells
+  pub few-faces : face-count T ≤ most-sides * most-cells
   few-faces = omega (arith, faces-at-most (sound .numbered), counts _ _ _ (sound .in-size) .cells-at-most)
 
   -- where sight passes, what is across is a face
   back-below : (f : ℕ) → f < face-count T → ends T ds w f ≡ false → back T f < face-count T
   back-below f h e = back-exists sound f h (λ k. not-both (sight-ends-at-a-wall T ds w f k) e)
 
-  across-where-passed : (f : ℕ) → f < face-count T → ends T ds w f ≡ false → getD ls (4 * f + 1) 0 ≡ back T f
+  pub across-where-passed : (f : ℕ) → f < face-count T → ends T ds w f ≡ false → getD ls (4 * f + 1) 0 ≡ back T f
   across-where-passed f h e = lined .across-stands f h ∙ across-where-sight-passes T ds w f e
 
   across-where-ended : (f : ℕ) → f < face-count T → ends T ds w f ≡ true → getD ls (4 * f + 1) 0 ≡ wall

@@ -1,8 +1,8 @@
 -- The floor of an accepted plan under any setting, seen from any point, has the geometry that the laws of sight ask for.
 use mathlib.Core.Bool.{Bool, true, false, _||_}
 use mathlib.Core.List.{List}
-use mathlib.Core.Path.{_≡_, refl, sym, ap, subst}
-use Prim.Native.Nat.{ℕ, _-_}
+use mathlib.Core.Path.{_≡_, refl, sym, _∙_, ap, subst}
+use Prim.Native.Nat.{ℕ, _+_, _-_, _<_}
 use native.Mathlib.Omega.{arith}
 use borrow.Author.Tests.{eq-eqb}
 use lib.Dec.{ltb}
@@ -11,22 +11,30 @@ use lib.IntN.{ℤ}
 use lib.Signed.{_<ℤ_, _≤ℤ_, leZ}
 use Rattle.exact.proofs.Order.{𝟘, leZ-true, leZ-false}
 use Rattle.plane.specs.Side.{Point, side}
-use Rattle.plane.specs.Cone.{cross, Between}
-use Rattle.plane.proofs.Found.{side-from-the-stand, side-positive-is-beyond}
+use Rattle.plane.specs.Cone.{cross, Between, Opposite}
+use Rattle.plane.proofs.Found.{side-from-the-stand, side-positive-is-beyond, opposite-turns}
 use Rattle.limits.specs.Limits.{wall}
 use Rattle.cells.specs.Least.{least}
-use Rattle.cells.specs.Lists.{Cells, corner-at, cell-count, face-count, first, side-count, home, neighbour, back}
-use Rattle.cells.specs.Sound.{Sound}
+use Rattle.cells.specs.Lists.{Cells, corner-at, cell-count, face-count, first, side-count, home, next, start, neighbour, back}
+use Rattle.cells.specs.Sound.{Numbered, Sound}
 use Rattle.cells.proofs.Least.{not-both}
-use Rattle.cells.proofs.Faces.{SideOf, side-exists, home-exists, next-below, next-stays-in-the-cell}
-use Rattle.cells.proofs.Plans.{convex, back-exists, back-starts-at-the-finish, back-finishes-at-the-start}
+use Rattle.cells.proofs.Faces.{SideOf, side-exists, side-of-home, home-exists, next-below, next-is-a-side, next-stays-in-the-cell}
+use Rattle.cells.proofs.Plans.{convex, back-exists, back-of-back, back-starts-at-the-finish, back-finishes-at-the-start}
+use Rattle.cells.proofs.Within.{every-other-side-turns-left}
 use Rattle.setting.specs.Setting.{ends, bars}
-use Rattle.stand.proofs.Located.{InCell, the-cell-goes-around-the-stand}
-use Rattle.fan.specs.Sight.{Place}
+use Rattle.setting.proofs.Settings.{a-line-is-free-from-both-sides}
+use Rattle.stand.specs.declared.locate.Footing.{Footing}
+use Rattle.stand.proofs.Located.{InCell, OnSide, Stands, the-cell-goes-around-the-stand, side-ends-are-opposite}
+use Rattle.stand.proofs.Located.Stands.{in-a-cell, on-a-side}
+use Rattle.fan.specs.Sight.{Floor, Place}
+use Rattle.fan.specs.Walk.{Other}
 use Rattle.fan.specs.Sight.Place.{between, right-of-r, left-of-l}
-use Rattle.fan.proofs.Geometry.{Geometry}
+use Rattle.fan.proofs.Around as Around
+use Rattle.fan.proofs.Around.Stands.{stands-inside, stands-within}
+use Rattle.fan.proofs.Geometry.{Geometry, other-is-another}
 use Rattle.fan.proofs.Start.{Start}
-use Rattle.sight.specs.Listing.{placed, plan-floor, seen}
+use Rattle.fan.proofs.WithinSide.{WithinSide}
+use Rattle.sight.specs.Listing.{placed, plan-floor, seen, standing}
 use Rattle.sight.proofs.Round as Round
 
 -- sight goes on only where the neighbour is no wall
@@ -98,13 +106,62 @@ module _ {cs : List ℤ} {T : Cells} {ds : List ℕ} (sound : Sound cs T ds) (w 
         is-left = placed-left cs q;
       }
 
+  abbrev F : Floor
+  F = plan-floor cs T ds w q
+
+  N : Numbered T
+  N = sound .numbered
+
   -- the sides of a cell follow each other around a stand strictly inside it
-  pub start-in-the-cell : (c : ℕ) → InCell cs T q c → Start (plan-floor cs T ds w q) (face-count T) (seen cs q) (first T c)
+  start-in-the-cell : (c : ℕ) → InCell cs T q c → Start F (face-count T) (seen cs q) (first T c)
   start-in-the-cell c stands =
-      let N = sound .numbered in
       let h = stands .cell-exists in
       let here : SideOf T c (first T c) = record { not-before = omega arith; not-after = omega (arith, N .at-least c h) } in
       record {
         is-a-face = side-exists N h here;
-        turns = λ e i. the-cell-goes-around-the-stand cs T q c (stands .strictly-inside) e (Round.among-is-a-side N (plan-floor cs T ds w q) (λ f. refl) h here i);
+        turns = λ e i. the-cell-goes-around-the-stand cs T q c (stands .strictly-inside) e (Round.among-is-a-side N F (λ f. refl) h here i);
       }
+
+  -- the other sides of a cell turn left around a stand strictly within one of them
+  others-turn : {c s : ℕ} → c < cell-count T → SideOf T c s → Opposite (seen cs q (start T s)) (seen cs q (start T (next T s))) → (e : ℕ) → Other F s e
+      → 𝟘 <ℤ cross (seen cs q (start T e)) (seen cs q (start T (next T e)))
+  others-turn {c} {s} h here within e o =
+      every-other-side-turns-left N (sound .cells) q h here within e (Round.among-is-a-side N F (λ f. refl) h (next-is-a-side N h here) o)
+      (other-is-another plan-geometry (side-exists N h here) o)
+
+  within-the-side : (c k : ℕ) → OnSide cs T ds w q c k → WithinSide F (face-count T) (seen cs q) (first T c + k)
+  within-the-side c k stands =
+      record {
+        is-a-face = face;
+        free = stands .free;
+        free-beyond = a-line-is-free-from-both-sides sound w s face no-wall ∙ stands .free;
+        back-again = back-of-back sound s face no-wall;
+        opposite = opposite;
+        turns = others-turn (stands .cell-exists) here opposite;
+        turns-beyond =
+            others-turn (home-exists N (back T s) beyond) (side-of-home N (back T s) beyond)
+            (rw (back-starts-at-the-finish sound s face no-wall, back-finishes-at-the-start sound s face no-wall) (opposite-turns _ _ opposite));
+      }
+    where
+      s : ℕ
+      s = first T c + k
+
+      here : SideOf T c (first T c + k)
+      here = record { not-before = omega arith; not-after = omega (arith, stands .side-exists) }
+
+      face : first T c + k < face-count T
+      face = side-exists N (stands .cell-exists) here
+
+      no-wall : neighbour T (first T c + k) ≡ wall → ⊥
+      no-wall = free-is-no-wall T ds w (first T c + k) (stands .free)
+
+      beyond : back T (first T c + k) < face-count T
+      beyond = back-exists sound (first T c + k) face no-wall
+
+      opposite : Opposite (seen cs q (start T (first T c + k))) (seen cs q (start T (next T (first T c + k))))
+      opposite = side-ends-are-opposite cs T q (first T c + k) (stands .within)
+
+  -- a stand found on the plan stands so on its floor
+  pub stands-on-the-floor : {p : Footing} → Stands cs T ds w q p → Around.Stands F (face-count T) (seen cs q) (standing T p)
+  stands-on-the-floor (in-a-cell {c} i) = stands-inside (start-in-the-cell c i)
+  stands-on-the-floor (on-a-side {c} {k} i) = stands-within (within-the-side c k i)

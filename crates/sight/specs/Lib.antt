@@ -2,7 +2,7 @@
 pub mod Listing
 -- the corners seen from a stand, as the code has them
 pub mod Seen
--- the sides of the stand's cell over the code's tables
+-- the lines around the stand over the code's tables
 pub mod CellTree
 -- the answer of listing and door change in document 01's numbers
 pub mod Reply

@@ -1,7 +1,7 @@
--- The listing (document 01, "Expansion" and "Reply numbers"; document 02, A14).
+-- The listing (document 01, "Expansion" and "Reply numbers"; document 02, A4 and A14).
 use mathlib.Core.Bool.{Bool, true, false}
 use mathlib.Core.List.{List}
-use Prim.Native.Nat.{ℕ, _*_, _-_}
+use Prim.Native.Nat.{ℕ, _+_, _*_, _-_}
 use lib.Dec.{ltb}
 use lib.ListN.{length}
 use lib.Seq.{sets}
@@ -22,9 +22,12 @@ use Rattle.stand.specs.Find.{located}
 use Rattle.stand.specs.declared.spot.Stand.{Stand}
 use Rattle.stand.specs.declared.spot.Spot.{Spot}
 use Rattle.stand.specs.declared.spot.Spot.the-variants as S
+use Rattle.stand.specs.declared.locate.Footing.{Footing}
+use Rattle.stand.specs.declared.locate.Footing.the-variants.{Inside, Side}
 use Rattle.stand.specs.declared.locate.Found.{Found}
 use Rattle.stand.specs.declared.locate.Found.the-variants as F
-use Rattle.fan.specs.Sight.{Floor, Place, Sight, Row, from-inside, numbers, rows, row-count, crossings}
+use Rattle.fan.specs.Sight.{Floor, Place, Sight, Row, Standing, seen-from, numbers, rows, row-count, crossings}
+use Rattle.fan.specs.Sight.Standing.{inside, within}
 use Rattle.fan.specs.Sight.Place.{between, right-of-r, left-of-l}
 use Rattle.sight.specs.declared.view.View.{View}
 use Rattle.sight.specs.declared.view.View.the-variants as O
@@ -56,53 +59,66 @@ plan-floor cs T ds w q =
 abbrev pub seen : List ℤ → Point → ℕ → Point
 seen cs q c = minus (corner-at cs c) q
 
--- what is seen from q strictly inside cell c: the cell hands on its sides in their order, each with its two ends as limits; the other cells are not yet
--- entered
-abbrev pub sight-from : List ℤ → Cells → List ℕ → ℕ → Point → ℕ → Sight
-sight-from cs T ds w q c = from-inside (plan-floor cs T ds w q) (cell-count T - 1) (first T c)
+-- where the stand was found, on the floor: strictly inside a cell, which its first side names, or strictly within a side
+abbrev pub standing : Cells → Footing → Standing
+standing T (Inside c) = inside (first T c)
+standing T (Side c k) = within (first T c + k)
 
-unfoldable pub listing-rows : List ℤ → Cells → List ℕ → ℕ → Point → ℕ → List Row
-listing-rows cs T ds w q c = rows (sight-from cs T ds w q c)
+-- what is seen from q, found at p: the lines around it in their order, each with its two ends as limits; the cells that it does not touch are not yet entered
+abbrev pub sight-from : List ℤ → Cells → List ℕ → ℕ → Point → Footing → Sight
+sight-from cs T ds w q p = seen-from (plan-floor cs T ds w q) (cell-count T) (standing T p)
 
-unfoldable pub listing-numbers : List ℤ → Cells → List ℕ → ℕ → Point → ℕ → List ℕ
-listing-numbers cs T ds w q c = numbers (sight-from cs T ds w q c)
+unfoldable pub listing-rows : List ℤ → Cells → List ℕ → ℕ → Point → Footing → List Row
+listing-rows cs T ds w q p = rows (sight-from cs T ds w q p)
 
-unfoldable pub listing-row-count : List ℤ → Cells → List ℕ → ℕ → Point → ℕ → ℕ
-listing-row-count cs T ds w q c = row-count (sight-from cs T ds w q c)
+unfoldable pub listing-numbers : List ℤ → Cells → List ℕ → ℕ → Point → Footing → List ℕ
+listing-numbers cs T ds w q p = numbers (sight-from cs T ds w q p)
 
-unfoldable pub listing-crossings : List ℤ → Cells → List ℕ → ℕ → Point → ℕ → ℕ
-listing-crossings cs T ds w q c = crossings (sight-from cs T ds w q c)
+unfoldable pub listing-row-count : List ℤ → Cells → List ℕ → ℕ → Point → Footing → ℕ
+listing-row-count cs T ds w q p = row-count (sight-from cs T ds w q p)
+
+unfoldable pub listing-crossings : List ℤ → Cells → List ℕ → ℕ → Point → Footing → ℕ
+listing-crossings cs T ds w q p = crossings (sight-from cs T ds w q p)
 
 -- refused where the test holds
 abbrev pub unless : Bool → Refusal → View → View
 unless true r v = O.Refused r
 unless false r v = v
 
--- the stand's cell is known; the table must have 3·corners numbers
-abbrev pub view-of-cell : List ℤ → ℕ → ℤ → ℤ → Found → View
-view-of-cell cs room x y (F.Cell c) = unless (ltb room (3 * corner-count cs)) R.Room (O.From x y c)
-view-of-cell cs room x y (F.Refused r) = O.Refused r
+abbrev pub view-of-place : ℤ → ℤ → Found → View
+view-of-place x y (F.At p) = O.From x y p
+view-of-place x y (F.Refused r) = O.Refused r
 
-abbrev pub view-of-spot : List ℤ → Cells → ℕ → Spot → View
-view-of-spot cs T room (S.At x y) = view-of-cell cs room x y (located cs T (record { x = x; y = y }))
-view-of-spot cs T room S.Refused = O.Refused R.Stand
+abbrev pub view-of-spot : List ℤ → Cells → List ℕ → ℕ → Spot → View
+view-of-spot cs T ds w (S.At x y) = view-of-place x y (located cs T ds w (record { x = x; y = y }))
+view-of-spot cs T ds w S.Refused = O.Refused R.Stand
 
-abbrev pub view-of-plan : List ℤ → Cells → List ℕ → ℕ → Stand → ℕ → Checked → View
-view-of-plan cs T ds w s room (C.Accepted p) = unless (wrong-setting w (length ds)) R.Setting (view-of-spot cs T room (stood cs s))
-view-of-plan cs T ds w s room (C.Refused r) = O.Refused r
+abbrev pub view-of-plan : List ℤ → Cells → List ℕ → ℕ → Stand → Checked → View
+view-of-plan cs T ds w s (C.Accepted p) = unless (wrong-setting w (length ds)) R.Setting (view-of-spot cs T ds w (stood cs s))
+view-of-plan cs T ds w s (C.Refused r) = O.Refused r
 
--- replies 1 to 11 in order, or the stand and its cell; the cells are in a list of kind k
-unfoldable pub viewed : ℕ → List ℤ → List ℕ → List ℕ → ℕ → Stand → ℕ → View
-viewed k cs ts ds w s room = view-of-plan cs (cells-of k ts) ds w s room (checked k cs ts ds)
+-- replies 1 to 10 in order, or the stand and where it was found; the cells are in a list of kind k
+unfoldable pub viewed : ℕ → List ℤ → List ℕ → List ℕ → ℕ → Stand → View
+viewed k cs ts ds w s = view-of-plan cs (cells-of k ts) ds w s (checked k cs ts ds)
 
--- the reply and the table at exit: on a refusal it keeps its contents, and beyond the numbers written it keeps its values
+-- refused where the test holds, and the table keeps its contents
+abbrev pub refuse : Bool → Refusal → List ℕ → Listed × List ℕ → Listed × List ℕ
+refuse true r table rest = (L.Refused r, table)
+refuse false r table rest = rest
+
+-- the table must have 3·corners numbers
+unfoldable pub no-room : List ℤ → List ℕ → Bool
+no-room cs table = ltb (length table) (3 * corner-count cs)
+
+-- the rows go to the beginning of the table; beyond them it keeps its values
+abbrev pub rows-from : List ℤ → Cells → List ℕ → ℕ → List ℕ → Point → Footing → Listed × List ℕ
+rows-from cs T ds w table q p = (L.Rows (listing-row-count cs T ds w q p) (listing-crossings cs T ds w q p), sets table 0 (listing-numbers cs T ds w q p))
+
+-- the reply and the table at exit: on a refusal it keeps its contents
 abbrev pub listed-from : List ℤ → Cells → List ℕ → ℕ → List ℕ → View → Listed × List ℕ
-listed-from cs T ds w table (O.From x y c) = (
-  L.Rows (listing-row-count cs T ds w (record { x = x; y = y }) c) (listing-crossings cs T ds w (record { x = x; y = y }) c),
-  sets table 0 (listing-numbers cs T ds w (record { x = x; y = y }) c),
-)
+listed-from cs T ds w table (O.From x y p) = refuse (no-room cs table) R.Room table (rows-from cs T ds w table (record { x = x; y = y }) p)
 listed-from cs T ds w table (O.Refused r) = (L.Refused r, table)
 
 -- the listing: plan, setting, stand and table
 unfoldable pub listed : ℕ → List ℤ → List ℕ → List ℕ → ℕ → Stand → List ℕ → Listed × List ℕ
-listed k cs ts ds w s table = listed-from cs (cells-of k ts) ds w table (viewed k cs ts ds w s (length table))
+listed k cs ts ds w s table = listed-from cs (cells-of k ts) ds w table (viewed k cs ts ds w s)

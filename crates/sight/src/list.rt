@@ -1,12 +1,12 @@
-// The listing: the stand's cell hands on its sides in their order.
+// The listing: the lines around the stand are followed in their order.
 ghost use Prim.Native.Nat.{suc, _+_, _*_, _^_, _<_, _≤_};
 ghost use mathlib.Core.Bool.{true};
 ghost use mathlib.Core.Path.{_≡_};
-ghost use lib.ListN.{length};
+ghost use lib.ListN.{length, getD};
 ghost use lib.Seq.{sets};
 ghost use Rattle.plane.specs.Side.{point, Near};
 ghost use Rattle.cells.specs.Lists.{tabled, corner-count, cell-count, face-count};
-ghost use Rattle.limits.specs.Limits.{most-corners, most-cells, sized};
+ghost use Rattle.limits.specs.Limits.{most-corners, most-cells, sized, wall};
 ghost use Rattle.cells.specs.Cut.{cells-of};
 ghost use Rattle.cells.specs.Check.{framed};
 ghost use Rattle.checking.specs.Sizes.{sizes-of};
@@ -14,10 +14,10 @@ ghost use Rattle.checking.specs.declared.Sizes.the-variants.{Of};
 ghost use Rattle.cells.specs.Backed.{Backed};
 ghost use Rattle.cells.specs.Sound.{Numbered, Sound};
 ghost use Rattle.stand.specs.Find.{located};
-ghost use Rattle.stand.specs.declared.locate.Found.the-variants.{Cell};
+ghost use Rattle.stand.specs.declared.locate.Found.the-variants.{At};
 ghost use Rattle.fan.specs.Sight.{numbers, row-count, crossings, Whole};
 ghost use Rattle.expand.specs.Floor.{Lines};
-ghost use Rattle.sight.specs.CellTree.{cell-tree, stand-tree, Starts};
+ghost use Rattle.sight.specs.CellTree.{cell-tree, others-tree, inside-tree, within-tree, stand-tree, Starts, StandsIn};
 ghost use Rattle.sight.specs.Listing.{listing-row-count, listing-crossings, listing-numbers, listed};
 use crate::seen::see;
 use crate::view::View;
@@ -29,6 +29,7 @@ use expand::cross;
 use limits::Plan;
 use limits::Refusal;
 use lines::lines_of;
+use stand::locate::Footing;
 use stand::spot::Stand;
 
 pub enum Listed {
@@ -36,8 +37,8 @@ pub enum Listed {
     Refused(Refusal),
 }
 
-// Follows side f of the stand's cell and the `more` sides after it, each with its two ends as limits; `unentered` is how many cells are not yet entered.
-pub fn sides(
+// Follows side f and the `more` sides after it, each with its two ends as limits; `unentered` is how many cells are not yet entered.
+fn sides(
     seen: &[i32],
     lines: &[u16],
     faces: &[u16],
@@ -48,7 +49,7 @@ pub fn sides(
     unentered: usize,
 ) -> Counts
     requires { ⌜ Lines (now seen) (now lines) × Starts (now seen) (now lines) (now faces) ⌝ }
-    requires { ⌜ 4 * (f + more) + 3 < length (now lines) ⌝ }
+    requires { ⌜ 4 * f + 3 < length (now lines) ⌝ }
     requires { ⌜ Whole (cell-tree (now seen) (now lines) (now faces) unentered more f) ⌝ }
     requires { ⌜ at + 3 * row-count (cell-tree (now seen) (now lines) (now faces) unentered more f) ≤ length (now table) ⌝ }
     requires { ⌜ crossings (cell-tree (now seen) (now lines) (now faces) unentered more f) < 2 ^ 63 ⌝ }
@@ -63,15 +64,16 @@ pub fn sides(
         return first;
     }
     let after = at + 3 * first.rows;
-    let second = sides(seen, lines, faces, table, f + 1, more - 1, after, unentered);
+    let next = lines[4 * f + 3] as usize;
+    let second = sides(seen, lines, faces, table, next, more - 1, after, unentered);
     Counts {
         rows: first.rows + second.rows,
         crossings: first.crossings + second.crossings,
     }
 }
 
-// Follows the sides of the stand's cell c over the tables of an accepted plan.
-pub fn list_over(
+// Follows the sides of cell c, from a stand strictly inside it.
+fn list_inside(
     seen: &[i32],
     lines: &[u16],
     faces: &[u16],
@@ -81,12 +83,12 @@ pub fn list_over(
 ) -> Counts
     requires { ⌜ Lines (now seen) (now lines) × Starts (now seen) (now lines) (now faces) × Numbered (tabled (now faces) (now firsts)) ⌝ }
     requires { ⌜ (c < cell-count (tabled (now faces) (now firsts))) × (length (now lines) ≡ 4 * face-count (tabled (now faces) (now firsts))) ⌝ }
-    requires { ⌜ Whole (stand-tree (now seen) (now lines) (tabled (now faces) (now firsts)) c) ⌝ }
-    requires { ⌜ 3 * row-count (stand-tree (now seen) (now lines) (tabled (now faces) (now firsts)) c) ≤ length (now table) ⌝ }
-    requires { ⌜ crossings (stand-tree (now seen) (now lines) (tabled (now faces) (now firsts)) c) < 2 ^ 63 ⌝ }
-    ensures { λ r. ⌜ r .rows ≡ row-count (stand-tree (now (seen .entry)) (now (lines .entry)) (tabled (now (faces .entry)) (now (firsts .entry))) c) ⌝ }
-    ensures { λ r. ⌜ r .crossings ≡ crossings (stand-tree (now (seen .entry)) (now (lines .entry)) (tabled (now (faces .entry)) (now (firsts .entry))) c) ⌝ }
-    ensures { λ r. ⌜ now (table .exit) ≡ sets (now (table .entry)) 0 (numbers (stand-tree (now (seen .entry)) (now (lines .entry)) (tabled (now (faces .entry)) (now (firsts .entry))) c)) ⌝ }
+    requires { ⌜ Whole (inside-tree (now seen) (now lines) (tabled (now faces) (now firsts)) c) ⌝ }
+    requires { ⌜ 3 * row-count (inside-tree (now seen) (now lines) (tabled (now faces) (now firsts)) c) ≤ length (now table) ⌝ }
+    requires { ⌜ crossings (inside-tree (now seen) (now lines) (tabled (now faces) (now firsts)) c) < 2 ^ 63 ⌝ }
+    ensures { λ r. ⌜ r .rows ≡ row-count (inside-tree (now (seen .entry)) (now (lines .entry)) (tabled (now (faces .entry)) (now (firsts .entry))) c) ⌝ }
+    ensures { λ r. ⌜ r .crossings ≡ crossings (inside-tree (now (seen .entry)) (now (lines .entry)) (tabled (now (faces .entry)) (now (firsts .entry))) c) ⌝ }
+    ensures { λ r. ⌜ now (table .exit) ≡ sets (now (table .entry)) 0 (numbers (inside-tree (now (seen .entry)) (now (lines .entry)) (tabled (now (faces .entry)) (now (firsts .entry))) c)) ⌝ }
 {
     let f = firsts[c] as usize;
     let end = firsts[c + 1] as usize;
@@ -94,7 +96,87 @@ pub fn list_over(
     sides(seen, lines, faces, table, f, end - f - 1, 0, cells - 1)
 }
 
-// Draws the lines of an accepted plan under its setting and the corners seen from q in the room lent, and follows the sides of the stand's cell c.
+// Follows the other sides of the cell of side g, in order after it.
+fn others(
+    seen: &[i32],
+    lines: &[u16],
+    faces: &[u16],
+    table: &mut [u16],
+    g: usize,
+    at: usize,
+    unentered: usize,
+) -> Counts
+    requires { ⌜ Lines (now seen) (now lines) × Starts (now seen) (now lines) (now faces) ⌝ }
+    requires { ⌜ 4 * g + 3 < length (now lines) ⌝ }
+    requires { ⌜ Whole (others-tree (now seen) (now lines) (now faces) unentered g) ⌝ }
+    requires { ⌜ at + 3 * row-count (others-tree (now seen) (now lines) (now faces) unentered g) ≤ length (now table) ⌝ }
+    requires { ⌜ crossings (others-tree (now seen) (now lines) (now faces) unentered g) < 2 ^ 63 ⌝ }
+    ensures { λ r. ⌜ r .rows ≡ row-count (others-tree (now (seen .entry)) (now (lines .entry)) (now (faces .entry)) unentered g) ⌝ }
+    ensures { λ r. ⌜ r .crossings ≡ crossings (others-tree (now (seen .entry)) (now (lines .entry)) (now (faces .entry)) unentered g) ⌝ }
+    ensures { λ r. ⌜ now (table .exit) ≡ sets (now (table .entry)) at (numbers (others-tree (now (seen .entry)) (now (lines .entry)) (now (faces .entry)) unentered g)) ⌝ }
+{
+    let more = lines[4 * g + 2] as usize;
+    let next = lines[4 * g + 3] as usize;
+    sides(seen, lines, faces, table, next, more, at, unentered)
+}
+
+// Follows the other sides of the two cells of side f, from a stand strictly within it; of `cells` cells these two are entered.
+fn list_within(
+    seen: &[i32],
+    lines: &[u16],
+    faces: &[u16],
+    table: &mut [u16],
+    f: usize,
+    cells: usize,
+) -> Counts
+    requires { ⌜ Lines (now seen) (now lines) × Starts (now seen) (now lines) (now faces) ⌝ }
+    requires { ⌜ (4 * f + 3 < length (now lines)) × (getD (now lines) (4 * f + 1) 0 ≡ wall → ⊥) × (2 ≤ cells) ⌝ }
+    requires { ⌜ Whole (within-tree (now seen) (now lines) (now faces) cells f) ⌝ }
+    requires { ⌜ 3 * row-count (within-tree (now seen) (now lines) (now faces) cells f) ≤ length (now table) ⌝ }
+    requires { ⌜ crossings (within-tree (now seen) (now lines) (now faces) cells f) < 2 ^ 63 ⌝ }
+    ensures { λ r. ⌜ r .rows ≡ row-count (within-tree (now (seen .entry)) (now (lines .entry)) (now (faces .entry)) cells f) ⌝ }
+    ensures { λ r. ⌜ r .crossings ≡ crossings (within-tree (now (seen .entry)) (now (lines .entry)) (now (faces .entry)) cells f) ⌝ }
+    ensures { λ r. ⌜ now (table .exit) ≡ sets (now (table .entry)) 0 (numbers (within-tree (now (seen .entry)) (now (lines .entry)) (now (faces .entry)) cells f)) ⌝ }
+{
+    let g = lines[4 * f + 1] as usize;
+    let own = others(seen, lines, faces, table, f, 0, cells - 2);
+    let after = 3 * own.rows;
+    let theirs = others(seen, lines, faces, table, g, after, cells - 2);
+    Counts {
+        rows: own.rows + theirs.rows,
+        crossings: own.crossings + theirs.crossings,
+    }
+}
+
+// Follows the lines around a stand that was found at p, over the tables of an accepted plan.
+pub fn list_over(
+    seen: &[i32],
+    lines: &[u16],
+    faces: &[u16],
+    firsts: &[u16],
+    table: &mut [u16],
+    p: Footing,
+) -> Counts
+    requires { ⌜ Lines (now seen) (now lines) × Starts (now seen) (now lines) (now faces) × Numbered (tabled (now faces) (now firsts)) ⌝ }
+    requires { ⌜ StandsIn (now lines) (tabled (now faces) (now firsts)) p × (length (now lines) ≡ 4 * face-count (tabled (now faces) (now firsts))) ⌝ }
+    requires { ⌜ Whole (stand-tree (now seen) (now lines) (tabled (now faces) (now firsts)) p) ⌝ }
+    requires { ⌜ 3 * row-count (stand-tree (now seen) (now lines) (tabled (now faces) (now firsts)) p) ≤ length (now table) ⌝ }
+    requires { ⌜ crossings (stand-tree (now seen) (now lines) (tabled (now faces) (now firsts)) p) < 2 ^ 63 ⌝ }
+    ensures { λ r. ⌜ r .rows ≡ row-count (stand-tree (now (seen .entry)) (now (lines .entry)) (tabled (now (faces .entry)) (now (firsts .entry))) p) ⌝ }
+    ensures { λ r. ⌜ r .crossings ≡ crossings (stand-tree (now (seen .entry)) (now (lines .entry)) (tabled (now (faces .entry)) (now (firsts .entry))) p) ⌝ }
+    ensures { λ r. ⌜ now (table .exit) ≡ sets (now (table .entry)) 0 (numbers (stand-tree (now (seen .entry)) (now (lines .entry)) (tabled (now (faces .entry)) (now (firsts .entry))) p)) ⌝ }
+{
+    match p {
+        Footing::Inside(c) => list_inside(seen, lines, faces, firsts, table, c),
+        Footing::Side(c, k) => {
+            let f = firsts[c] as usize + k;
+            list_within(seen, lines, faces, table, f, firsts.len() - 1)
+        }
+    }
+}
+
+// Draws the lines of an accepted plan under its setting and the corners seen from q in the room lent, and follows the lines around a stand that was
+// found at p.
 pub fn list_from(
     corners: &[i32],
     faces: &[u16],
@@ -104,21 +186,21 @@ pub fn list_from(
     setting: u64,
     q: [i64; 2],
     table: &mut [u16],
-    c: usize,
+    p: Footing,
     lines: &mut [u16],
     seen: &mut [i32],
 ) -> Counts
     requires { ⌜ Sound (now corners) (tabled (now faces) (now firsts)) (now doors) × Backed (tabled (now faces) (now firsts)) (now backs) ⌝ }
-    requires { ⌜ Near (point q) × (located (now corners) (tabled (now faces) (now firsts)) (point q) ≡ Cell c) ⌝ }
+    requires { ⌜ Near (point q) × (located (now corners) (tabled (now faces) (now firsts)) (now doors) setting (point q) ≡ At p) ⌝ }
     requires { ⌜ 3 * corner-count (now corners) ≤ length (now table) ⌝ }
     requires { ⌜ (length (now lines) ≡ 4 * face-count (tabled (now faces) (now firsts))) × (length (now seen) ≡ length (now corners)) ⌝ }
-    ensures { λ r. ⌜ r .rows ≡ listing-row-count (now (corners .entry)) (tabled (now (faces .entry)) (now (firsts .entry))) (now (doors .entry)) setting (point q) c ⌝ }
-    ensures { λ r. ⌜ r .crossings ≡ listing-crossings (now (corners .entry)) (tabled (now (faces .entry)) (now (firsts .entry))) (now (doors .entry)) setting (point q) c ⌝ }
-    ensures { λ r. ⌜ now (table .exit) ≡ sets (now (table .entry)) 0 (listing-numbers (now (corners .entry)) (tabled (now (faces .entry)) (now (firsts .entry))) (now (doors .entry)) setting (point q) c) ⌝ }
+    ensures { λ r. ⌜ r .rows ≡ listing-row-count (now (corners .entry)) (tabled (now (faces .entry)) (now (firsts .entry))) (now (doors .entry)) setting (point q) p ⌝ }
+    ensures { λ r. ⌜ r .crossings ≡ listing-crossings (now (corners .entry)) (tabled (now (faces .entry)) (now (firsts .entry))) (now (doors .entry)) setting (point q) p ⌝ }
+    ensures { λ r. ⌜ now (table .exit) ≡ sets (now (table .entry)) 0 (listing-numbers (now (corners .entry)) (tabled (now (faces .entry)) (now (firsts .entry))) (now (doors .entry)) setting (point q) p) ⌝ }
 {
     lines_of(faces, firsts, backs, doors, setting, lines);
     see(corners, q, seen);
-    list_over(seen, lines, faces, firsts, table, c)
+    list_over(seen, lines, faces, firsts, table, p)
 }
 
 // Lists in the room lent: the tables of the plan, its lines, and the corners seen.
@@ -150,13 +232,15 @@ fn list_in(
         kind,
         setting,
         stand,
-        table.len(),
         faces,
         firsts,
         backs,
     ) {
         View::Refused(r) => Listed::Refused(r),
-        View::From(x, y, c) => {
+        View::From(x, y, p) => {
+            if table.len() < 3 * (corners.len() / 2) {
+                return Listed::Refused(Refusal::Room);
+            }
             let counts = list_from(
                 corners,
                 faces,
@@ -166,7 +250,7 @@ fn list_in(
                 setting,
                 [x, y],
                 table,
-                c,
+                p,
                 lines,
                 seen,
             );

@@ -1,4 +1,4 @@
-// Replies 1 to 11 in their order, or the stand and its cell.
+// Replies 1 to 10 in their order, or the stand and where it was found.
 ghost use mathlib.Core.Bool.{true};
 ghost use mathlib.Core.Path.{_≡_};
 ghost use Prim.Native.Nat.{suc, _*_};
@@ -8,12 +8,13 @@ ghost use Rattle.cells.specs.Lists.{tabled, corner-count, cell-count, face-coun
 ghost use Rattle.cells.specs.Cut.{cells-of};
 ghost use Rattle.cells.specs.Check.{framed};
 ghost use Rattle.cells.specs.Backed.{Backed};
-ghost use Rattle.cells.specs.Sound.{CornersNear, CornersExist, Numbered, Sound};
+ghost use Rattle.cells.specs.Sound.{Sound};
 ghost use Rattle.stand.specs.Spot.{stood};
 ghost use Rattle.sight.specs.Listing.{view-of-spot, viewed};
 use checking::check_into;
 use limits::Checked;
 use limits::Refusal;
+use stand::locate::Footing;
 use stand::locate::Found;
 use stand::locate::locate;
 use stand::spot::Spot;
@@ -21,7 +22,7 @@ use stand::spot::Stand;
 use stand::spot::stand_spot;
 
 pub enum View {
-    From(i64, i64, usize),
+    From(i64, i64, Footing),
     Refused(Refusal),
 }
 
@@ -30,23 +31,20 @@ pub fn view_of_stand(
     corners: &[i32],
     faces: &[u16],
     firsts: &[u16],
+    backs: &[u16],
+    doors: &[u16],
+    setting: u64,
     stand: Stand,
-    room: usize,
 ) -> View
-    requires { ⌜ CornersNear (now corners) × CornersExist (now corners) (tabled (now faces) (now firsts)) × Numbered (tabled (now faces) (now firsts)) ⌝ }
-    ensures { λ r. ⌜ r ≡ view-of-spot (now (corners .entry)) (tabled (now (faces .entry)) (now (firsts .entry))) room (stood (now (corners .entry)) stand) ⌝ }
+    requires { ⌜ Sound (now corners) (tabled (now faces) (now firsts)) (now doors) × Backed (tabled (now faces) (now firsts)) (now backs) ⌝ }
+    ensures { λ r. ⌜ r ≡ view-of-spot (now (corners .entry)) (tabled (now (faces .entry)) (now (firsts .entry))) (now (doors .entry)) setting (stood (now (corners .entry)) stand) ⌝ }
 {
     let Spot::At(x, y) = stand_spot(corners, stand) else {
         return View::Refused(Refusal::Stand);
     };
-    match locate(corners, faces, firsts, [x, y]) {
+    match locate(corners, faces, firsts, backs, doors, setting, [x, y]) {
         Found::Refused(r) => View::Refused(r),
-        Found::Cell(c) => {
-            if room < 3 * (corners.len() / 2) {
-                return View::Refused(Refusal::Room);
-            }
-            View::From(x, y, c)
-        }
+        Found::At(p) => View::From(x, y, p),
     }
 }
 
@@ -58,7 +56,6 @@ pub fn view_in(
     kind: u16,
     setting: u64,
     stand: Stand,
-    room: usize,
     faces: &mut [u16],
     firsts: &mut [u16],
     backs: &mut [u16],
@@ -67,7 +64,7 @@ pub fn view_in(
     requires { ⌜ length (now faces) ≡ 2 * face-count (cells-of kind (now cells)) ⌝ }
     requires { ⌜ length (now firsts) ≡ suc (cell-count (cells-of kind (now cells))) ⌝ }
     requires { ⌜ length (now backs) ≡ face-count (cells-of kind (now cells)) ⌝ }
-    ensures { λ r. ⌜ r ≡ viewed kind (now (corners .entry)) (now (cells .entry)) (now (doors .entry)) setting stand room ⌝ }
+    ensures { λ r. ⌜ r ≡ viewed kind (now (corners .entry)) (now (cells .entry)) (now (doors .entry)) setting stand ⌝ }
     ensures { λ r. ⌜ now (faces .exit) ≡ cells-of kind (now (cells .entry)) .faces ⌝ }
     ensures { λ r. ⌜ now (firsts .exit) ≡ cells-of kind (now (cells .entry)) .firsts ⌝ }
     ensures { λ r. ⌜ (Sound (now (corners .entry)) (cells-of kind (now (cells .entry))) (now (doors .entry)) → Backed (cells-of kind (now (cells .entry))) (now (backs .exit))) ⌝ }
@@ -79,7 +76,7 @@ pub fn view_in(
             if setting::is_wrong(setting, k) {
                 return View::Refused(Refusal::Setting);
             }
-            view_of_stand(corners, faces, firsts, stand, room)
+            view_of_stand(corners, faces, firsts, backs, doors, setting, stand)
         }
     }
 }

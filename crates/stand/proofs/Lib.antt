@@ -4,9 +4,11 @@ pub mod Spots
 pub mod Against
 -- the loop over the sides of a cell
 mod Sides
+-- the search for a free side that the stand is strictly within
+mod Doorways
 -- finding, way out by way out: what was found, and the reply
 pub mod Finds
--- what each answer says of the stand and the cells; the cell found goes around the stand
+-- what each answer says of the stand, the cells and their sides; the cell found goes around the stand; a side that holds it
 pub mod Located
 -- the promise of finding leaves one reply, as does every promise that is an equation
 pub mod Unique

@@ -2,7 +2,7 @@
 use mathlib.Core.List.{List, [], _∷_}
 use mathlib.Core.Logic.{_⊎_, inl, inr}
 use mathlib.Core.Path.{_≡_, sym, _∙_, ap, ap₂, subst}
-use Prim.Native.Nat.{ℕ, suc, _+_, _*_, _^_, _<_, _≤_}
+use Prim.Native.Nat.{ℕ, suc, _+_, _*_, _-_, _^_, _<_, _≤_}
 use native.Mathlib.Numerals.{add-one}
 use native.Mathlib.Decide.{decLt}
 use native.Mathlib.Omega.{arith}
@@ -14,7 +14,7 @@ use mir.Val.{toZ, ofZ}
 use Rattle.exact.proofs.Bounds.{handed}
 use Rattle.exact.proofs.Order.{less-is-at-most}
 use Rattle.plane.specs.Side.{Point, point, side, Near, AllNear}
-use Rattle.cells.specs.Lists.{Cells, corner-count, corner-at, cell-count, face-count, first, next, start}
+use Rattle.cells.specs.Lists.{Cells, corner-count, corner-at, cell-count, face-count, first, next, start, tabled}
 use Rattle.cells.specs.Sound.{CornersNear, CornersExist, Numbered}
 use Rattle.cells.proofs.Faces.{SideOf, side-exists, next-goes-on, next-comes-round, next-is-a-side}
 use Rattle.stand.specs.Find.{side-value-at}
@@ -74,6 +74,23 @@ pub record Passed (cs : List ℤ) (T : Cells) (q : Point) (c f : ℕ) (from : Li
   pub so-far : LeastBefore cs T q c f least
 
 -- ---- the sides and corners that the code reads
+
+-- the last side, as the code has it, is the one before the first of the next cell
+module _ (fs ns : List ℕ) (c : ℕ) where
+  pub end-read : getD ns (c + 1) 0 ≡ first (tabled fs ns) (suc c)
+  end-read = ap (λ (i : ℕ). getD ns i 0) (add-one c)
+
+  pub before-the-end : {f : ℕ} → f < getD ns (c + 1) 0 → f < first (tabled fs ns) (suc c)
+  before-the-end h = omega (arith, end-read)
+
+  pub at-the-end : {f : ℕ} → getD ns (c + 1) 0 ≤ f → first (tabled fs ns) (suc c) ≤ f
+  at-the-end h = omega (arith, end-read)
+
+  pub before-the-last : {f : ℕ} → f < getD ns (c + 1) 0 - 1 → f + 1 < first (tabled fs ns) (suc c)
+  before-the-last h = omega (arith, end-read)
+
+  pub the-last : {f : ℕ} → getD ns (c + 1) 0 - 1 ≤ f → first (tabled fs ns) (suc c) ≤ f + 1
+  the-last h = omega (arith, end-read)
 
 module _ {T : Cells} (N : Numbered T) {c : ℕ} (h : c < cell-count T) where
   pub first-is-a-side : SideOf T c (first T c)

@@ -1,19 +1,29 @@
-// The stand's cell: the least-numbered cell that holds it strictly inside.
+// Where the stand is: in the least-numbered cell that holds it strictly inside, else on the first free side that it is strictly within.
 ghost use Prim.Native.Nat.{_*_, _/_, _<_};
+ghost use mathlib.Core.Bool.{true, false};
 ghost use mathlib.Core.Logic.{_⊎_};
 ghost use mathlib.Core.Path.{_≡_};
+ghost use lib.Dec.{ltb};
 ghost use lib.ListN.{length, getD};
 ghost use lib.Signed.{_<ℤ_, _≤ℤ_};
 ghost use Rattle.plane.specs.Side.{point, Near};
-ghost use Rattle.cells.specs.Lists.{corner-count, corner-at, cell-count, tabled};
-ghost use Rattle.cells.specs.Sound.{CornersNear, CornersExist, Numbered};
-ghost use Rattle.stand.specs.Find.{against, located};
+ghost use Rattle.cells.specs.Least.{least};
+ghost use Rattle.cells.specs.Lists.{corner-count, corner-at, cell-count, face-count, first, side-count, next, tabled};
+ghost use Rattle.cells.specs.Backed.{Backed};
+ghost use Rattle.cells.specs.Sound.{CornersNear, CornersExist, Numbered, Sound};
+ghost use Rattle.stand.specs.Find.{against, within-free, first-within, side-at, by-places, located};
 use cells::corner;
 use limits::Refusal;
 use plane::Containment;
 
+// Strictly inside a cell; strictly within a free side: its cell, and the side's number in it.
+pub enum Footing {
+    Inside(usize),
+    Side(usize, usize),
+}
+
 pub enum Found {
-    Cell(usize),
+    At(Footing),
     Refused(Refusal),
 }
 
@@ -68,11 +78,104 @@ fn containment(corners: &[i32], faces: &[u16], firsts: &[u16], q: [i64; 2], c: u
     plane::placed(least)
 }
 
-// The cell of a stand in whole millimetres, on a checked plan.
-pub fn locate(corners: &[i32], faces: &[u16], firsts: &[u16], q: [i64; 2]) -> Found
-    requires { ⌜ CornersNear (now corners) × CornersExist (now corners) (tabled (now faces) (now firsts)) × Numbered (tabled (now faces) (now firsts)) ⌝ }
+// Is q strictly within side f, which ends where face n starts, and does sight pass that side under the setting?
+fn is_in_doorway(
+    corners: &[i32],
+    faces: &[u16],
+    firsts: &[u16],
+    backs: &[u16],
+    doors: &[u16],
+    setting: u64,
+    q: [i64; 2],
+    f: usize,
+    n: usize,
+) -> bool
+    requires { ⌜ Sound (now corners) (tabled (now faces) (now firsts)) (now doors) × Backed (tabled (now faces) (now firsts)) (now backs) ⌝ }
     requires { ⌜ Near (point q) ⌝ }
-    ensures { λ r. ⌜ r ≡ located (now (corners .entry)) (tabled (now (faces .entry)) (now (firsts .entry))) (point q) ⌝ }
+    requires { ⌜ (f < face-count (tabled (now faces) (now firsts))) × (n ≡ next (tabled (now faces) (now firsts)) f) ⌝ }
+    ensures { λ r. ⌜ r ≡ within-free (now (corners .entry)) (tabled (now (faces .entry)) (now (firsts .entry))) (now (doors .entry)) setting (point q) f ⌝ }
+{
+    let from = start(corners, faces, f);
+    let to = start(corners, faces, n);
+    if !plane::is_within([from, to, q]) {
+        return false;
+    }
+    setting::is_free(faces, firsts, backs, doors, setting, f)
+}
+
+// The first free side of cell c that q is strictly within, or the first face of the next cell.
+fn least_doorway(
+    corners: &[i32],
+    faces: &[u16],
+    firsts: &[u16],
+    backs: &[u16],
+    doors: &[u16],
+    setting: u64,
+    q: [i64; 2],
+    c: usize,
+) -> usize
+    requires { ⌜ Sound (now corners) (tabled (now faces) (now firsts)) (now doors) × Backed (tabled (now faces) (now firsts)) (now backs) ⌝ }
+    requires { ⌜ Near (point q) ⌝ }
+    requires { ⌜ c < cell-count (tabled (now faces) (now firsts)) ⌝ }
+    ensures { λ r. ⌜ r ≡ least (within-free (now (corners .entry)) (tabled (now (faces .entry)) (now (firsts .entry))) (now (doors .entry)) setting (point q)) (side-count (tabled (now (faces .entry)) (now (firsts .entry))) c) (first (tabled (now (faces .entry)) (now (firsts .entry))) c) ⌝ }
+{
+    let begin = firsts[c] as usize;
+    let closing = firsts[c + 1] as usize - 1;
+    let mut f = begin;
+    while f < closing {
+        let n = f + 1;
+        if is_in_doorway(corners, faces, firsts, backs, doors, setting, q, f, n) {
+            return f;
+        }
+        f += 1;
+    }
+    // the closing side ends where the first starts
+    if is_in_doorway(corners, faces, firsts, backs, doors, setting, q, f, begin) {
+        return f;
+    }
+    f + 1
+}
+
+// A stand on a border: the first free side that it is strictly within.
+fn on_side(
+    corners: &[i32],
+    faces: &[u16],
+    firsts: &[u16],
+    backs: &[u16],
+    doors: &[u16],
+    setting: u64,
+    q: [i64; 2],
+) -> Found
+    requires { ⌜ Sound (now corners) (tabled (now faces) (now firsts)) (now doors) × Backed (tabled (now faces) (now firsts)) (now backs) ⌝ }
+    requires { ⌜ Near (point q) ⌝ }
+    ensures { λ r. ⌜ r ≡ by-places false (ltb (first-within (now (corners .entry)) (tabled (now (faces .entry)) (now (firsts .entry))) (now (doors .entry)) setting (point q)) (face-count (tabled (now (faces .entry)) (now (firsts .entry))))) true 0 (side-at (tabled (now (faces .entry)) (now (firsts .entry))) (first-within (now (corners .entry)) (tabled (now (faces .entry)) (now (firsts .entry))) (now (doors .entry)) setting (point q))) ⌝ }
+{
+    let m = firsts.len() - 1;
+    let mut c = 0;
+    while c < m {
+        let f = least_doorway(corners, faces, firsts, backs, doors, setting, q, c);
+        if f < firsts[c + 1] as usize {
+            let side = f - firsts[c] as usize;
+            return Found::At(Footing::Side(c, side));
+        }
+        c += 1;
+    }
+    Found::Refused(Refusal::Line)
+}
+
+// Where a stand in whole millimetres is, on a checked plan under its setting.
+pub fn locate(
+    corners: &[i32],
+    faces: &[u16],
+    firsts: &[u16],
+    backs: &[u16],
+    doors: &[u16],
+    setting: u64,
+    q: [i64; 2],
+) -> Found
+    requires { ⌜ Sound (now corners) (tabled (now faces) (now firsts)) (now doors) × Backed (tabled (now faces) (now firsts)) (now backs) ⌝ }
+    requires { ⌜ Near (point q) ⌝ }
+    ensures { λ r. ⌜ r ≡ located (now (corners .entry)) (tabled (now (faces .entry)) (now (firsts .entry))) (now (doors .entry)) setting (point q) ⌝ }
 {
     let m = firsts.len() - 1;
     let mut on_border = false;
@@ -80,7 +183,7 @@ pub fn locate(corners: &[i32], faces: &[u16], firsts: &[u16], q: [i64; 2]) -> Fo
     while c < m {
         match containment(corners, faces, firsts, q, c) {
             Containment::Inside => {
-                return Found::Cell(c);
+                return Found::At(Footing::Inside(c));
             }
             Containment::Border => {
                 on_border = true;
@@ -90,7 +193,8 @@ pub fn locate(corners: &[i32], faces: &[u16], firsts: &[u16], q: [i64; 2]) -> Fo
         c += 1;
     }
     if on_border {
-        return Found::Refused(Refusal::Line);
+        return on_side(corners, faces, firsts, backs, doors, setting, q);
     }
+    // a side that the stand is strictly within has it on its cell's border
     Found::Refused(Refusal::Outside)
 }

@@ -4,7 +4,7 @@
 use super::{Call, Tally};
 use crate::calls::{Calls, DoorChange, Plan, Refusal, Reply, Stand};
 use crate::generate::{in_other_kind, Given, Room, Scene};
-use crate::paper::{self, Direction, Floor, Listing, Paper, Row, View};
+use crate::paper::{self, Direction, Floor, Listing, Paper, Place, Row, View};
 use std::fmt::Debug;
 
 /// What is asked about a scene.
@@ -108,8 +108,10 @@ fn run_scene(scene: &Scene, asked: &Asked, both: Both<'_>, tally: &mut Tally) ->
             tally.count(Call::Write, lists.kind, reply.number);
         }
         Asked::Find => {
-            let reply = both.ask(|calls| calls.find(lists, scene.stand))?;
+            let reply = both.ask(|calls| calls.find(lists, scene.setting, scene.stand))?;
             tally.count(Call::Find, lists.kind, reply.number);
+            let [_, on_side, ..] = reply.values;
+            tally.sides.found += u64::from(on_side == 1);
         }
         Asked::List { table } => {
             let (reply, _) = both.ask(|calls| list(calls, scene, scene.setting, *table))?;
@@ -392,7 +394,7 @@ fn either_kind(
     let ask = |calls: &dyn Calls, scene: &Scene| {
         (
             calls.check(scene.plan.lists()),
-            calls.find(scene.plan.lists(), scene.stand),
+            calls.find(scene.plan.lists(), scene.setting, scene.stand),
             list(calls, scene, scene.setting, room),
             list_stands(calls, scene, [room; 2]),
             change(calls, scene, &given, shut, room),
@@ -410,28 +412,38 @@ fn demand_2(scene: &Scene, directions: &[Direction], both: Both<'_>, tally: &mut
     tally.rows += listing.rows.len() as u64;
     tally.crossings += listing.crossings;
     let floor = Floor::check(scene.plan.lists()).map_err(wrongly_listed)?;
-    within_bounds(&floor, &listing)?;
     let view = View::new(&floor, scene.setting, scene.stand).map_err(wrongly_listed)?;
+    within_bounds(&floor, view.place(), &listing)?;
     for &d in directions {
         if !view.meets_corner(d) {
             held_once(&view, &listing.rows, d)?;
             tally.directions += 1;
+            tally.sides.directions += u64::from(is_on_side(&view));
         }
     }
     Ok(())
+}
+
+fn is_on_side(view: &View<'_>) -> bool {
+    matches!(view.place(), Place::Within(_))
 }
 
 fn wrongly_listed(refusal: Refusal) -> String {
     format!("listed, where the paper program has {refusal:?}")
 }
 
-/// Rows never outnumber corners; crossings never exceed rows times (cells − 1).
-fn within_bounds(floor: &Floor, listing: &Listing) -> Outcome {
+/// Rows never outnumber corners; crossings never exceed rows times the cells that
+/// are not entered at the stand: all but one, or from a side all but two.
+fn within_bounds(floor: &Floor, place: Place, listing: &Listing) -> Outcome {
     let (corners, cells) = (floor.corners().len(), floor.cell_count());
     let (rows, crossings) = (listing.rows.len(), listing.crossings);
-    if rows > corners || crossings > (rows * (cells - 1)) as u64 {
+    let entered = match place {
+        Place::Inside(_) => 1,
+        Place::Within(_) => 2,
+    };
+    if rows > corners || crossings > (rows * (cells - entered)) as u64 {
         return Err(format!(
-            "{rows} rows, {crossings} crossings with {corners} corners, {cells} cells"
+            "{rows} rows, {crossings} crossings with {corners} corners, {cells} cells, from {place:?}"
         ));
     }
     Ok(())
@@ -452,7 +464,7 @@ fn held_once(view: &View<'_>, rows: &[Row], d: Direction) -> Outcome {
 }
 
 /// The door change gives what a fresh listing gives, and what the paper's
-/// routes and runs give.
+/// routes and runs give. From a side it is refused for a door there.
 fn demand_3(scene: &Scene, both: Both<'_>, tally: &mut Tally) -> Outcome {
     let Ok(before) = both.ask(|calls| listing(calls, scene, scene.setting))? else {
         return Ok(());
@@ -463,25 +475,25 @@ fn demand_3(scene: &Scene, both: Both<'_>, tally: &mut Tally) -> Outcome {
     let setting = scene.setting ^ 1 << scene.door;
     let shut = setting >> scene.door & 1 == 1;
     let given = before.rows.as_flattened();
-    let fresh = both.ask(|calls| listing(calls, scene, setting))?;
-    let changed = both.ask(|calls| listing_of(change(calls, scene, given, shut, Room::Exact)))?;
-    let by_runs = change_by_runs(scene, &before, setting, shut)?;
-    same(&fresh, &Ok(by_runs))?;
-    same(fresh, changed).map(drop)?;
-    tally.changes += 1;
-    Ok(())
-}
-
-/// The change by routes and runs, from the rows an implementor listed.
-fn change_by_runs(
-    scene: &Scene,
-    before: &Listing,
-    setting: u64,
-    shut: bool,
-) -> Result<Listing, String> {
+    let change_to =
+        |shut| both.ask(|calls| listing_of(change(calls, scene, given, shut, Room::Exact)));
     let floor = Floor::check(scene.plan.lists()).map_err(wrongly_listed)?;
     let old = View::new(&floor, scene.setting, scene.stand).map_err(wrongly_listed)?;
+    if old.is_in_doorway(scene.door) {
+        let refused = Err(Refusal::Line.reply().number);
+        same(change_to(shut)?, refused.clone()).map(drop)?;
+        same(change_to(!shut)?, refused).map(drop)?;
+        tally.sides.own_doors += 1;
+        return Ok(());
+    }
     let new = View::new(&floor, setting, scene.stand).map_err(wrongly_listed)?;
+    same(old.place(), new.place())?;
+    let fresh = both.ask(|calls| listing(calls, scene, setting))?;
     let faces = floor.door_faces(scene.door);
-    Ok(paper::change_by_runs(&old, &new, &before.rows, faces, shut))
+    let by_runs = paper::change_by_runs(&old, &new, &before.rows, faces, shut);
+    same(&fresh, &Ok(by_runs))?;
+    same(fresh, change_to(shut)?).map(drop)?;
+    tally.changes += 1;
+    tally.sides.changes += u64::from(is_on_side(&old));
+    Ok(())
 }

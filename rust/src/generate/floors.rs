@@ -28,6 +28,18 @@ pub fn random(dice: &mut Dice) -> Mesh {
     mesh
 }
 
+/// A floor whose lines are worth standing on: between cells of every size, or with
+/// other cells on top of them.
+pub fn with_lines(dice: &mut Dice) -> Mesh {
+    let mut mesh = if dice.percent(60) {
+        tiles(dice)
+    } else {
+        ramp(dice)
+    };
+    finish(&mut mesh, dice);
+    mesh
+}
+
 /// A floor of 2,048 corners and 3,000 cells. So many cells at most are taken
 /// out as pillars; the rest of the surplus goes at one end, whose corners then
 /// are in no cell.
@@ -662,16 +674,38 @@ pub fn spot_inside(mesh: &Mesh, cell: usize, dice: &mut Dice) -> Option<Spot> {
     })
 }
 
-/// A random spot strictly inside a line, if one is found.
+/// A random spot strictly inside a line, if there is one.
 pub fn spot_on_line(mesh: &Mesh, face: usize, dice: &mut Dice) -> Option<Spot> {
     let (a, b) = mesh.ends(face);
-    let (a, b) = (mesh.corners[a], mesh.corners[b]);
+    spot_between([mesh.corners[a], mesh.corners[b]], dice)
+}
+
+/// A random spot strictly between two, if there is one.
+pub fn spot_between(ends: [Spot; 2], dice: &mut Dice) -> Option<Spot> {
+    let (steps, _) = steps_between(ends);
+    (steps > 1).then(|| spot_at(ends, dice.between(1, steps - 1)))
+}
+
+/// The spot so many steps on from the first of two towards the second; it is
+/// beyond them where there are not so many.
+pub fn spot_at(ends: [Spot; 2], count: i64) -> Spot {
+    let ([x, y], (_, [dx, dy])) = (ends[0], steps_between(ends));
+    [x + dx * count, y + dy * count]
+}
+
+/// From one spot to another: how many whole steps, and one of them.
+pub fn steps_between([a, b]: [Spot; 2]) -> (i64, Spot) {
     let (dx, dy) = (b[0] - a[0], b[1] - a[1]);
     let steps = greatest_divisor(dx.abs(), dy.abs());
-    (steps > 1).then(|| {
-        let step = dice.between(1, steps - 1);
-        [a[0] + dx / steps * step, a[1] + dy / steps * step]
-    })
+    (steps, [dx, dy].map(|n| n / steps.max(1)))
+}
+
+/// Multiplies a floor, as far as the limits leave room, so that there are spots
+/// strictly inside every line.
+pub fn spread(mesh: &mut Mesh, dice: &mut Dice) {
+    let most = EDGE / mesh.reach().max(1);
+    let factor = dice.pick(&[2, 2, 3, 4, 6]).min(most);
+    mesh.map_corners(|at| times(at, factor));
 }
 
 pub fn greatest_divisor(a: i64, b: i64) -> i64 {

@@ -1,8 +1,9 @@
 //! The stands of a morning, as a list of numbers.
 
 use super::dice::Dice;
+use super::lines::{Lines, OnLine};
 use super::mesh::{Mesh, Spot};
-use super::stands::{inside, mapped_numbers, on_border, random as random_stand};
+use super::stands::{as_stand, inside, mapped_numbers, on_border, random as random_stand};
 use crate::calls::{Stand, POINT};
 use crate::paper::MOST_STANDS;
 
@@ -27,6 +28,18 @@ pub fn random(mesh: &Mesh, dice: &mut Dice) -> Vec<f64> {
         list.resize(length.saturating_sub(1 + dice.below(2)), POINT);
     }
     list
+}
+
+/// Puts some of the stands on lines of the plan.
+pub fn put_on_lines(list: &mut [f64], mesh: &Mesh, lines: &Lines, dice: &mut Dice) {
+    let (stands, _) = list.as_chunks_mut();
+    for numbers in stands {
+        if dice.percent(40) {
+            if let Some(OnLine { at, .. }) = lines.random(dice) {
+                *numbers = as_stand(mesh, at, dice).numbers();
+            }
+        }
+    }
 }
 
 /// Moves each stand of a list as the corners are by a linear map.

@@ -1,5 +1,5 @@
 //! Stands: inside cells, in line with corners, and everything a tablet could
-//! send by mistake.
+//! send by mistake. Those on the lines of a plan are in `lines`.
 
 use super::dice::Dice;
 use super::floors::{spot_inside, spot_on_line};
@@ -18,11 +18,7 @@ pub fn random(mesh: &Mesh, dice: &mut Dice) -> Stand {
         2 => beside_corner(mesh, dice),
         _ => inside(mesh, dice),
     };
-    if dice.percent(70) {
-        Stand::Point(at[0] as f64, at[1] as f64)
-    } else {
-        as_offset(mesh, at, dice)
-    }
+    as_stand(mesh, at, dice)
 }
 
 /// The spot a stand means, or one nearby where it means none.
@@ -87,6 +83,15 @@ pub fn on_border(mesh: &Mesh, dice: &mut Dice) -> Spot {
 fn beside_corner(mesh: &Mesh, dice: &mut Dice) -> Spot {
     let at = dice.pick(&mesh.corners);
     [at[0] + dice.between(-1, 1), at[1] + dice.between(-1, 1)]
+}
+
+/// A spot as a stand: a point, or an offset.
+pub fn as_stand(mesh: &Mesh, at: Spot, dice: &mut Dice) -> Stand {
+    if dice.percent(70) {
+        Stand::Point(at[0] as f64, at[1] as f64)
+    } else {
+        as_offset(mesh, at, dice)
+    }
 }
 
 /// The same spot as an offset, which the offset's own limits may forbid.

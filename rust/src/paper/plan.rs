@@ -17,7 +17,7 @@ pub const SIDES: RangeInclusive<usize> = 3..=8;
 pub const WALL: u16 = u16::MAX;
 
 /// A point of the floor in whole millimetres.
-#[derive(Clone, Copy, Debug, PartialEq, Eq)]
+#[derive(Clone, Copy, Debug, PartialEq, Eq, PartialOrd, Ord)]
 pub struct Point {
     pub x: i64,
     pub y: i64,

@@ -5,7 +5,8 @@ use super::sight::{Listing, Row, View};
 /// The list after a door change, made from the rows before it.
 ///
 /// `before` and `after` see the plan from the same stand, and differ in one
-/// door only; `faces` are the two faces of that door.
+/// door only; `faces` are the two faces of that door, and a stand on a side is
+/// not on its line.
 pub fn change_by_runs(
     before: &View<'_>,
     after: &View<'_>,

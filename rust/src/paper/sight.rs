@@ -1,7 +1,7 @@
 //! "Expansion" and "Walk": what is seen from a stand under a setting.
 
 use super::plan::{product, side_value, Floor, Point, WALL};
-use super::stand;
+use super::stand::{self, Place};
 use crate::calls::{Refusal, Stand};
 
 /// Face, right limit, left limit.
@@ -34,7 +34,7 @@ pub struct View<'a> {
     floor: &'a Floor,
     across: Vec<u16>,
     q: Point,
-    cell: usize,
+    place: Place,
 }
 
 impl<'a> View<'a> {
@@ -45,12 +45,12 @@ impl<'a> View<'a> {
     /// The view with the opposite faces that a setting leaves.
     pub fn through(floor: &'a Floor, across: Vec<u16>, stand: Stand) -> Result<View<'a>, Refusal> {
         let q = stand::millimetres(floor, stand)?;
-        let cell = stand::cell_of(floor, q)?;
+        let place = stand::place_of(floor, &across, q)?;
         Ok(View {
             floor,
             across,
             q,
-            cell,
+            place,
         })
     }
 
@@ -59,18 +59,41 @@ impl<'a> View<'a> {
         self.q
     }
 
-    /// The listing: the expansion of the sides of the stand's cell.
+    /// Where it is.
+    pub fn place(&self) -> Place {
+        self.place
+    }
+
+    /// The listing: the expansion of the sides around the stand, each with its
+    /// own two ends as limits.
     pub fn list(&self) -> Listing {
         let line = |face| {
             let [right, left] = self.floor.ends(face);
             [face, right, left]
         };
-        self.expand(self.floor.faces(self.cell).map(line).collect())
+        self.expand(self.around().into_iter().map(line).collect())
     }
 
-    /// The number of the stand's cell.
-    pub fn cell(&self) -> usize {
-        self.cell
+    /// The sides around the stand: all those of its cell; or, where it is on a
+    /// side, the others of that cell in order after it, then the neighbour's
+    /// likewise.
+    pub fn around(&self) -> Vec<u16> {
+        match self.place {
+            Place::Inside(cell) => self.floor.faces(cell).collect(),
+            Place::Within(face) => {
+                let back = self.across[usize::from(face)];
+                let both = [face, back].map(|face| self.floor.others(face));
+                both.into_iter().flatten().collect()
+            }
+        }
+    }
+
+    /// Whether the stand is on a side, and the line of this door, if there is
+    /// such a door, holds it strictly within: whatever cells the door is between.
+    pub fn is_in_doorway(&self, door: usize) -> bool {
+        let line = self.floor.doors().get(door);
+        matches!(self.place, Place::Within(_))
+            && line.is_some_and(|&face| stand::is_within(self.floor, face, self.q))
     }
 
     /// Follows lines to their rows. A line waits as the row it would be if it
@@ -129,13 +152,32 @@ impl<'a> View<'a> {
     /// which only happens when the ray meets a corner.
     pub fn walk(&self, d: Direction) -> Option<Walk> {
         let mut route = Vec::new();
-        let mut leave = self.line_ahead(self.floor.faces(self.cell), d)?;
+        let mut leave = match self.place {
+            Place::Inside(cell) => self.line_ahead(self.floor.faces(cell), d),
+            Place::Within(face) => {
+                self.line_ahead(self.floor.others(self.entered_at_once(face, d)?), d)
+            }
+        }?;
         while self.across[usize::from(leave)] != WALL {
             route.push(leave);
             let entered = self.across[usize::from(leave)];
             leave = self.line_ahead(self.floor.others(entered), d)?;
         }
         Some(Walk { route, end: leave })
+    }
+
+    /// The face of a line stood on whose cell a direction enters: that cell lies
+    /// left of it. None along the line, where the ray meets one of its ends.
+    fn entered_at_once(&self, face: u16, d: Direction) -> Option<u16> {
+        let [a, b] = self
+            .floor
+            .ends(face)
+            .map(|corner| self.floor.corner(corner));
+        match product(b.x - a.x, d.y) - product(b.y - a.y, d.x) {
+            1.. => Some(face),
+            0 => None,
+            _ => Some(self.across[usize::from(face)]),
+        }
     }
 
     fn line_ahead(&self, mut faces: impl Iterator<Item = u16>, d: Direction) -> Option<u16> {

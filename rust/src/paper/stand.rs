@@ -1,6 +1,7 @@
-//! "The stand": from doubles to whole millimetres, and to the cell.
+//! "The stand": from doubles to whole millimetres, and to the cell, or with
+//! request A4 of document 02 to the side.
 
-use super::plan::{side_value, Floor, Point, COORDINATES};
+use super::plan::{side_value, Floor, Point, COORDINATES, WALL};
 use crate::calls::{Refusal, Stand};
 
 /// The stand in whole millimetres, within the coordinate limits.
@@ -39,20 +40,47 @@ fn whole(number: f64) -> Result<i64, Refusal> {
     }
 }
 
-/// The least cell that holds the point strictly inside.
-pub fn cell_of(floor: &Floor, q: Point) -> Result<usize, Refusal> {
+/// Where a stand is found.
+#[derive(Clone, Copy, Debug, PartialEq, Eq)]
+pub enum Place {
+    /// Strictly inside the cell with this number.
+    Inside(usize),
+    /// Strictly within the side of this face, which is free.
+    Within(u16),
+}
+
+/// The least cell that holds the point strictly inside, or else the least face
+/// that is free and has it strictly within. Faces are numbered cell by cell, so
+/// that is the least side of the least cell.
+pub fn place_of(floor: &Floor, across: &[u16], q: Point) -> Result<Place, Refusal> {
+    let is_free = |face: u16| across[usize::from(face)] != WALL;
     let mut on_border = false;
+    let mut within = None;
     for cell in 0..floor.cell_count() {
         match least_side_value(floor, cell, q) {
-            least if least > 0 => return Ok(cell),
-            least => on_border |= least == 0,
+            1.. => return Ok(Place::Inside(cell)),
+            0 => {
+                on_border = true;
+                let mut sides = floor.faces(cell);
+                within = within
+                    .or_else(|| sides.find(|&face| is_free(face) && is_within(floor, face, q)));
+            }
+            _ => {}
         }
     }
-    Err(if on_border {
-        Refusal::Line
-    } else {
-        Refusal::Outside
-    })
+    match within {
+        Some(face) => Ok(Place::Within(face)),
+        None if on_border => Err(Refusal::Line),
+        None => Err(Refusal::Outside),
+    }
+}
+
+/// Whether the point is strictly within a face's side: on its line, and strictly
+/// between its two ends. Points of one line lie along it in the order of their
+/// coordinates, x first.
+pub fn is_within(floor: &Floor, face: u16, q: Point) -> bool {
+    let [a, b] = floor.ends(face).map(|corner| floor.corner(corner));
+    side_value(a, b, q) == 0 && a.min(b) < q && q < a.max(b)
 }
 
 /// The least of the side values of the cell's sides with the point: positive

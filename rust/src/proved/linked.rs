@@ -73,16 +73,18 @@ pub fn write(lists: Lists<'_>, file: &mut [u8], reply: &mut [u64]) {
     call!(manopluea_write(lists: Lists, file: &mut [u8], reply: &mut [u64],))
 }
 
-pub fn find(lists: Lists<'_>, stand: Stand, reply: &mut [u64]) {
+pub fn find(lists: Lists<'_>, setting: u64, stand: Stand, reply: &mut [u64]) {
     match stand {
         Stand::Point(x, y) => call!(manopluea_find_point(
             lists: Lists,
+            setting: u64,
             x: f64,
             y: f64,
             reply: &mut [u64],
         )),
         Stand::Offset(corner, dx, dy) => call!(manopluea_find_offset(
             lists: Lists,
+            setting: u64,
             corner: u16,
             dx: f64,
             dy: f64,

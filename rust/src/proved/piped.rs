@@ -281,9 +281,13 @@ fn with_stand<'a>(
     }
 }
 
-pub fn find(lists: Lists<'_>, stand: Stand, reply: &mut [u64]) {
+pub fn find(lists: Lists<'_>, setting: u64, stand: Stand, reply: &mut [u64]) {
     let functions = [Function::FindPoint, Function::FindOffset];
-    let (function, request) = with_stand(stand, functions, of_lists(lists, reply));
+    let request = Request {
+        setting,
+        ..of_lists(lists, reply)
+    };
+    let (function, request) = with_stand(stand, functions, request);
     let answer = ask(function, &request);
     kept(lists, &answer);
     reply.copy_from_slice(&answer.reply);

@@ -10,7 +10,7 @@ use Rattle.exports.proofs.manopluea_find_offset.Tie as tie
 
 returns : tie.Need-returns
 unfolding find-left
-returns c = none-replied (now (c .before .before .before .before .args .reply)) (find-replies (c .before .before .before .before .args .kind) (now (c .before .before .before .before .args .corners)) (now (c .before .before .before .before .args .cells)) (now (c .before .before .before .before .args .doors)) (Offset (c .before .before .before .before .args .corner) (c .before .before .before .before .args .dx) (c .before .before .before .before .args .dy))) (c .if1 .taken)
+returns c = none-replied (now (c .before .before .before .before .args .reply)) (find-replies (c .before .before .before .before .args .kind) (now (c .before .before .before .before .args .corners)) (now (c .before .before .before .before .args .cells)) (now (c .before .before .before .before .args .doors)) (c .before .before .before .before .args .setting) (Offset (c .before .before .before .before .args .corner) (c .before .before .before .before .args .dx) (c .before .before .before .before .args .dy))) (c .if1 .taken)
 
 find-requires : tie.Need-find-requires
 find-requires c κs = search needs

@@ -10,7 +10,7 @@ use Rattle.exports.proofs.manopluea_find_point.Tie as tie
 
 returns : tie.Need-returns
 unfolding find-left
-returns c = none-replied (now (c .before .before .before .before .args .reply)) (find-replies (c .before .before .before .before .args .kind) (now (c .before .before .before .before .args .corners)) (now (c .before .before .before .before .args .cells)) (now (c .before .before .before .before .args .doors)) (Point (c .before .before .before .before .args .x) (c .before .before .before .before .args .y))) (c .if1 .taken)
+returns c = none-replied (now (c .before .before .before .before .args .reply)) (find-replies (c .before .before .before .before .args .kind) (now (c .before .before .before .before .args .corners)) (now (c .before .before .before .before .args .cells)) (now (c .before .before .before .before .args .doors)) (c .before .before .before .before .args .setting) (Point (c .before .before .before .before .args .x) (c .before .before .before .before .args .y))) (c .if1 .taken)
 
 find-requires : tie.Need-find-requires
 find-requires c κs = search needs

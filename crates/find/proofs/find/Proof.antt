@@ -1,5 +1,5 @@
 -- `find::find` meets its contract.
-use mathlib.Core.Path.{sym, _∙_}
+use mathlib.Core.Path.{refl, sym, _∙_}
 use denote.Ref.{now}
 use Rattle.checking.proofs.Measures.{refused-likewise}
 use Rattle.find.proofs.Finding.{plan-refused}
@@ -29,7 +29,9 @@ find-many-requires : tie.Need-find-many-requires
 find-many-requires c κs = sym (c .before .before .before .before .measure .ensures) ∙ c .before .before .m .given .1
 
 returns-2 : tie.Need-returns-2
-returns-2 c = let s = c .before .before .before .before .before .before in plan-refused (c .before .before .before .before .before .before .args .kind) (now (c .before .before .before .before .before .before .args .corners)) (now (c .before .before .before .before .before .before .args .cells)) (now (c .before .before .before .before .before .before .args .doors)) (s .args .stand) (sym (refused-likewise (c .before .before .before .before .before .before .args .kind) (now (c .before .before .before .before .before .before .args .corners)) (now (c .before .before .before .before .before .before .args .cells)) (now (c .before .before .before .before .before .before .args .doors)) (c .before .before .before .measure .ensures) (c .before .r .given .1)))
+returns-2 c =
+    let a = c .before .before .before .before .before .before .args in
+    plan-refused (a .kind) (now (a .corners)) (now (a .cells)) (now (a .doors)) (a .setting) (a .stand) (refused-likewise (a .kind) (now (a .corners)) (now (a .cells)) (now (a .doors)) (c .before .before .before .measure .ensures) (c .before .r .given .1)) refl
 
 returns-3 : tie.Need-returns-3
 returns-3 c = search needs

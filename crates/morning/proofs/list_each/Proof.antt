@@ -9,8 +9,7 @@ use Rattle.limits.specs.Limits.{most-corners, most-cells}
 use Rattle.cells.specs.Lists.{tabled}
 use Rattle.sight.proofs.Lined.{sound-cells}
 use Rattle.morning.specs.OverLines.{single-on}
-use Rattle.morning.proofs.OverLines.{lines-drawn}
-use Rattle.morning.proofs.Each.{SoFar, none-yet, Next, next, table-keeps-its-length, replies-keep-their-length, all-listed, few-here, one-more}
+use Rattle.morning.proofs.Each.{SoFar, none-yet, Next, next, part-has-room, table-keeps-its-length, replies-keep-their-length, all-listed, few-here, one-more}
 use Rattle.morning.proofs.list_each.Statement.{statement}
 use Rattle.morning.proofs.list_each.Tie as tie
 
@@ -71,7 +70,8 @@ mul-list-stand-2 c = omega (arith, c .before .before .before .before .before .be
 list-stand-requires : tie.Need-list-stand-requires Inv-loop μ-loop
 list-stand-requires c κs =
     let s = c .before .before .before .before .before .before .before .before .before .before .before .before .before .before .before .before .before .before in
-    (lines-drawn (s .pre .0 .0) (s .args .setting) (c .before .before .before .before .before .before .before .before .before .lines-of .ensures), (next-at (c .before .before .before .before .before) .places-left, c .before .before .before .before .before .before .loop .inv .1 .1))
+    let d = c .before .before .before .before .before in
+    (s .pre .0, (c .before .before .before .before .before .before .before .before .before .lines-of .ensures, ((part-has-room (s .pre .0 .0) (s .args .setting) (d .before .loop .inv .1 .0) (s .pre .1 .0) (d .loop-test .taken) (in-array d), next-at d .places-left), d .before .loop .inv .1 .1)))
 
 -- the stand adds few rows and crossings
 few-at : (c : tie.After-struct-known Inv-loop μ-loop) → (c .before .before .before .before .before .before .list-stand .result .rows ≤ most-corners) × (c .before .before .before .before .before .before .list-stand .result .crossings ≤ most-corners * most-cells)
@@ -79,8 +79,7 @@ few-at c =
     let s = c .before .before .before .before .before .before .before .before .before .before .before .before .before .before .before .before .before .before .before .before .before .before .before .before .before in
     let d = c .before .before .before .before .before .before .before .before .before .before .before .before in
     let r = c .before .before .before .before .before .before .list-stand .ensures in
-    let drawn = lines-drawn (s .pre .0 .0) (s .args .setting) (c .before .before .before .before .before .before .before .before .before .before .before .before .before .before .before .before .lines-of .ensures) in
-    few-here (s .pre .0 .0) (s .args .setting) (d .before .loop .inv .1 .0) (s .pre .1 .0) (d .loop-test .taken) (in-array d) _ (r .0 drawn) (r .1 .0 drawn)
+    few-here (s .pre .0 .0) (s .args .setting) (d .before .loop .inv .1 .0) (s .pre .1 .0) (d .loop-test .taken) (in-array d) _ (r .0) (r .1 .0)
 
 add-rows : tie.Need-add-rows Inv-loop μ-loop
 add-rows c = omega (arith, next-at (c .before .before .before .before .before .before .before .before .before .before .before .before) .few-rows, c .before .before .before .before .before .before .before .before .before .before .before .before .before .before .before .before .before .before .before .before .before .before .before .before .before .pre .1 .0 .few-stands, few-at c .0)
@@ -99,8 +98,7 @@ loop-again c =
     let s = c .before .before .before .before .before .before .before .before .before .before .before .before .before .before .before .before .before .before .before .before .before .before .before .before .before .before in
     let d = c .before .before .before .before .before .before .before .before .before .before .before .before .before in
     let r = c .before .before .before .before .before .before .before .list-stand .ensures in
-    let drawn = lines-drawn (s .pre .0 .0) (s .args .setting) (c .before .before .before .before .before .before .before .before .before .before .before .before .before .before .before .before .before .lines-of .ensures) in
-    (omega arith, (one-more (s .pre .0 .0) (s .args .setting) (d .before .loop .inv .1 .0) (s .pre .1 .0) (d .loop-test .taken) (in-array d) _ (r .0 drawn, (r .1 .0 drawn, (r .1 .1 .0 drawn, r .1 .1 .1 drawn))), search needs))
+    (omega arith, (one-more (s .pre .0 .0) (s .args .setting) (d .before .loop .inv .1 .0) (s .pre .1 .0) (d .loop-test .taken) (in-array d) _ r, search needs))
 
 same-length : tie.Need-same-length Inv-loop μ-loop
 same-length c = table-keeps-its-length (c .before .loop .inv .1 .0)

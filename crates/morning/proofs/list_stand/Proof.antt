@@ -1,13 +1,13 @@
 -- `morning::list_stand` meets its contract.
 use mathlib.Core.Path.{sym, _∙_}
 use denote.Ref.{now}
-use Rattle.morning.proofs.OverLines.{plan-checked, corners-seen-asked, stand-refused, sides-asked, stand-listed}
+use Rattle.morning.proofs.OverLines.{corners-seen-asked, stand-refused, lines-asked, stand-listed}
 use borrow.Author.Needs.{needs}
 use Rattle.morning.proofs.list_stand.Statement.{statement}
 use Rattle.morning.proofs.list_stand.Tie as tie
 
 view-of-stand-requires : tie.Need-view-of-stand-requires
-view-of-stand-requires c κs = plan-checked (c .before .before .before .before .before .pre .0)
+view-of-stand-requires c κs = search needs
 
 enum-known-r : tie.Need-enum-known-r
 enum-known-r c = search needs
@@ -23,24 +23,24 @@ enum-known-x c = search needs
 
 see-requires : tie.Need-see-requires
 see-requires c κs =
-    let s = c .before .before .before .before .before .before .before .before .before .before in
-    (corners-seen-asked (s .pre .0) (s .args .stand) (now (s .args .table)) (sym (c .before .before .before .before .view-of-stand .ensures) ∙ (c .before .before .x .given .1)), s .pre .1 .1)
+    let s = c .before .before .before .before .before .before .before .before .before .before .before .before in
+    (corners-seen-asked (s .pre .0 .0) (s .args .setting) (s .args .stand) (sym (c .before .before .before .before .view-of-stand .ensures) ∙ c .before .before .x .given .1), s .pre .1 .1 .1)
 
 list-over-requires : tie.Need-list-over-requires
 list-over-requires c κs =
-    let s = c .before .before .before .before .before .before .before .before .before .before .before .before .before .before in
-    sides-asked (s .pre .0) (s .args .stand) (now (s .args .table)) (sym (c .before .before .before .before .before .before .before .before .view-of-stand .ensures) ∙ (c .before .before .before .before .before .before .x .given .1)) (c .before .before .before .see .ensures)
+    let s = c .before .before .before .before .before .before .before .before .before .before .before .before .before .before .before .before in
+    lines-asked (s .pre .0 .0) (s .args .setting) (s .args .stand) (sym (c .before .before .before .before .before .before .before .before .view-of-stand .ensures) ∙ c .before .before .before .before .before .before .x .given .1) (s .pre .1 .0) (c .before .before .before .see .ensures) (now (s .args .table)) (s .pre .1 .1 .0 .0)
 
 put-requires-2 : tie.Need-put-requires-2
-put-requires-2 c κs = search needs
+put-requires-2 c κs = c .before .before .before .before .before .before .before .before .before .before .before .before .before .before .before .before .before .before .before .before .pre .1 .1 .0 .1
 
 same-length : tie.Need-same-length
 same-length c = search needs
 
 returns : tie.Need-returns
 returns c =
-    let s = c .before .before .before .before .before .before .before .before .before .before .before .before .before .before in
-    stand-refused (s .args .stand) (now (s .args .table)) (s .args .at) (now (s .args .replies)) (sym (c .before .before .before .before .before .before .before .before .view-of-stand .ensures) ∙ (c .before .before .before .before .before .before .r .given .1)) (c .before .before .before .number .ensures) (c .before .before .put .ensures)
+    let s = c .before .before .before .before .before .before .before .before .before .before .before .before .before .before .before .before in
+    stand-refused _ _ _ (s .args .setting) (s .args .stand) (now (s .args .table)) (s .args .at) (now (s .args .replies)) (sym (c .before .before .before .before .before .before .before .before .view-of-stand .ensures) ∙ c .before .before .before .before .before .before .r .given .1) (c .before .before .before .number .ensures) (c .before .before .put .ensures)
 
 same-length-2 : tie.Need-same-length-2
 same-length-2 c = search needs
@@ -53,8 +53,8 @@ same-length-4 c = search needs
 
 returns-2 : tie.Need-returns-2
 returns-2 c =
-    let s = c .before .before .before .before .before .before .before .before .before .before .before .before .before .before .before .before .before .before .before .before .before in
-    stand-listed (s .args .stand) (now (s .args .table)) (s .args .at) (now (s .args .replies)) (sym (c .before .before .before .before .before .before .before .before .before .before .before .before .before .before .before .view-of-stand .ensures) ∙ (c .before .before .before .before .before .before .before .before .before .before .before .before .before .x .given .1)) (c .before .before .before .before .before .before .before .before .before .before .see .ensures) (c .before .before .before .before .before .before .list-over .ensures) (c .before .before .put2 .ensures)
+    let s = c .before .before .before .before .before .before .before .before .before .before .before .before .before .before .before .before .before .before .before .before .before .before .before in
+    stand-listed (s .pre .0 .0) (s .args .setting) (s .args .stand) (sym (c .before .before .before .before .before .before .before .before .before .before .before .before .before .before .before .view-of-stand .ensures) ∙ c .before .before .before .before .before .before .before .before .before .before .before .before .before .x .given .1) (s .pre .1 .0) (c .before .before .before .before .before .before .before .before .before .before .see .ensures) (now (s .args .table)) (s .pre .1 .1 .0 .0) (s .args .at) (now (s .args .replies)) (c .before .before .before .before .before .before .list-over .ensures) (c .before .before .put2 .ensures)
 
 pub list-stand-spec : {M : Type 1} → statement M
 list-stand-spec =

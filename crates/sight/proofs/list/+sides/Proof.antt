@@ -5,7 +5,7 @@ use native.Mathlib.Omega.{arith}
 use borrow.Fn.Kinds.{In}
 use borrow.Fn.PlainCycle.{Measures, is, falls, and}
 use denote.Ref.{now}
-use lib.ListN.{length}
+use lib.ListN.{length, getD}
 use Rattle.fan.specs.Sight.{Sight, crossings}
 use Rattle.fan.specs.Sight.Sight.{both}
 use Rattle.expand.specs.Remains.{Remains}
@@ -39,7 +39,7 @@ abbrev one : (t : ℕ) → sides-lts.Start (sides-calls t) (sides-at t) sides.Po
 one t s = side-tree (now (s .args .seen)) (now (s .args .lines)) (now (s .args .faces)) (s .args .unentered) (s .args .f)
 
 there : (t : ℕ) (s : sides-lts.Start (sides-calls t) (sides-at t) sides.Post) → 4 * s .args .f + 3 < length (now (s .args .lines))
-there t s = omega (arith, s .pre .1 .1 .0)
+there t s = s .pre .1 .1 .0
 
 starts : (t : ℕ) (s : sides-lts.Start (sides-calls t) (sides-at t) sides.Post) → 2 * s .args .f < length (now (s .args .faces))
 starts t s = s .pre .1 .0 .1 .stands (s .args .f) (there t s)
@@ -78,7 +78,7 @@ sides-returns t c =
 
 -- what is followed after the first side
 abbrev rest : (t : ℕ) → sides-lts.Start (sides-calls t) (sides-at t) sides.Post → Sight
-rest t s = cell-tree (now (s .args .seen)) (now (s .args .lines)) (now (s .args .faces)) (s .args .unentered) (s .args .more - 1) (s .args .f + 1)
+rest t s = cell-tree (now (s .args .seen)) (now (s .args .lines)) (now (s .args .faces)) (s .args .unentered) (s .args .more - 1) (getD (now (s .args .lines)) (4 * s .args .f + 3) 0)
 
 is-both : (t : ℕ) (c : sides-lts.Else1 (sides-calls t) (sides-at t) sides.Post) → let s = c .before .before .before .before .before .before .before .before .before .before in all t s ≡ both (one t s) (rest t s)
 is-both t c = let s = c .before .before .before .before .before .before .before .before .before .before in one-side-and-more (now (s .args .seen)) (now (s .args .lines)) (now (s .args .faces)) (s .args .unentered) (s .args .f) (s .args .more) (c .if1 .left)
@@ -108,30 +108,42 @@ sides-mul-after t c = omega (arith, rest-fits t (c .before) .0 .1 .0, c .before 
 sides-add-after : (t : ℕ) → sides-lts.Need-add-after (sides-calls t) (sides-at t) sides.Post
 sides-add-after t c = omega (arith, rest-fits t (c .before) .0 .1 .0, c .before .before .before .before .cross .kept .1 .1 .0)
 
-sides-add-sides : (t : ℕ) → sides-lts.Need-add-sides (sides-calls t) (sides-at t) sides.Post
-sides-add-sides t c = omega (arith, there t (c .before .before .before .before .before .before .before .before .before .before .before .before))
+sides-mul-next : (t : ℕ) → sides-lts.Need-mul-next (sides-calls t) (sides-at t) sides.Post
+sides-mul-next t c = omega (arith, there t (c .before .before .before .before .before .before .before .before .before .before .before))
+
+sides-add-next : (t : ℕ) → sides-lts.Need-add-next (sides-calls t) (sides-at t) sides.Post
+sides-add-next t c = omega (arith, there t (c .before .before .before .before .before .before .before .before .before .before .before))
+
+sides-mul-next-2 : (t : ℕ) → sides-lts.Need-mul-next-2 (sides-calls t) (sides-at t) sides.Post
+sides-mul-next-2 t c = omega (arith, there t (c .before .before .before .before .before .before .before .before .before .before .before))
+
+sides-shared-slice-read-next : (t : ℕ) → sides-lts.Need-shared-slice-read-next (sides-calls t) (sides-at t) sides.Post
+sides-shared-slice-read-next t c = there t (c .before .before .before .before .before .before .before .before .before .before .before .before)
+
+sides-cast-next : (t : ℕ) → sides-lts.Need-cast-next (sides-calls t) (sides-at t) sides.Post
+sides-cast-next t c = omega (arith, c .shared-slice-known5 .given (4 * c .before .before .before .before .before .before .before .before .before .before .before .before .args .f + 3))
 
 sides-sub-sides : (t : ℕ) → sides-lts.Need-sub-sides (sides-calls t) (sides-at t) sides.Post
-sides-sub-sides t c = some-follow t (c .before .before)
+sides-sub-sides t c = some-follow t (c .before .before .before)
 
 sides-sides-requires : (t : ℕ) → sides-lts.Need-sides-requires (sides-calls t) (sides-at t) sides.Post
 sides-sides-requires t c κs =
-    let s = c .before .before .before .before .before .before .before .before .before .before .before .before in
-    (omega (arith, s .pre .0, some-follow t (c .before .before)), (s .pre .1 .0, (omega (arith, s .pre .1 .1 .0, some-follow t (c .before .before)), rest-fits t (c .before .before) .0)))
+    let s = c .before .before .before .before .before .before .before .before .before .before .before .before .before in
+    let e = c .before .before .before in
+    (omega (arith, s .pre .0, some-follow t e), (s .pre .1 .0, (s .pre .1 .0 .0 .next-exists _ (there t s), rest-fits t e .0)))
 
 sides-add-t15 : (t : ℕ) → sides-lts.Need-add-t15 (sides-calls t) (sides-at t) sides.Post
 sides-add-t15 t c =
-    let s = c .before .before .before .before .before .before .before .before .before .before .before .before .before .before .before .before .before in
-    omega (arith, s .good .1 .1 .1 .0 .0, c .before .before .before .before .before .before .before .before .before .before .cross .kept .1 .1 .0, rest-fits t (c .before .before .before .before .before .before .before) .0 .1 .0, c .before .before .before .before .sides .ensures .0)
+    omega (arith, c .before .before .before .before .before .before .before .before .before .before .before .before .before .before .before .before .before .before .good .1 .1 .1 .0 .0, c .before .before .before .before .before .before .before .before .before .before .before .cross .kept .1 .1 .0, rest-fits t (c .before .before .before .before .before .before .before .before) .0 .1 .0, c .before .before .before .before .sides .ensures .0)
 
-sides-add-t14 : (t : ℕ) → sides-lts.Need-add-t14 (sides-calls t) (sides-at t) sides.Post
-sides-add-t14 t c = omega (arith, rest-fits t (c .before .before .before .before .before .before .before .before .before) .1, c .before .before .before .before .before .before .sides .ensures .1 .0)
+sides-add-t16 : (t : ℕ) → sides-lts.Need-add-t16 (sides-calls t) (sides-at t) sides.Post
+sides-add-t16 t c = omega (arith, rest-fits t (c .before .before .before .before .before .before .before .before .before .before) .1, c .before .before .before .before .before .before .sides .ensures .1 .0)
 
 sides-same-length-2 : (t : ℕ) → sides-lts.Need-same-length-2 (sides-calls t) (sides-at t) sides.Post
-sides-same-length-2 t c = c .before .before .before .before .before .before .sides .kept .1 .1 .1 .0 ∙ c .before .before .before .before .before .before .before .before .before .before .before .before .cross .kept .1 .1 .0
+sides-same-length-2 t c = c .before .before .before .before .before .before .sides .kept .1 .1 .1 .0 ∙ c .before .before .before .before .before .before .before .before .before .before .before .before .before .cross .kept .1 .1 .0
 
 sides-returns-2 : (t : ℕ) → sides-lts.Need-returns-2 (sides-calls t) (sides-at t) sides.Post
-sides-returns-2 t c = none-remains _ _ _ _ _ _ _ (rest-remains t (c .before .before .before .before .before .before .before .before .before)) (c .before .before .before .before .before .before .sides .ensures) refl refl
+sides-returns-2 t c = none-remains _ _ _ _ _ _ _ (rest-remains t (c .before .before .before .before .before .before .before .before .before .before)) (c .before .before .before .before .before .before .sides .ensures) refl refl
 
 pub +sides-spec : {M : Type 1} → statement M
 +sides-spec =
@@ -150,10 +162,14 @@ pub +sides-spec : {M : Type 1} → statement M
     (sides-returns t)
     (sides-mul-after t)
     (sides-add-after t)
-    (sides-add-sides t)
+    (sides-mul-next t)
+    (sides-add-next t)
+    (sides-mul-next-2 t)
+    (sides-shared-slice-read-next t)
+    (sides-cast-next t)
     (sides-sub-sides t)
     (sides-sides-requires t)
     (sides-add-t15 t)
-    (sides-add-t14 t)
+    (sides-add-t16 t)
     (sides-same-length-2 t)
     (sides-returns-2 t)

@@ -1,7 +1,6 @@
 -- `sight::list::list` meets its contract.
 use mathlib.Core.Path.{sym, _∙_}
 use denote.Ref.{now}
-use lib.ListN.{length}
 use Rattle.checking.proofs.Measures.{refused-likewise}
 use Rattle.sight.proofs.Views.{plan-refused, listing-refused}
 use borrow.Author.Needs.{needs}
@@ -33,7 +32,11 @@ list-many-requires : tie.Need-list-many-requires
 list-many-requires c κs = sym (c .before .before .before .before .before .measure .ensures) ∙ c .before .before .before .m .given .1
 
 returns-2 : tie.Need-returns-2
-returns-2 c = let s = c .before .before .before .before .before .before .before in listing-refused (c .before .before .before .before .before .before .before .args .kind) (now (c .before .before .before .before .before .before .before .args .corners)) (now (c .before .before .before .before .before .before .before .args .cells)) (now (c .before .before .before .before .before .before .before .args .doors)) (s .args .setting) (s .args .stand) (now (s .args .table)) (sym (plan-refused (c .before .before .before .before .before .before .before .args .kind) (now (c .before .before .before .before .before .before .before .args .corners)) (now (c .before .before .before .before .before .before .before .args .cells)) (now (c .before .before .before .before .before .before .before .args .doors)) (s .args .setting) (s .args .stand) (length (now (s .args .table))) (sym (refused-likewise (c .before .before .before .before .before .before .before .args .kind) (now (c .before .before .before .before .before .before .before .args .corners)) (now (c .before .before .before .before .before .before .before .args .cells)) (now (c .before .before .before .before .before .before .before .args .doors)) (c .before .before .before .measure .ensures) (c .before .r .given .1)))))
+returns-2 c =
+    let a = c .before .before .before .before .before .before .before .args in
+    listing-refused (a .kind) (now (a .corners)) (now (a .cells)) (now (a .doors)) (a .setting) (a .stand) (now (a .table))
+    (sym (plan-refused (a .kind) (now (a .corners)) (now (a .cells)) (now (a .doors)) (a .setting) (a .stand)
+    (sym (refused-likewise (a .kind) (now (a .corners)) (now (a .cells)) (now (a .doors)) (c .before .before .before .measure .ensures) (c .before .r .given .1)))))
 
 same-length-2 : tie.Need-same-length-2
 same-length-2 c = search needs

@@ -1,7 +1,7 @@
 -- `sight::list::list_from` meets its contract.
-use Rattle.stand.proofs.Located.{found-cell-holds-the-stand}
+use Rattle.stand.proofs.Located.{found-place-holds-the-stand}
 use Rattle.sight.proofs.Lined.{lined-is-lines, starts-stand}
-use Rattle.sight.proofs.Lister.{tree-is-whole, tree-has-room, few-crossings, listing-written}
+use Rattle.sight.proofs.Lister.{stands-in-the-tables, tree-is-whole, tree-has-room, few-crossings, listing-written}
 use borrow.Author.Needs.{needs}
 use Rattle.sight.proofs.list.list_from.Statement.{statement}
 use Rattle.sight.proofs.list.list_from.Tie as tie
@@ -17,11 +17,14 @@ list-over-requires c κs =
     let s = c .before .before .before .before .before .before .before .before .before .before .before .before .before .before .before .before in
     let sound = s .pre .0 .0 in
     let near = s .pre .1 .0 .0 in
-    let stands = found-cell-holds-the-stand _ (sound .numbered) _ (s .pre .1 .0 .1) in
+    let stands = found-place-holds-the-stand _ (sound .numbered) _ _ _ (s .pre .1 .0 .1) in
     let lined = c .before .before .before .before .before .before .before .before .lines-of .ensures in
     let seen = c .before .before .before .before .see .ensures in (
       (lined-is-lines (s .args .setting) sound near lined seen, starts-stand (s .args .setting) sound near lined seen, sound .numbered),
-      ((stands .cell-exists, lined .whole), (tree-is-whole sound (s .args .setting) _ near _ stands lined seen, (tree-has-room sound (s .args .setting) _ near _ stands lined seen _ (s .pre .1 .1 .0), few-crossings sound (s .args .setting) _ near _ stands lined seen))),
+      (
+        (stands-in-the-tables sound (s .args .setting) _ near lined seen _ stands, lined .whole),
+        (tree-is-whole sound (s .args .setting) _ near lined seen _ stands, (tree-has-room sound (s .args .setting) _ near lined seen _ stands _ (s .pre .1 .1 .0), few-crossings sound (s .args .setting) _ near lined seen _ stands)),
+      ),
     )
 
 same-length : tie.Need-same-length
@@ -37,7 +40,7 @@ returns : tie.Need-returns
 returns c =
     let s = c .before .before .before .before .before .before .before .before .before .before .before .before .before .before .before .before .before .before .before in
     let sound = s .pre .0 .0 in
-    listing-written sound (s .args .setting) _ (s .pre .1 .0 .0) _ (found-cell-holds-the-stand _ (sound .numbered) _ (s .pre .1 .0 .1)) (c .before .before .before .before .before .before .before .before .before .before .before .lines-of .ensures) (c .before .before .before .before .before .before .before .see .ensures) _ (c .before .before .list-over .ensures)
+    listing-written sound (s .args .setting) _ (s .pre .1 .0 .0) (c .before .before .before .before .before .before .before .before .before .before .before .lines-of .ensures) (c .before .before .before .before .before .before .before .see .ensures) _ (found-place-holds-the-stand _ (sound .numbered) _ _ _ (s .pre .1 .0 .1)) _ (c .before .before .list-over .ensures)
 
 pub list-from-spec : {M : Type 1} → statement M
 list-from-spec =

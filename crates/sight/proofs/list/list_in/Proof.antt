@@ -1,14 +1,14 @@
 -- `sight::list::list_in` meets its contract.
 use mathlib.Core.Path.{sym, _∙_}
 use denote.Ref.{now}
-use Rattle.checking.proofs.Rooms.{drawn-cells, noted-backs, room-for-lines}
-use Rattle.sight.proofs.Views.{listing-refused, listing-sound, listing-stands, listing-room, listing-done}
 use borrow.Author.Needs.{needs}
+use Rattle.checking.proofs.Rooms.{drawn-cells, noted-backs, room-for-lines}
+use Rattle.sight.proofs.Views.{listing-refused, room-refused, listing-sound, listing-stands, listing-done}
 use Rattle.sight.proofs.list.list_in.Statement.{statement}
 use Rattle.sight.proofs.list.list_in.Tie as tie
 
 view-in-requires : tie.Need-view-in-requires
-view-in-requires c κs = let s = c .before .before .before .before .before .before .before .before .before .before in (s .pre .0, (s .pre .1 .0, (s .pre .1 .1 .0, s .pre .1 .1 .1 .0)))
+view-in-requires c κs = (c .before .before .before .before .before .before .before .before .before .before .pre .0, (c .before .before .before .before .before .before .before .before .before .before .pre .1 .0, (c .before .before .before .before .before .before .before .before .before .before .pre .1 .1 .0, c .before .before .before .before .before .before .before .before .before .before .pre .1 .1 .1 .0)))
 
 enum-known-r : tie.Need-enum-known-r
 enum-known-r c = search needs
@@ -16,16 +16,8 @@ enum-known-r c = search needs
 enum-known-x : tie.Need-enum-known-x
 enum-known-x c = search needs
 
-list-from-requires : tie.Need-list-from-requires
-list-from-requires c κs =
-    let s = c .before .before .before .before .before .before .before .before .before .before .before .before .before .before .before .before .before .before .before .before .before .before .before .before .before .before in
-    let v = c .before .before .before .before .before .before .before .before .before .before .before .before .before .before .before .view-in .ensures in
-    let drawn = drawn-cells (s .args .kind) (now (s .args .cells)) (v .1 .0) (v .1 .1 .0) in
-    let view = sym (v .0) ∙ c .before .before .before .before .before .before .before .x .given .1 in
-    let sound = listing-sound (c .before .before .before .before .before .before .before .before .before .before .before .before .before .before .before .before .before .before .before .before .before .before .before .before .before .before .args .kind) (now (c .before .before .before .before .before .before .before .before .before .before .before .before .before .before .before .before .before .before .before .before .before .before .before .before .before .before .args .corners)) (now (c .before .before .before .before .before .before .before .before .before .before .before .before .before .before .before .before .before .before .before .before .before .before .before .before .before .before .args .cells)) (now (c .before .before .before .before .before .before .before .before .before .before .before .before .before .before .before .before .before .before .before .before .before .before .before .before .before .before .args .doors)) (c .before .before .before .before .before .before .before .before .before .before .before .before .before .before .before .before .before .before .before .before .before .before .before .before .before .before .args .setting) (c .before .before .before .before .before .before .before .before .before .before .before .before .before .before .before .before .before .before .before .before .before .before .before .before .before .before .args .stand) (now (c .before .before .before .before .before .before .before .before .before .before .before .before .before .before .before .before .before .before .before .before .before .before .before .before .before .before .args .table)) view drawn in (
-      (sound, noted-backs (s .args .kind) (now (s .args .corners)) (now (s .args .cells)) (now (s .args .doors)) _ drawn (v .1 .1 .1) sound),
-      (listing-stands (c .before .before .before .before .before .before .before .before .before .before .before .before .before .before .before .before .before .before .before .before .before .before .before .before .before .before .args .kind) (now (c .before .before .before .before .before .before .before .before .before .before .before .before .before .before .before .before .before .before .before .before .before .before .before .before .before .before .args .corners)) (now (c .before .before .before .before .before .before .before .before .before .before .before .before .before .before .before .before .before .before .before .before .before .before .before .before .before .before .args .cells)) (now (c .before .before .before .before .before .before .before .before .before .before .before .before .before .before .before .before .before .before .before .before .before .before .before .before .before .before .args .doors)) (c .before .before .before .before .before .before .before .before .before .before .before .before .before .before .before .before .before .before .before .before .before .before .before .before .before .before .args .setting) (c .before .before .before .before .before .before .before .before .before .before .before .before .before .before .before .before .before .before .before .before .before .before .before .before .before .before .args .stand) (now (c .before .before .before .before .before .before .before .before .before .before .before .before .before .before .before .before .before .before .before .before .before .before .before .before .before .before .args .table)) view drawn, (listing-room (c .before .before .before .before .before .before .before .before .before .before .before .before .before .before .before .before .before .before .before .before .before .before .before .before .before .before .args .kind) (now (c .before .before .before .before .before .before .before .before .before .before .before .before .before .before .before .before .before .before .before .before .before .before .before .before .before .before .args .corners)) (now (c .before .before .before .before .before .before .before .before .before .before .before .before .before .before .before .before .before .before .before .before .before .before .before .before .before .before .args .cells)) (now (c .before .before .before .before .before .before .before .before .before .before .before .before .before .before .before .before .before .before .before .before .before .before .before .before .before .before .args .doors)) (c .before .before .before .before .before .before .before .before .before .before .before .before .before .before .before .before .before .before .before .before .before .before .before .before .before .before .args .setting) (c .before .before .before .before .before .before .before .before .before .before .before .before .before .before .before .before .before .before .before .before .before .before .before .before .before .before .args .stand) (now (c .before .before .before .before .before .before .before .before .before .before .before .before .before .before .before .before .before .before .before .before .before .before .before .before .before .before .args .table)) view, (room-for-lines (s .args .kind) (now (s .args .cells)) drawn (s .pre .1 .1 .1 .1 .0), s .pre .1 .1 .1 .1 .1))),
-    )
+mul-if1 : tie.Need-mul-if1
+mul-if1 c = search needs
 
 same-length : tie.Need-same-length
 same-length c = search needs
@@ -37,7 +29,24 @@ same-length-3 : tie.Need-same-length-3
 same-length-3 c = search needs
 
 returns : tie.Need-returns
-returns c = listing-refused (c .before .before .before .before .before .before .before .before .before .before .before .before .before .before .before .before .before .before .before .before .args .kind) (now (c .before .before .before .before .before .before .before .before .before .before .before .before .before .before .before .before .before .before .before .before .args .corners)) (now (c .before .before .before .before .before .before .before .before .before .before .before .before .before .before .before .before .before .before .before .before .args .cells)) (now (c .before .before .before .before .before .before .before .before .before .before .before .before .before .before .before .before .before .before .before .before .args .doors)) (c .before .before .before .before .before .before .before .before .before .before .before .before .before .before .before .before .before .before .before .before .args .setting) (c .before .before .before .before .before .before .before .before .before .before .before .before .before .before .before .before .before .before .before .before .args .stand) (now (c .before .before .before .before .before .before .before .before .before .before .before .before .before .before .before .before .before .before .before .before .args .table)) (sym (c .before .before .before .before .before .before .before .before .before .view-in .ensures .0) ∙ c .before .r .given .1)
+returns c =
+    let a = c .before .before .before .before .before .before .before .before .before .before .before .before .before .before .before .before .before .before .before .before .before .args in
+    room-refused (a .kind) (now (a .corners)) (now (a .cells)) (now (a .doors)) (a .setting) (a .stand) (now (a .table)) (sym (c .before .before .before .before .before .before .before .before .before .before .view-in .ensures .0) ∙ c .before .before .x .given .1) (c .if1 .taken)
+
+list-from-requires : tie.Need-list-from-requires
+list-from-requires c κs =
+    let a = c .before .before .before .before .before .before .before .before .before .before .before .before .before .before .before .before .before .before .before .before .before .before .before .before .before .before .before .args in
+    let p = c .before .before .before .before .before .before .before .before .before .before .before .before .before .before .before .before .before .before .before .before .before .before .before .before .before .before .before .pre in
+    let v = c .before .before .before .before .before .before .before .before .before .before .before .before .before .before .before .before .view-in .ensures in
+    let drawn = drawn-cells (a .kind) (now (a .cells)) (v .1 .0) (v .1 .1 .0) in
+    let view = sym (v .0) ∙ c .before .before .before .before .before .before .before .before .x .given .1 in
+    let sound = listing-sound (a .kind) (now (a .corners)) (now (a .cells)) (now (a .doors)) (a .setting) (a .stand) view drawn in (
+      (sound, noted-backs (a .kind) (now (a .corners)) (now (a .cells)) (now (a .doors)) _ drawn (v .1 .1 .1) sound),
+      (
+        listing-stands (a .kind) (now (a .corners)) (now (a .cells)) (now (a .doors)) (a .setting) (a .stand) view drawn,
+        (c .before .before .before .before .before .before .if1 .left, (room-for-lines (a .kind) (now (a .cells)) drawn (p .1 .1 .1 .1 .0), p .1 .1 .1 .1 .1)),
+      ),
+    )
 
 same-length-4 : tie.Need-same-length-4
 same-length-4 c = search needs
@@ -48,6 +57,11 @@ same-length-5 c = search needs
 same-length-6 : tie.Need-same-length-6
 same-length-6 c = search needs
 
+returns-2 : tie.Need-returns-2
+returns-2 c =
+    let a = c .before .before .before .before .before .before .before .before .before .before .before .before .before .before .before .before .before .before .before .before .args in
+    listing-refused (a .kind) (now (a .corners)) (now (a .cells)) (now (a .doors)) (a .setting) (a .stand) (now (a .table)) (sym (c .before .before .before .before .before .before .before .before .before .view-in .ensures .0) ∙ c .before .r .given .1)
+
 same-length-7 : tie.Need-same-length-7
 same-length-7 c = search needs
 
@@ -57,11 +71,21 @@ same-length-8 c = search needs
 same-length-9 : tie.Need-same-length-9
 same-length-9 c = search needs
 
-returns-2 : tie.Need-returns-2
-returns-2 c =
-    let s = c .before .before .before .before .before .before .before .before .before .before .before .before .before .before .before .before .before .before .before .before .before .before .before .before .before .before .before .before .before .before .before .before in
-    let v = c .before .before .before .before .before .before .before .before .before .before .before .before .before .before .before .before .before .before .before .before .before .view-in .ensures in
-    listing-done (c .before .before .before .before .before .before .before .before .before .before .before .before .before .before .before .before .before .before .before .before .before .before .before .before .before .before .before .before .before .before .before .before .args .kind) (now (c .before .before .before .before .before .before .before .before .before .before .before .before .before .before .before .before .before .before .before .before .before .before .before .before .before .before .before .before .before .before .before .before .args .corners)) (now (c .before .before .before .before .before .before .before .before .before .before .before .before .before .before .before .before .before .before .before .before .before .before .before .before .before .before .before .before .before .before .before .before .args .cells)) (now (c .before .before .before .before .before .before .before .before .before .before .before .before .before .before .before .before .before .before .before .before .before .before .before .before .before .before .before .before .before .before .before .before .args .doors)) (c .before .before .before .before .before .before .before .before .before .before .before .before .before .before .before .before .before .before .before .before .before .before .before .before .before .before .before .before .before .before .before .before .args .setting) (c .before .before .before .before .before .before .before .before .before .before .before .before .before .before .before .before .before .before .before .before .before .before .before .before .before .before .before .before .before .before .before .before .args .stand) (now (c .before .before .before .before .before .before .before .before .before .before .before .before .before .before .before .before .before .before .before .before .before .before .before .before .before .before .before .before .before .before .before .before .args .table)) (sym (v .0) ∙ c .before .before .before .before .before .before .before .before .before .before .before .before .before .x .given .1) (drawn-cells (s .args .kind) (now (s .args .cells)) (v .1 .0) (v .1 .1 .0)) (c .before .before .before .before .before .list-from .ensures)
+same-length-10 : tie.Need-same-length-10
+same-length-10 c = search needs
+
+same-length-11 : tie.Need-same-length-11
+same-length-11 c = search needs
+
+same-length-12 : tie.Need-same-length-12
+same-length-12 c = search needs
+
+returns-3 : tie.Need-returns-3
+returns-3 c =
+    let a = c .before .before .before .before .before .before .before .before .before .before .before .before .before .before .before .before .before .before .before .before .before .before .before .before .before .before .before .before .before .before .before .before .before .args in
+    let v = c .before .before .before .before .before .before .before .before .before .before .before .before .before .before .before .before .before .before .before .before .before .before .view-in .ensures in
+    listing-done (a .kind) (now (a .corners)) (now (a .cells)) (now (a .doors)) (a .setting) (a .stand) (now (a .table)) (sym (v .0) ∙ c .before .before .before .before .before .before .before .before .before .before .before .before .before .before .x .given .1)
+    (drawn-cells (a .kind) (now (a .cells)) (v .1 .0) (v .1 .1 .0)) (c .before .before .before .before .before .before .before .before .before .before .before .before .if1 .left) (c .before .before .before .before .before .list-from .ensures)
 
 pub list-in-spec : {M : Type 1} → statement M
 list-in-spec =
@@ -70,15 +94,20 @@ list-in-spec =
     view-in-requires
     enum-known-r
     enum-known-x
-    list-from-requires
+    mul-if1
     same-length
     same-length-2
     same-length-3
     returns
+    list-from-requires
     same-length-4
     same-length-5
     same-length-6
+    returns-2
     same-length-7
     same-length-8
     same-length-9
-    returns-2)
+    same-length-10
+    same-length-11
+    same-length-12
+    returns-3)

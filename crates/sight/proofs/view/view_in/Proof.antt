@@ -1,18 +1,18 @@
 -- `sight::view::view_in` meets its contract.
 use mathlib.Core.Path.{sym, ap, _∙_}
 use denote.Ref.{now}
+use borrow.Author.Needs.{needs}
 use Rattle.cells.specs.Lists.{Cells}
 use Rattle.cells.proofs.Accepted.{few-doors}
+use Rattle.checking.proofs.Rooms.{drawn-cells, plan-checked}
 use Rattle.stand.specs.Spot.{stood}
 use Rattle.sight.specs.Listing.{view-of-spot}
-use Rattle.checking.proofs.Rooms.{drawn-cells, corners-checked}
 use Rattle.sight.proofs.Views.{plan-refused, setting-refused, setting-accepted}
-use borrow.Author.Needs.{needs}
 use Rattle.sight.proofs.view.view_in.Statement.{statement}
 use Rattle.sight.proofs.view.view_in.Tie as tie
 
 check-into-requires : tie.Need-check-into-requires
-check-into-requires c κs = let s = c .before .before .before .before .before .before .before .before in (s .pre .0 .0, (s .pre .0 .1, (s .pre .1 .0, (s .pre .1 .1 .0, s .pre .1 .1 .1))))
+check-into-requires c κs = (c .before .before .before .before .before .before .before .before .pre .0 .0, (c .before .before .before .before .before .before .before .before .pre .0 .1, (c .before .before .before .before .before .before .before .before .pre .1 .0, (c .before .before .before .before .before .before .before .before .pre .1 .1 .0, c .before .before .before .before .before .before .before .before .pre .1 .1 .1))))
 
 enum-known-r : tie.Need-enum-known-r
 enum-known-r c = search needs
@@ -21,7 +21,10 @@ enum-known-plan : tie.Need-enum-known-plan
 enum-known-plan c = search needs
 
 is-wrong-requires : tie.Need-is-wrong-requires
-is-wrong-requires c κs = few-doors (c .before .before .before .before .before .before .before .before .before .before .before .before .before .before .before .before .before .before .args .kind) (now (c .before .before .before .before .before .before .before .before .before .before .before .before .before .before .before .before .before .before .args .corners)) (now (c .before .before .before .before .before .before .before .before .before .before .before .before .before .before .before .before .before .before .args .cells)) (now (c .before .before .before .before .before .before .before .before .before .before .before .before .before .before .before .before .before .before .args .doors)) (sym (c .before .before .before .before .before .before .before .before .before .check-into .ensures .0) ∙ c .before .plan .given .1)
+is-wrong-requires c κs =
+    let a = c .before .before .before .before .before .before .before .before .before .before .before .before .before .before .before .before .before .before .args in
+    let e = c .before .before .before .before .before .before .before .before .before .check-into .ensures in
+    few-doors (a .kind) (now (a .corners)) (now (a .cells)) (now (a .doors)) (sym (e .0) ∙ c .before .plan .given .1)
 
 same-length : tie.Need-same-length
 same-length c = search needs
@@ -33,10 +36,18 @@ same-length-3 : tie.Need-same-length-3
 same-length-3 c = search needs
 
 returns : tie.Need-returns
-returns c = (setting-refused (c .before .before .before .before .before .before .before .before .before .before .before .before .before .before .before .before .before .before .before .before .args .kind) (now (c .before .before .before .before .before .before .before .before .before .before .before .before .before .before .before .before .before .before .before .before .args .corners)) (now (c .before .before .before .before .before .before .before .before .before .before .before .before .before .before .before .before .before .before .before .before .args .cells)) (now (c .before .before .before .before .before .before .before .before .before .before .before .before .before .before .before .before .before .before .before .before .args .doors)) (c .before .before .before .before .before .before .before .before .before .before .before .before .before .before .before .before .before .before .before .before .args .setting) (c .before .before .before .before .before .before .before .before .before .before .before .before .before .before .before .before .before .before .before .before .args .stand) (c .before .before .before .before .before .before .before .before .before .before .before .before .before .before .before .before .before .before .before .before .args .room) (sym (c .before .before .before .before .before .before .before .before .before .before .before .check-into .ensures .0) ∙ c .before .before .before .plan .given .1) (c .before .is-wrong .ensures) (c .if1 .taken), c .before .before .before .before .before .before .before .before .before .before .before .check-into .ensures .1)
+returns c =
+    let a = c .before .before .before .before .before .before .before .before .before .before .before .before .before .before .before .before .before .before .before .before .args in
+    let e = c .before .before .before .before .before .before .before .before .before .before .before .check-into .ensures in (
+      setting-refused (a .kind) (now (a .corners)) (now (a .cells)) (now (a .doors)) (a .setting) (a .stand) (sym (e .0) ∙ c .before .before .before .plan .given .1) (c .before .is-wrong .ensures) (c .if1 .taken),
+      e .1,
+    )
 
 view-of-stand-requires : tie.Need-view-of-stand-requires
-view-of-stand-requires c κs = let s = c .before .before .before .before .before .before .before .before .before .before .before .before .before .before .before .before .before .before .before .before .before .before in let e = c .before .before .before .before .before .before .before .before .before .before .before .before .before .check-into .ensures in corners-checked (c .before .before .before .before .before .before .before .before .before .before .before .before .before .before .before .before .before .before .before .before .before .before .args .kind) (now (c .before .before .before .before .before .before .before .before .before .before .before .before .before .before .before .before .before .before .before .before .before .before .args .corners)) (now (c .before .before .before .before .before .before .before .before .before .before .before .before .before .before .before .before .before .before .before .before .before .before .args .cells)) (now (c .before .before .before .before .before .before .before .before .before .before .before .before .before .before .before .before .before .before .before .before .before .before .args .doors)) (drawn-cells (s .args .kind) (now (s .args .cells)) (e .1 .0) (e .1 .1 .0)) (sym (e .0) ∙ c .before .before .before .before .before .plan .given .1)
+view-of-stand-requires c κs =
+    let a = c .before .before .before .before .before .before .before .before .before .before .before .before .before .before .before .before .before .before .before .before .before .before .before .args in
+    let e = c .before .before .before .before .before .before .before .before .before .before .before .before .before .before .check-into .ensures in
+    plan-checked (a .kind) (now (a .corners)) (now (a .cells)) (now (a .doors)) _ (drawn-cells (a .kind) (now (a .cells)) (e .1 .0) (e .1 .1 .0)) (sym (e .0) ∙ c .before .before .before .before .before .before .plan .given .1) (e .1 .1 .1)
 
 same-length-4 : tie.Need-same-length-4
 same-length-4 c = search needs
@@ -48,7 +59,10 @@ same-length-6 : tie.Need-same-length-6
 same-length-6 c = search needs
 
 returns-2 : tie.Need-returns-2
-returns-2 c = (plan-refused (c .before .before .before .before .before .before .before .before .before .before .before .before .before .before .before .before .before .before .args .kind) (now (c .before .before .before .before .before .before .before .before .before .before .before .before .before .before .before .before .before .before .args .corners)) (now (c .before .before .before .before .before .before .before .before .before .before .before .before .before .before .before .before .before .before .args .cells)) (now (c .before .before .before .before .before .before .before .before .before .before .before .before .before .before .before .before .before .before .args .doors)) (c .before .before .before .before .before .before .before .before .before .before .before .before .before .before .before .before .before .before .args .setting) (c .before .before .before .before .before .before .before .before .before .before .before .before .before .before .before .before .before .before .args .stand) (c .before .before .before .before .before .before .before .before .before .before .before .before .before .before .before .before .before .before .args .room) (sym (c .before .before .before .before .before .before .before .before .before .check-into .ensures .0) ∙ c .before .r .given .1), c .before .before .before .before .before .before .before .before .before .check-into .ensures .1)
+returns-2 c =
+    let a = c .before .before .before .before .before .before .before .before .before .before .before .before .before .before .before .before .before .before .args in
+    let e = c .before .before .before .before .before .before .before .before .before .check-into .ensures in
+    (plan-refused (a .kind) (now (a .corners)) (now (a .cells)) (now (a .doors)) (a .setting) (a .stand) (sym (e .0) ∙ c .before .r .given .1), e .1)
 
 same-length-7 : tie.Need-same-length-7
 same-length-7 c = search needs
@@ -61,10 +75,13 @@ same-length-9 c = search needs
 
 returns-3 : tie.Need-returns-3
 returns-3 c =
-    let s = c .before .before .before .before .before .before .before .before .before .before .before .before .before .before .before .before .before .before .before .before .before .before .before in
-    let e = c .before .before .before .before .before .before .before .before .before .before .before .before .before .before .check-into .ensures in
-    let T = drawn-cells (s .args .kind) (now (s .args .cells)) (e .1 .0) (e .1 .1 .0) in
-    (setting-accepted (c .before .before .before .before .before .before .before .before .before .before .before .before .before .before .before .before .before .before .before .before .before .before .before .args .kind) (now (c .before .before .before .before .before .before .before .before .before .before .before .before .before .before .before .before .before .before .before .before .before .before .before .args .corners)) (now (c .before .before .before .before .before .before .before .before .before .before .before .before .before .before .before .before .before .before .before .before .before .before .before .args .cells)) (now (c .before .before .before .before .before .before .before .before .before .before .before .before .before .before .before .before .before .before .before .before .before .before .before .args .doors)) (s .args .setting) (s .args .stand) (s .args .room) (sym (e .0) ∙ c .before .before .before .before .before .before .plan .given .1) (c .before .before .before .before .is-wrong .ensures) (c .before .before .before .if1 .left) (c .view-of-stand .ensures ∙ ap (λ (T : Cells). view-of-spot (now (s .args .corners)) T (s .args .room) (stood (now (s .args .corners)) (s .args .stand))) T), e .1)
+    let a = c .before .before .before .before .before .before .before .before .before .before .before .before .before .before .before .before .before .before .before .before .before .before .before .before .args in
+    let e = c .before .before .before .before .before .before .before .before .before .before .before .before .before .before .before .check-into .ensures in
+    let drawn = drawn-cells (a .kind) (now (a .cells)) (e .1 .0) (e .1 .1 .0) in (
+      setting-accepted (a .kind) (now (a .corners)) (now (a .cells)) (now (a .doors)) (a .setting) (a .stand) (sym (e .0) ∙ c .before .before .before .before .before .before .before .plan .given .1) (c .before .before .before .before .before .is-wrong .ensures) (c .before .before .before .before .if1 .left)
+          (c .view-of-stand .ensures ∙ ap (λ (T : Cells). view-of-spot (now (a .corners)) T (now (a .doors)) (a .setting) (stood (now (a .corners)) (a .stand))) drawn),
+      e .1,
+    )
 
 pub view-in-spec : {M : Type 1} → statement M
 view-in-spec =

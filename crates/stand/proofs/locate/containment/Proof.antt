@@ -1,19 +1,17 @@
 -- `stand::locate::containment` meets its contract: after each side the least of the side values so far, and after the last the least of all.
-use mathlib.Core.List.{List}
-use mathlib.Core.Path.{_≡_, refl, _∙_, ap}
-use Prim.Native.Nat.{ℕ, suc, _+_, _-_, _≤_, _<_}
+use mathlib.Core.Path.{refl, _∙_}
+use Prim.Native.Nat.{_+_, _-_}
 use native.Mathlib.Numerals.{add-one}
 use native.Mathlib.Omega.{arith}
 use denote.Ref.{now}
 use mir.Syntax.{w64}
 use mir.Val.{toZ}
-use lib.ListN.{getD}
 use borrow.Author.Needs.{needs}
 use Rattle.exact.proofs.Bounds.{handed}
 use Rattle.plane.specs.Side.{point}
-use Rattle.cells.specs.Lists.{first, tabled}
+use Rattle.cells.specs.Lists.{tabled}
 use Rattle.stand.proofs.Against.{least-decides}
-use Rattle.stand.proofs.Sides.{one-more, after-the-last, ends-near, value-read, Passed, first-is-a-side, second-is-a-side, third-is-a-side, next-is-one, corner-exists, starts, first-side, second-side, further-side, last-side, begins}
+use Rattle.stand.proofs.Sides.{one-more, after-the-last, ends-near, value-read, Passed, first-is-a-side, second-is-a-side, third-is-a-side, next-is-one, corner-exists, starts, first-side, second-side, further-side, last-side, begins, end-read, before-the-last, the-last}
 use Rattle.stand.proofs.locate.containment.Statement.{statement}
 use Rattle.stand.proofs.locate.containment.Tie as tie
 
@@ -22,17 +20,6 @@ Inv-loop corners faces firsts q c first last begin f₀ from₀ one two least₀
 
 abbrev μ-loop : tie.MeasureT-loop
 μ-loop corners faces firsts q c first last begin f₀ from₀ one two least₀ f from least = last - f
-
--- the last side, as the code has it, is the one before the first of the next cell
-module _ (fs ns : List ℕ) (c : ℕ) where
-  end-read : getD ns (c + 1) 0 ≡ first (tabled fs ns) (suc c)
-  end-read = ap (λ (i : ℕ). getD ns i 0) (add-one c)
-
-  before-the-last : {f : ℕ} → f < getD ns (c + 1) 0 - 1 → f + 1 < first (tabled fs ns) (suc c)
-  before-the-last h = omega (arith, end-read)
-
-  the-last : {f : ℕ} → getD ns (c + 1) 0 - 1 ≤ f → first (tabled fs ns) (suc c) ≤ f + 1
-  the-last h = omega (arith, end-read)
 
 mul-first : tie.Need-mul-first Inv-loop μ-loop
 mul-first c = search needs

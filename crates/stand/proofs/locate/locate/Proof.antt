@@ -7,32 +7,36 @@ use denote.Ref.{now}
 use borrow.Author.Needs.{needs}
 use Rattle.plane.specs.Side.{point}
 use Rattle.cells.specs.Lists.{tabled}
-use Rattle.stand.proofs.Finds.{Searched, search-begins, held-strictly, met-on-its-border, passed-by, is-on-a-line, is-outside}
+use Rattle.cells.proofs.Plans.{corners-exist}
+use Rattle.stand.proofs.Finds.{Searched, search-begins, held-strictly, met-on-its-border, passed-by, is-on-a-border, is-outside}
 use Rattle.stand.proofs.locate.locate.Statement.{statement}
 use Rattle.stand.proofs.locate.locate.Tie as tie
 
 abbrev Inv-loop : tie.InvT-loop
-Inv-loop corners faces firsts q m on-border₀ c₀ on-border c = Searched corners (tabled faces firsts) (point q) c on-border
+Inv-loop corners faces firsts backs doors setting q m on-border₀ c₀ on-border c = Searched corners (tabled faces firsts) (point q) c on-border
 
 abbrev μ-loop : tie.MeasureT-loop
-μ-loop corners faces firsts q m on-border₀ c₀ on-border c = m - c
+μ-loop corners faces firsts backs doors setting q m on-border₀ c₀ on-border c = m - c
 
 sub-m : tie.Need-sub-m Inv-loop μ-loop
-sub-m c = omega (arith, c .before .before .pre .0 .2 .firsts-stand)
+sub-m c = omega (arith, c .before .before .before .before .pre .0 .0 .numbered .firsts-stand)
 
 loop-holds : tie.Need-loop-holds Inv-loop μ-loop
 loop-holds c = search-begins
 
 containment-requires : tie.Need-containment-requires Inv-loop μ-loop
-containment-requires c κs = search needs
+containment-requires c κs =
+    let p = c .before .before .before .before .before .before .pre in
+    let sound = p .0 .0 in
+    ((sound .corners, corners-exist (sound .numbered) (sound .cells), sound .numbered), (p .1, c .loop-test .taken))
 
 enum-told : tie.Need-enum-told Inv-loop μ-loop
 enum-told c = search needs
 
 returns : tie.Need-returns Inv-loop μ-loop
 returns c =
-    held-strictly (c .before .before .before .before .loop .inv) (c .before .before .before .loop-test .taken)
-    (c .before .before .containment .ensures) (c .enum-told .given .1)
+    let a = c .before .before .before .before .before .before .before .before .before .args in
+    held-strictly (c .before .before .before .before .loop .inv) (c .before .before .before .loop-test .taken) (c .before .before .containment .ensures) (c .enum-told .given .1) (now (a .doors)) (a .setting)
 
 enum-told-2 : tie.Need-enum-told-2 Inv-loop μ-loop
 enum-told-2 c = search needs
@@ -48,7 +52,7 @@ loop-less c = omega arith
 
 loop-again : tie.Need-loop-again Inv-loop μ-loop
 loop-again c =
-    let a = c .before .before .before .before .before .before .args in
+    let a = c .before .before .before .before .before .before .before .before .args in
     let l = c .before .before .before .loop in
     let s = Searched (now (a .corners)) (tabled (now (a .faces)) (now (a .firsts))) (point (a .q)) (l .c + 1) in
     let h = c .before .before .loop-test .taken in
@@ -57,11 +61,19 @@ loop-again c =
     (λ w. subst s (sym (w .2)) (passed-by (l .inv) h (c .before .containment .ensures) (w .1 .given .1)))
     (c .match .came)
 
+on-side-requires : tie.Need-on-side-requires Inv-loop μ-loop
+on-side-requires c κs = search needs
+
 returns-2 : tie.Need-returns-2 Inv-loop μ-loop
-returns-2 c = is-on-a-line (c .before .before .loop .inv) (c .before .loop-test .left) (c .if1 .taken)
+returns-2 c =
+    let a = c .before .before .before .before .before .before .before .before .args in
+    is-on-a-border (c .before .before .before .loop .inv) (c .before .before .loop-test .left) (now (a .doors)) (a .setting) (c .before .if1 .taken) (c .on-side .ensures)
 
 returns-3 : tie.Need-returns-3 Inv-loop μ-loop
-returns-3 c = is-outside (c .before .before .loop .inv) (c .before .loop-test .left) (c .if1 .left)
+returns-3 c =
+    let a = c .before .before .before .before .before .before .before .args in
+    let sound = c .before .before .before .before .before .before .before .pre .0 .0 in
+    is-outside (c .before .before .loop .inv) (c .before .loop-test .left) (now (a .doors)) (a .setting) (sound .numbered) (sound .cells) (c .if1 .left)
 
 pub locate-spec : {M : Type 1} → statement M
 locate-spec =
@@ -79,5 +91,6 @@ locate-spec =
     add-c
     loop-less
     loop-again
+    on-side-requires
     returns-2
     returns-3)

@@ -1,0 +1,87 @@
+-- `sight::list::list_within` meets its contract.
+use mathlib.Core.Path.{refl}
+use Prim.Native.Nat.{_+_, _*_}
+use native.Mathlib.Omega.{arith}
+use borrow.Author.Needs.{needs}
+use Rattle.expand.proofs.Expansion.{room-for-the-first, none-remains}
+use Rattle.sight.proofs.CellTree.{second-part-remains, second-part-fits}
+use Rattle.sight.proofs.list.list_within.Statement.{statement}
+use Rattle.sight.proofs.list.list_within.Tie as tie
+
+mul-g : tie.Need-mul-g
+mul-g c = omega (arith, c .before .before .before .pre .1 .0 .0)
+
+add-g : tie.Need-add-g
+add-g c = omega (arith, c .before .before .before .pre .1 .0 .0)
+
+mul-g-2 : tie.Need-mul-g-2
+mul-g-2 c = omega (arith, c .before .before .before .pre .1 .0 .0)
+
+shared-slice-read-g : tie.Need-shared-slice-read-g
+shared-slice-read-g c = omega (arith, c .before .before .before .before .pre .1 .0 .0)
+
+cast-g : tie.Need-cast-g
+cast-g c = omega (arith, c .shared-slice-known3 .given (4 * c .before .before .before .before .args .f + 1))
+
+sub-others : tie.Need-sub-others
+sub-others c = c .before .before .before .before .before .pre .1 .0 .2
+
+others-requires : tie.Need-others-requires
+others-requires c κs =
+    let p = c .before .before .before .before .before .pre in
+    (p .0, (p .1 .0 .0, room-for-the-first 0 _ refl (p .1 .1 .0, (omega (arith, p .1 .1 .1 .0), p .1 .1 .1 .1))))
+
+mul-after : tie.Need-mul-after
+mul-after c =
+    let p = c .before .before .before .before .before .before .before .before .before .pre in
+    let x = c .before .before .before .others in
+    omega (arith, second-part-fits _ _ (p .1 .1 .0, (omega (arith, p .1 .1 .1 .0), p .1 .1 .1 .1)) (x .ensures) (x .kept .1 .1 .1 .0) .0 .1 .0, x .kept .1 .1 .1 .0)
+
+sub-others-2 : tie.Need-sub-others-2
+sub-others-2 c = c .before .before .before .before .before .before .before .before .before .before .pre .1 .0 .2
+
+others-requires-2 : tie.Need-others-requires-2
+others-requires-2 c κs =
+    let p = c .before .before .before .before .before .before .before .before .before .before .pre in
+    let x = c .before .before .before .before .others in
+    (p .0, (p .0 .0 .across-exists _ (p .1 .0 .0) (p .1 .0 .1), second-part-fits _ _ (p .1 .1 .0, (omega (arith, p .1 .1 .1 .0), p .1 .1 .1 .1)) (x .ensures) (x .kept .1 .1 .1 .0) .0))
+
+add-t11 : tie.Need-add-t11
+add-t11 c =
+    let p = c .before .before .before .before .before .before .before .before .before .before .before .before .before .before .before .pre in
+    let x = c .before .before .before .before .before .before .before .before .before .others in
+    omega (arith, c .before .before .before .before .before .before .before .before .before .before .before .before .before .before .before .good .1 .1 .1 .0 .0, x .kept .1 .1 .1 .0, second-part-fits _ _ (p .1 .1 .0, (omega (arith, p .1 .1 .1 .0), p .1 .1 .1 .1)) (x .ensures) (x .kept .1 .1 .1 .0) .0 .1 .0, c .before .before .before .before .others2 .ensures .0)
+
+add-t12 : tie.Need-add-t12
+add-t12 c =
+    let p = c .before .before .before .before .before .before .before .before .before .before .before .before .before .before .before .before .before .pre in
+    let x = c .before .before .before .before .before .before .before .before .before .before .before .others in
+    omega (arith, second-part-fits _ _ (p .1 .1 .0, (omega (arith, p .1 .1 .1 .0), p .1 .1 .1 .1)) (x .ensures) (x .kept .1 .1 .1 .0) .1, c .before .before .before .before .before .before .others2 .ensures .1 .0)
+
+same-length : tie.Need-same-length
+same-length c = search needs
+
+returns : tie.Need-returns
+returns c =
+    let p = c .before .before .before .before .before .before .before .before .before .before .before .before .before .before .before .before .before .pre in
+    let x = c .before .before .before .before .before .before .before .before .before .before .before .others in
+    none-remains _ _ _ _ _ _ _ (second-part-remains _ _ (p .1 .1 .0, (omega (arith, p .1 .1 .1 .0), p .1 .1 .1 .1)) (x .ensures) (x .kept .1 .1 .1 .0)) (c .before .before .before .before .before .before .others2 .ensures) refl refl
+
+pub list-within-spec : {M : Type 1} → statement M
+list-within-spec =
+    tie.close
+    (tie.spec
+    mul-g
+    add-g
+    mul-g-2
+    shared-slice-read-g
+    cast-g
+    sub-others
+    others-requires
+    mul-after
+    sub-others-2
+    others-requires-2
+    add-t11
+    add-t12
+    same-length
+    returns)
