@@ -1,26 +1,31 @@
 -- The stand strictly within a free side (document 02, A4): each other side of its two cells turns left around it. A direction that meets no corner enters one
 -- of the two cells, and leaves it by one of its other sides.
 use mathlib.Core.Bool.{false}
-use mathlib.Core.List.{_++_}
+use mathlib.Core.List.{_∷_, _++_}
 use mathlib.Core.Logic.{_⊎_, inl, inr}
-use mathlib.Core.Path.{_≡_, sym, _∙_, ap, subst}
-use Prim.Native.Nat.{ℕ, _-_, _≤_, _<_}
+use mathlib.Core.Path.{_≡_, refl, sym, _∙_, ap, subst}
+use Prim.Native.Nat.{ℕ, zero, suc, _-_, _≤_, _<_}
 use native.Mathlib.Decide.{ℕ-discrete, decLt}
 use native.Mathlib.Omega.{arith}
-use lib.Signed.{_<ℤ_, _≤ℤ_}
+use lib.Signed.{_<ℤ_, _≤ℤ_, clashℤ}
 use Rattle.exact.proofs.Order.{𝟘, less-or-not, less-is-at-most, at-most-both-ways}
 use Rattle.plane.specs.Side.{Point}
-use Rattle.plane.specs.Cone.{cross, Meets, Direction, Opposite}
+use Rattle.plane.specs.Cone.{cross, Between, Meets, Direction, Opposite}
 use Rattle.plane.proofs.Found.{turns-nowhere, opposite-turns, opposite-has-length, not-left-of-both-ends, left-of-one-end-is-right-of-the-other, right-of-one-end-is-left-of-the-other, along-one-end-is-along-the-other, away-from-one-end-is-towards-the-other, beyond-a-line-is-left-of-its-left-end, spanned-is-not-right, spanned-from-the-left-is-left, spanned-to-the-left-is-left, left-of-the-other-end-is-right, a-ray-along-a-line-has-one-side-left}
 use Rattle.plane.proofs.Cones.{Passes, cone-is-never-empty}
 use Rattle.plane.proofs.Cones.Passes.{left, right, away}
-use Rattle.fan.specs.Sight.{Floor, other-sides}
+use Rattle.fan.specs.Sight.{Floor, Place, fan, follow, hand-on, sides, other-sides, lines-seen}
+use Rattle.fan.specs.Sight.Place.{between, right-of-r, left-of-l}
+use Rattle.fan.specs.Sight.Sight.{both}
 use Rattle.fan.specs.Once.{NeverTwice}
 use Rattle.fan.specs.Walk.{Other, Leaves, Enters}
-use Rattle.fan.specs.Walk.Among.{this}
+use Rattle.fan.specs.Walk.Among.{this, after}
 use Rattle.fan.proofs.Exit.{LeavesFromRight, Before, leaves?, later-exit-is-of-another-cell, handed-is-later}
 use Rattle.fan.proofs.Fuel.{Enough, fuel-behind-a-line}
-use Rattle.fan.proofs.Geometry.{Geometry, left-end-exists, other-is-a-face, other-in-the-cell, other-is-another, next-of-next-is-another, convex-at-the-left}
+use Rattle.fan.proofs.HandOn.{UpTo, all-others, one-side-on}
+use Rattle.fan.proofs.Trees.{fan-last, fan-both, hand-on-is-a-fan}
+use Rattle.fan.proofs.TwoParts.{in-front-of-sides}
+use Rattle.fan.proofs.Geometry.{Geometry, around, left-end-exists, other-is-a-face, other-in-the-cell, other-is-another, next-of-next-is-another, convex-at-the-left}
 use Rattle.fan.proofs.Places.{never-twice-joined}
 use Rattle.fan.proofs.Start.{Run, side-in-sight, sides-apart, at-is-among, others-end-where-it-starts, some-among?, on-to-the-next, carried-to-the-last, passes-a-corner, stays-on-the-right}
 
@@ -128,6 +133,43 @@ module _ {F : Floor} {N M : ℕ} {see : ℕ → Point} {cell : ℕ → ℕ} (G :
       -- so neither of the two cells is left later
       pub fuel-within : Enough G (M - 2) e (F .right-end e) (F .left-end e)
       fuel-within = fuel-behind-a-line G (other-is o) (G .back-is-a-face s (S .is-a-face) (S .free)) left-the-neighbour
+
+    -- ---- as a fan (document 02, A14: from a stand on a side, as on entry)
+
+    -- a side from e on that is not the last before s ends strictly between its start and the line's right end
+    ends-between : {m e : ℕ} → UpTo G s (suc m) e → Between (see (F .right-end e)) (see (F .right-end s)) (see (F .left-end e))
+    ends-between {m} {e} u =
+        let o = u .others e this in
+        let not-last : F .next e ≡ s → ⊥ = λ p. other-is-another G (S .is-a-face) (u .others _ (after this)) p in
+        record { past-right = S .turns e o; short-of-left = left-of-one-end-is-right-of-the-other _ _ _ (S .opposite) (finishes-left o not-last) }
+
+    -- between the line's two ends each of them takes its own
+    fan-of-own-ends : (n m e : ℕ) → UpTo G s m e → fan F (follow F n) m e (F .right-end e) (F .right-end s) ≡ lines-seen F n (sides (F .next) m e)
+    unfolding sides lines-seen around
+    fan-of-own-ends n zero e u =
+        fan-last F (follow F n) e _ _ ∙ ap (follow F n e (F .right-end e)) (sym (sym (G .next-starts e (u .is-a-face)) ∙ ap (F .right-end) (u .then-g)))
+    fan-of-own-ends n (suc m) e u = by-place (fan-of-own-ends n m (F .next e) (one-side-on G u)) (F .place (F .left-end e) (F .right-end e) (F .right-end s)) refl
+      where
+        b : Between (see (F .right-end e)) (see (F .right-end s)) (see (F .left-end e))
+        b = ends-between u
+
+        by-place :
+            fan F (follow F n) m (F .next e) (F .right-end (F .next e)) (F .right-end s) ≡ lines-seen F n (sides (F .next) m (F .next e)) →
+            (p : Place) → F .place (F .left-end e) (F .right-end e) (F .right-end s) ≡ p →
+            fan F (follow F n) (suc m) e (F .right-end e) (F .right-end s) ≡ lines-seen F n (e ∷ sides (F .next) m (F .next e))
+        by-place rest between p =
+            fan-both F (follow F n) m e _ _ p
+            ∙ ap (both (follow F n e (F .right-end e) (F .left-end e))) (ap (λ (r : ℕ). fan F (follow F n) m (F .next e) r (F .right-end s)) (sym (G .next-starts e (u .is-a-face))) ∙ rest)
+            ∙ sym (in-front-of-sides F n m (F .next e) e)
+        by-place rest right-of-r p = absurd (clashℤ (b .past-right) (G .is-right _ _ _ p))
+        by-place rest left-of-l p = absurd (clashℤ (b .short-of-left) (G .is-left _ _ _ p))
+
+    -- the other sides, each with its own two ends, are what the cell hands on between the two ends of the line
+    pub own-ends-are-a-fan : (n : ℕ) → hand-on F n s (F .left-end s) (F .right-end s) ≡ lines-seen F n (other-sides F s)
+    own-ends-are-a-fan n =
+        hand-on-is-a-fan F n s _ _
+        ∙ ap (λ (r : ℕ). fan F (follow F n) (F .more s) (F .next s) r (F .right-end s)) (sym (G .next-starts s (S .is-a-face)))
+        ∙ fan-of-own-ends n (F .more s) (F .next s) (all-others G (S .is-a-face))
 
     -- the line is one of two cells
     pub two-cells : 2 ≤ M
