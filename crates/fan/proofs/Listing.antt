@@ -1,28 +1,33 @@
 -- The lines around the stand, each followed with its own ends as limits: nothing is cut, few crossings, rows that are seen, and demand 2. What is proved is proved
 -- once, over any list of lines that is `Around` the stand, and so for a stand of either kind.
 use mathlib.Core.List.{List, [], _∷_}
+use mathlib.Core.Logic.{_⊎_, inl, inr}
 use mathlib.Core.Path.{_≡_, sym, subst}
 use Prim.Native.Nat.{ℕ, _*_, _≤_, _<_}
 use native.Mathlib.Omega.{arith}
 use Rattle.plane.specs.Side.{Point}
 use Rattle.plane.specs.Cone.{Meets, Direction}
-use Rattle.fan.specs.Sight.{Floor, Sight, Row, Standing, follow, lines-around, unentered, lines-seen, seen-from, rows, row-count, crossings, Whole}
+use Rattle.fan.specs.Sight.{Floor, Sight, Row, Standing, follow, other-sides, lines-around, unentered, lines-seen, seen-from, rows, row-count, crossings, Whole}
 use Rattle.fan.specs.Sight.Sight.{both}
+use Rattle.fan.specs.Sight.Standing.{within}
 use Rattle.fan.specs.Sight.Whole.{whole-both}
 use Rattle.fan.specs.Walk.{Leaves, Walks, RowHolds, WalkEnds}
 use Rattle.fan.specs.Once.{At, NeverTwice, Only}
 use Rattle.fan.specs.Once.At.{first, later}
 use Rattle.fan.proofs.Around.{Stands, Around, around-on, around-the-stand, enough-for-each, walk-begins, begun-at-a-line, some-line-leaves}
+use Rattle.fan.proofs.Around.Stands.{stands-within}
 use Rattle.fan.proofs.Demand2.{walk-is-unique, row-leaves-by-the-line, row-is-walked-to, rows-share-no-direction, some-row-holds-it}
 use Rattle.fan.proofs.Exit.{leaves-from-right}
 use Rattle.fan.proofs.Fuel.{Enough, fuel-suffices}
 use Rattle.fan.proofs.Geometry.{Geometry}
 use Rattle.fan.proofs.Places.{either-list, Some, some-in-first, some-in-second, never-twice-joined, first-excludes-the-others, some-never-twice-is-only}
 use Rattle.fan.proofs.RowCounts.{over-lines, crossings-of-lines-at-most-rows-times-fuel}
+use Rattle.fan.proofs.Start.{at-is-among}
 use Rattle.fan.proofs.Tables.{one-at-a-place}
 use Rattle.fan.proofs.Tree.{RowSeen, row-is-seen}
 use Rattle.fan.proofs.Twice.{AllDifferent, WayDown, no-line-of-sight-enters-a-cell-twice}
 use Rattle.fan.proofs.Twice.WayDown.{right-of-the-split, left-of-the-split}
+use Rattle.fan.proofs.WithinSide.{from-beyond, the-neighbour-is-never-entered}
 
 module _ {F : Floor} {N M : ℕ} {see : ℕ → Point} {cell : ℕ → ℕ} (G : Geometry F N M see cell) where
   -- ---- any lines around the stand
@@ -32,15 +37,16 @@ module _ {F : Floor} {N M : ℕ} {see : ℕ → Point} {cell : ℕ → ℕ} (G :
     lines-are-whole es A fuel =
         over-lines F Whole (λ t u h j. whole-both h j) k es (A .some-line) (λ e i p. fuel-suffices G k e _ _ (A .in-sight e i p) (fuel e i p))
 
-    no-way-enters-a-cell-twice : (es : List ℕ) → Around G es → (e : ℕ) (p : List ℕ) → WayDown (lines-seen F k es) e p → AllDifferent cell (e ∷ p)
-    no-way-enters-a-cell-twice es A =
-        over-lines F (λ t. (e : ℕ) (p : List ℕ) → WayDown t e p → AllDifferent cell (e ∷ p)) over-a-split k es (A .some-line)
-        (λ x i a e p. no-line-of-sight-enters-a-cell-twice G k x _ _ (A .in-sight x i a) e p)
+    -- what all ways down each line have, all ways down the lines have
+    ways-of-lines :
+        (P : ℕ → List ℕ → Type 0) (es : List ℕ) → Around G es →
+        ((x i : ℕ) → At x es i → (e : ℕ) (p : List ℕ) → WayDown (follow F k x (F .right-end x) (F .left-end x)) e p → P e p) → (e : ℕ) (p : List ℕ) →
+        WayDown (lines-seen F k es) e p → P e p
+    ways-of-lines P es A = over-lines F (λ t. (e : ℕ) (p : List ℕ) → WayDown t e p → P e p) over-a-split k es (A .some-line)
       where
         over-a-split :
-            (t u : Sight) → ((e : ℕ) (p : List ℕ) → WayDown t e p → AllDifferent cell (e ∷ p)) →
-            ((e : ℕ) (p : List ℕ) → WayDown u e p → AllDifferent cell (e ∷ p)) → (e : ℕ) (p : List ℕ) → WayDown (both t u) e p →
-            AllDifferent cell (e ∷ p)
+            (t u : Sight) → ((e : ℕ) (p : List ℕ) → WayDown t e p → P e p) → ((e : ℕ) (p : List ℕ) → WayDown u e p → P e p) → (e : ℕ) (p : List ℕ) →
+            WayDown (both t u) e p → P e p
         over-a-split t u h h′ e p (right-of-the-split v) = h e p v
         over-a-split t u h h′ e p (left-of-the-split v) = h′ e p v
 
@@ -124,7 +130,9 @@ module _ {F : Floor} {N M : ℕ} {see : ℕ → Point} {cell : ℕ → ℕ} (G :
     -- no way down the listing enters a cell twice
     pub no-line-of-sight-from-the-stand-enters-a-cell-twice : (e : ℕ) (q : List ℕ) → WayDown (seen-from F M p) e q → AllDifferent cell (e ∷ q)
     unfolding seen-from
-    no-line-of-sight-from-the-stand-enters-a-cell-twice = no-way-enters-a-cell-twice (unentered M p) (lines-around F p) A
+    no-line-of-sight-from-the-stand-enters-a-cell-twice =
+        ways-of-lines (unentered M p) (λ e q. AllDifferent cell (e ∷ q)) (lines-around F p) A
+        (λ x i a. no-line-of-sight-enters-a-cell-twice G (unentered M p) x _ _ (A .in-sight x i a))
 
     -- each row's face is seen and ends the sight
     pub listed-row-is-seen : {i : ℕ} {w : Row} → At w (rows (seen-from F M p)) i → RowSeen G w
@@ -163,3 +171,19 @@ module _ {F : Floor} {N M : ℕ} {see : ℕ → Point} {cell : ℕ → ℕ} (G :
             let l = some-line-leaves G S n corners d is-direction clear in
             let s = some-row-of-a-line-holds (unentered M p) d n corners clear (lines-around F p) A l listing-is-whole in
             (s .0, some-never-twice-is-only s listed-share-no-direction, listed-row-is-walked-to (s .2) (s .3))
+
+  -- ---- a stand on a side
+
+  -- the cell beyond has been left by the line stood on, at the stand, and no way down the listing enters it
+  pub no-line-of-sight-from-a-side-enters-the-cell-beyond :
+      {s : ℕ} → Stands F N see (within s) → (e : ℕ) (q : List ℕ) → WayDown (seen-from F M (within s)) e q →
+      (AllDifferent cell (F .back s ∷ e ∷ q)) ⊎ (AllDifferent cell (s ∷ e ∷ q))
+  unfolding seen-from lines-around
+  no-line-of-sight-from-a-side-enters-the-cell-beyond {s} (stands-within S) =
+      ways-of-lines (unentered M (within s)) (λ e q. (AllDifferent cell (F .back s ∷ e ∷ q)) ⊎ (AllDifferent cell (s ∷ e ∷ q)))
+      (lines-around F (within s)) (around-the-stand G (stands-within S))
+      (λ x i a e q w.
+      either-list (other-sides F s) a (λ k b. inl (the-neighbour-is-never-entered G S (at-is-among F b) _ e q w))
+      (λ k b.
+      inr
+      (subst (λ (g : ℕ). AllDifferent cell (g ∷ e ∷ q)) (S .back-again) (the-neighbour-is-never-entered G (from-beyond G S) (at-is-among F b) _ e q w))))

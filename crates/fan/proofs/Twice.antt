@@ -129,3 +129,12 @@ module _ {F : Floor} {N M : ℕ} {see : ℕ → Point} {cell : ℕ → ℕ} (G :
   no-line-of-sight-enters-a-cell-twice n f r l s e p w =
       let (same, (d, k, o)) = all-taken n f r l s e p w in
       rw same (exits-in-order-differ G d (s .is-a-face) (seen-is-exit G (s .seen) d k) o)
+
+  -- nor a cell whose exit b is crossed before f by every direction between the limits
+  pub no-line-of-sight-enters-a-cell-left-before :
+      (n f r l b : ℕ) → InSight G f r l → b < N → ((d : Point) → Holds (see r) (see l) d → Leaves F see d b × Before F see d b f) →
+      (e : ℕ) (p : List ℕ) → WayDown (follow F n f r l) e p → AllDifferent cell (b ∷ e ∷ p)
+  no-line-of-sight-enters-a-cell-left-before n f r l b s h left-before e p w =
+      let (same, (d, k, o)) = all-taken n f r l s e p w in
+      let (x, earlier) = left-before d k in
+      rw same (exits-in-order-differ G d h x (and-then (s .is-a-face) (seen-is-exit G (s .seen) d k) earlier o))

@@ -1,7 +1,7 @@
 -- The stand strictly within a free side (document 02, A4): each other side of its two cells turns left around it. A direction that meets no corner enters one
 -- of the two cells, and leaves it by one of its other sides.
 use mathlib.Core.Bool.{false}
-use mathlib.Core.List.{_∷_, _++_}
+use mathlib.Core.List.{List, _∷_, _++_}
 use mathlib.Core.Logic.{_⊎_, inl, inr}
 use mathlib.Core.Path.{_≡_, refl, sym, _∙_, ap, subst}
 use Prim.Native.Nat.{ℕ, zero, suc, _-_, _≤_, _<_}
@@ -25,6 +25,7 @@ use Rattle.fan.proofs.Fuel.{Enough, fuel-behind-a-line}
 use Rattle.fan.proofs.HandOn.{UpTo, all-others, one-side-on}
 use Rattle.fan.proofs.Trees.{fan-last, fan-both, hand-on-is-a-fan}
 use Rattle.fan.proofs.TwoParts.{in-front-of-sides}
+use Rattle.fan.proofs.Twice.{AllDifferent, WayDown, no-line-of-sight-enters-a-cell-left-before}
 use Rattle.fan.proofs.Geometry.{Geometry, around, left-end-exists, other-is-a-face, other-in-the-cell, other-is-another, next-of-next-is-another, convex-at-the-left}
 use Rattle.fan.proofs.Places.{never-twice-joined}
 use Rattle.fan.proofs.Start.{Run, side-in-sight, sides-apart, at-is-among, others-end-where-it-starts, some-among?, on-to-the-next, carried-to-the-last, passes-a-corner, stays-on-the-right}
@@ -133,6 +134,12 @@ module _ {F : Floor} {N M : ℕ} {see : ℕ → Point} {cell : ℕ → ℕ} (G :
       -- so neither of the two cells is left later
       pub fuel-within : Enough G (M - 2) e (F .right-end e) (F .left-end e)
       fuel-within = fuel-behind-a-line G (other-is o) (G .back-is-a-face s (S .is-a-face) (S .free)) left-the-neighbour
+
+      -- and no line of sight enters the neighbour
+      pub the-neighbour-is-never-entered :
+          (n x : ℕ) (p : List ℕ) → WayDown (follow F n e (F .right-end e) (F .left-end e)) x p → AllDifferent cell (F .back s ∷ x ∷ p)
+      the-neighbour-is-never-entered n x p w =
+          no-line-of-sight-enters-a-cell-left-before G n e _ _ _ (side-in-sight G others-run o) (G .back-is-a-face s (S .is-a-face) (S .free)) left-the-neighbour x p w
 
     -- ---- as a fan (document 02, A14: from a stand on a side, as on entry)
 

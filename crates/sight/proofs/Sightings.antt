@@ -1,15 +1,16 @@
 -- The listing of an accepted plan under any setting, from a stand of either kind (document 01, "Expansion" and "Walk"; document 02,
 -- A4).
 use mathlib.Core.List.{List, _∷_}
+use mathlib.Core.Logic.{_⊎_}
 use mathlib.Core.Path.{_≡_}
-use Prim.Native.Nat.{ℕ, _*_, _-_, _<_, _≤_}
+use Prim.Native.Nat.{ℕ, _+_, _*_, _-_, _<_, _≤_}
 use native.Mathlib.Nat.{mul-le-mul, le-refl, le-trans}
 use native.Mathlib.Omega.{arith}
 use lib.IntN.{ℤ}
 use Rattle.plane.specs.Side.{Point}
 use Rattle.plane.specs.Cone.{Meets, Direction}
 use Rattle.limits.specs.Limits.{most-corners, most-cells}
-use Rattle.cells.specs.Lists.{Cells, corner-count, cell-count, face-count, home}
+use Rattle.cells.specs.Lists.{Cells, corner-count, cell-count, face-count, first, home, back}
 use Rattle.cells.specs.Sound.{Sound}
 use Rattle.cells.proofs.Plans.{counts, corner-exists}
 use Rattle.stand.specs.declared.locate.Footing.{Footing}
@@ -98,3 +99,11 @@ module _ {cs : List ℤ} {T : Cells} {ds : List ℕ} (sound : Sound cs T ds) (w 
   pub demand-2 : (d : Point) → Direction d → ((k : ℕ) → k < corner-count cs → ¬ Meets d (seen cs q k)) → (r : Row) × Only (RowHolds (plan-floor cs T ds w q) (seen cs q) d) (listing-rows cs T ds w q p) r × WalkEnds (plan-floor cs T ds w q) (seen cs q) d (standing T p) (r .face)
   unfolding listing-rows
   demand-2 d n clear = Listing.demand-2 G S d (corner-count cs) starts n clear
+
+-- a stand on a side: no line of sight enters the one of its two cells that it does not begin in
+module _ {cs : List ℤ} {T : Cells} {ds : List ℕ} (sound : Sound cs T ds) (w : ℕ) (q : Point) {c k : ℕ} (stands : Stands cs T ds w q (Side c k)) where
+  pub no-line-of-sight-enters-the-cell-beyond :
+      (e : ℕ) (es : List ℕ) → WayDown (sight-from cs T ds w q (Side c k)) e es →
+      (AllDifferent (home T) (back T (first T c + k) ∷ e ∷ es)) ⊎ (AllDifferent (home T) ((first T c + k) ∷ e ∷ es))
+  no-line-of-sight-enters-the-cell-beyond =
+      Listing.no-line-of-sight-from-a-side-enters-the-cell-beyond (plan-geometry sound w q) (stands-on-the-floor sound w q stands)

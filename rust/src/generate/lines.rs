@@ -42,7 +42,8 @@ impl Lines {
         let (spots, _) = plan.corners.as_chunks::<2>();
         let spot = |corner: u16| spots[usize::from(corner)].map(i64::from);
         let (cells, _) = cut_cells(plan.kind, &plan.cells);
-        let (mut all, mut free, mut walls) = (Vec::new(), <[Vec<_>; 9]>::default(), Vec::new());
+        let (mut all, mut walls) = (Vec::new(), Vec::new());
+        let mut free: [Vec<_>; *SIDES.end() + 1] = Default::default();
         for cell in &cells {
             for (side, &neighbour) in cell.neighbours.iter().enumerate() {
                 let ends = cell.ends(side).map(spot);
