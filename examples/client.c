@@ -15,18 +15,18 @@ int main(void)
         0, 1, 2, MANOPLUEA_WALL, MANOPLUEA_WALL, 1, /* */
         0, 2, 3, 0, MANOPLUEA_WALL, MANOPLUEA_WALL, /* */
     };
-    uint16_t table[3 * CORNERS]; /* rows never outnumber corners */
+    uint16_t table[4 * CORNERS]; /* rows never outnumber corners */
     uint64_t reply[MANOPLUEA_REPLY], row;
 
-    /* No doors: a list of no numbers may be null. */
-    manopluea_list_point(corners, 2 * CORNERS, cells, 6 * CELLS, NULL, 0, MANOPLUEA_TRIANGLES, 0, 6.0, 3.0, table,
-                         3 * CORNERS, reply, MANOPLUEA_REPLY);
+    /* No doors: a list of no numbers may be null. No reach is stated: the number after `false` means nothing. */
+    manopluea_list_point(corners, 2 * CORNERS, cells, 6 * CELLS, NULL, 0, MANOPLUEA_TRIANGLES, 0, 6.0, 3.0, false, 1,
+                         table, 4 * CORNERS, reply, MANOPLUEA_REPLY);
     if (reply[0] != MANOPLUEA_DONE) {
         printf("refused %" PRIu64 " %" PRIu64 "\n", reply[0], reply[1]);
         return 1;
     }
     printf("rows %" PRIu64 " crossings %" PRIu64 "\n", reply[2], reply[3]);
     for (row = 0; row < reply[2]; row++)
-        printf("%d %d %d\n", table[3 * row], table[3 * row + 1], table[3 * row + 2]);
+        printf("%d %d %d %d\n", table[4 * row], table[4 * row + 1], table[4 * row + 2], table[4 * row + 3]);
     return 0;
 }

@@ -7,19 +7,21 @@ import sys
 
 from client import CELLS, CORNERS, TRIANGLES, lend
 
-FRAME, SIZE, ROOM, ROWS = 1, 2, 11, 13
+FRAME, SIZE, ROOM, ROWS, REACH = 1, 2, 11, 13, 15
 NULL = None, ctypes.c_size_t(0)
 PLAN = *lend(ctypes.c_int32, CORNERS), *lend(ctypes.c_uint16, CELLS)
 ONE_DOOR = lend(ctypes.c_uint16, [2])
 FILE = lend(ctypes.c_uint8, bytes(18 + 32 + 24))
-TABLE = lend(ctypes.c_uint16, [0] * 12)
+TABLE = lend(ctypes.c_uint16, [0] * 16)
 MORNING = lend(ctypes.c_double, [-1, 6, 3])
 REPLIES = lend(ctypes.c_uint64, [0] * 3)
-TEXT = lend(ctypes.c_uint8, bytes(36928))
+TEXT = lend(ctypes.c_uint8, bytes(49216))
 KIND = ctypes.c_uint16(TRIANGLES)
 SETTING, CORNER, DOOR, SHUT = ctypes.c_uint64(0), ctypes.c_uint16(0), ctypes.c_size_t(0), ctypes.c_bool(True)
 AT = ctypes.c_double(6), ctypes.c_double(3)
 STANDS = {"point": AT, "offset": (CORNER, *AT)}
+NO_REACH = ctypes.c_bool(False), ctypes.c_uint64(0)
+WRONG_REACH = ctypes.c_bool(True), ctypes.c_uint64(0)
 
 
 def main(library):
@@ -48,17 +50,19 @@ def main(library):
     expect(0, [4, 2, 0, TRIANGLES, 12], "read", *FILE, *PLAN, *NULL)
     for form, stand in STANDS.items():
         expect(0, none, f"find_{form}", *PLAN, *NULL, KIND, SETTING, *stand)
-        expect(ROOM, none, f"list_{form}", *PLAN, *NULL, KIND, SETTING, *stand, *NULL)
-        expect(0, listed, f"list_{form}", *PLAN, *NULL, KIND, SETTING, *stand, *TABLE)
-        change = f"change_{form}", *PLAN, *ONE_DOOR, KIND, SETTING, *stand, *NULL, DOOR, SHUT
+        expect(ROOM, none, f"list_{form}", *PLAN, *NULL, KIND, SETTING, *stand, *NO_REACH, *NULL)
+        expect(0, listed, f"list_{form}", *PLAN, *NULL, KIND, SETTING, *stand, *NO_REACH, *TABLE)
+        expect(REACH, none, f"list_{form}", *PLAN, *NULL, KIND, SETTING, *stand, *WRONG_REACH, *NULL)
+        change = f"change_{form}", *PLAN, *ONE_DOOR, KIND, SETTING, *stand, *NO_REACH, *NULL, DOOR, SHUT
         expect(ROOM, none, *change, *NULL)
         expect(ROWS, none, *change, *TABLE)
     morning = "list_stands", *PLAN, *NULL, KIND, SETTING
-    expect(SIZE, none, "list_stands", *NULL, *NULL, *NULL, KIND, SETTING, *NULL, *NULL, *NULL)
-    expect(0, none, *morning, *NULL, *NULL, *NULL)
-    expect(ROOM, none, *morning, *MORNING, *NULL, *REPLIES)
-    expect(ROOM, none, *morning, *MORNING, *TABLE, *NULL)
-    expect(0, listed, *morning, *MORNING, *TABLE, *REPLIES)
+    expect(SIZE, none, "list_stands", *NULL, *NULL, *NULL, KIND, SETTING, *NULL, *NO_REACH, *NULL, *NULL)
+    expect(0, none, *morning, *NULL, *NO_REACH, *NULL, *NULL)
+    expect(ROOM, none, *morning, *MORNING, *NO_REACH, *NULL, *REPLIES)
+    expect(ROOM, none, *morning, *MORNING, *NO_REACH, *TABLE, *NULL)
+    expect(0, listed, *morning, *MORNING, *NO_REACH, *TABLE, *REPLIES)
+    expect(0, none, *morning, *MORNING, *WRONG_REACH, *TABLE, *REPLIES)
     expect(ROOM, none, "print", *NULL, *NULL)
     expect(0, [len("refused 1 0\n"), 0, 0, 0, 0], "print", *NULL, *TEXT)
 

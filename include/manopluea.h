@@ -14,8 +14,8 @@
  *   Stack. A call needs at most MANOPLUEA_STACK bytes. With less, the process may be ended by a signal at the guard
  *   page below its stack. Where lines are followed, calls go into one another no more often than the listing has rows.
  *   On a floor where they do so 2037 times, on one with 2999 lines behind one another, on one of cells with the most
- *   sides and on the fullest plan, no call took more than 960 KiB on x86-64 and 940 on AArch64. The number stated is
- *   about twice that.
+ *   sides and on the fullest plan, with no reach stated and with the longest, no call took more than 1130 KiB, on
+ *   x86-64 and on AArch64. The number stated is 1.8 times that.
  *
  * There is nothing else to keep: no list, number or setting is wrong input, and every call returns. A call is
  * reentrant and keeps no state: several threads may make calls at once.
@@ -34,13 +34,28 @@
  * one that is neither of the two is refused with 1. Check, finding, listing, a morning and the door change answer a
  * plan of triangles alike in either kind.
  *
+ * Reach. A listing, a morning and the door change may state how far the scanner sees, in millimetres: `stated` says
+ * whether they do. Where it is false the reach is unlimited, and the number after it means nothing. Where it is true,
+ * any number but MANOPLUEA_LEAST_REACH to MANOPLUEA_MOST_REACH is refused with 15.
+ *
+ * A line, which is the whole side from corner to corner, is in reach when some point of it is at most so far from the
+ * stand, exactly: the point need not be of whole millimetres. It need not be seen either: where the near part of a line
+ * is hidden and a far part is seen, the line is in reach if the hidden part is. So a row can be in reach though no seen
+ * point of it is. Sight ends at a line that is wall or a shut door, and at any line out of reach: a free line out of
+ * reach is not crossed.
+ *
+ * Row. Four numbers: face (on the side seen), right limit, left limit, and 0 where its line is in reach, 1 where it is
+ * not. A row with 1 is of a wall that is not reached, or of a free line that is not crossed, an open door's too. A
+ * longer reach, or none, keeps every row with 0 as it is and in its order, and has one row or more in place of each
+ * with 1; crossings do not get fewer.
+ *
  * Reply. Seven numbers: reply[0] number, reply[1] place, reply[2..6] up to five values; those that a call has no use
  * for are 0. On a refusal the five values are 0. Numbers beyond the seven keep their values. Where reply_length is
  * below 7, the call does nothing at all: no lent memory is touched, the reply neither.
  *
- * The lowest number that applies is the reply. A refusal returns its number and place only, and every lent table, list
- * and file keeps its contents. On 0, numbers and bytes beyond those written keep their old values. Each call checks
- * its plan anew.
+ * The lowest number that applies is the reply, but for 15, which goes after 8 and before 9. A refusal returns its
+ * number and place only, and every lent table, list and file keeps its contents. On 0, numbers and bytes beyond those
+ * written keep their old values. Each call checks its plan anew.
  *
  * Each promise below is proved: crates/exports/specs/Reply.antt defines what a call leaves in the lent memory and in
  * the reply as a function of its input, and the call's contract says that it leaves exactly that. The stack is not
@@ -59,7 +74,7 @@ extern "C" {
 #endif
 
 /* Counts up where a function, a number or a promise of this header changes. */
-#define MANOPLUEA_VERSION 4
+#define MANOPLUEA_VERSION 5
 
 /* The limits of a plan. A coordinate lies between -MANOPLUEA_MOST_COORDINATE and MANOPLUEA_MOST_COORDINATE. */
 #define MANOPLUEA_LEAST_CORNERS 3
@@ -83,6 +98,10 @@ extern "C" {
 /* The most stands that a morning has. */
 #define MANOPLUEA_MOST_STANDS 32
 
+/* The reaches that can be stated, in millimetres. */
+#define MANOPLUEA_LEAST_REACH 1
+#define MANOPLUEA_MOST_REACH 262144
+
 /* In a list of stands, what a stand that is a point has in place of a corner. */
 #define MANOPLUEA_POINT (-1.0)
 
@@ -93,7 +112,7 @@ extern "C" {
 #define MANOPLUEA_MOST_INPUT 65536
 
 /* A text of so many bytes has room for all that the printing program can print. */
-#define MANOPLUEA_TEXT 36928
+#define MANOPLUEA_TEXT 49216
 
 /* The numbers of a reply. */
 #define MANOPLUEA_REPLY 7
@@ -119,10 +138,11 @@ enum manopluea_number {
     MANOPLUEA_LINE = 9,      /* on some cell's border, strictly inside no cell and strictly within no free side; for
                                 the door change, also a door whose line the stand is strictly within */
     MANOPLUEA_OUTSIDE = 10,  /* inside or on no cell */
-    MANOPLUEA_ROOM = 11,     /* a table below 3*corners numbers, or for a morning below 3*corners*stands; replies below
+    MANOPLUEA_ROOM = 11,     /* a table below 4*corners numbers, or for a morning below 4*corners*stands; replies below
                                 3*stands; a file or a list below what is written; a text below MANOPLUEA_TEXT */
     MANOPLUEA_CHANGE = 12,   /* no such door, or already in that state */
-    MANOPLUEA_ROWS = 13      /* the given list differs from the true one, in length or any number */
+    MANOPLUEA_ROWS = 13,     /* the given list differs from the true one, in length or any number */
+    MANOPLUEA_REACH = 15     /* a number is stated that is no reach; after MANOPLUEA_STAND, before MANOPLUEA_LINE */
 };
 
 /* The plan check. Replies 0 to 6. On 0 the values are the counts of corners, cells and doors. Writes to the reply
@@ -178,18 +198,19 @@ void manopluea_find_offset(const int32_t *corners, size_t corners_length,
                            uint64_t setting, uint16_t corner, double dx, double dy,
                            uint64_t *reply, size_t reply_length);
 
-/* The listing. Replies 0 to 11. On 0 the first two values are row count and crossings, and the table holds three
- * numbers a row from its beginning on: face (on the side seen), right limit, left limit. Rows never outnumber
- * corners.
+/* The listing. Replies 0 to 11 and 15. On 0 the first two values are row count and crossings, and the table holds four
+ * numbers a row from its beginning on: face (on the side seen), right limit, left limit, and 0 in reach or 1 out of
+ * reach. Rows never outnumber corners. Where no reach is stated every fourth number is 0.
  *
  * Setting and stand are as for finding. From a stand strictly inside a cell, the sides of that cell are followed to
  * their rows in order. From a stand strictly within a free side, the other sides of the cell found are followed in
  * order after it, then the other sides of the neighbour likewise, in order after its own side of that line. The line
- * stood on is not counted as crossed. */
+ * stood on is not counted as crossed, and is always in reach. */
 void manopluea_list_point(const int32_t *corners, size_t corners_length,
                           const uint16_t *cells, size_t cells_length,
                           const uint16_t *doors, size_t doors_length, uint16_t kind,
                           uint64_t setting, double x, double y,
+                          bool stated, uint64_t reach,
                           uint16_t *table, size_t table_length,
                           uint64_t *reply, size_t reply_length);
 
@@ -197,37 +218,45 @@ void manopluea_list_offset(const int32_t *corners, size_t corners_length,
                            const uint16_t *cells, size_t cells_length,
                            const uint16_t *doors, size_t doors_length, uint16_t kind,
                            uint64_t setting, uint16_t corner, double dx, double dy,
+                           bool stated, uint64_t reach,
                            uint16_t *table, size_t table_length,
                            uint64_t *reply, size_t reply_length);
 
-/* A morning's stands together. Replies 0 to 7 and 11; 8 to 10 are replies of single stands.
+/* A morning's stands together. Replies 0 to 7 and 11; 8 to 10 and 15 are replies of single stands.
  *
  * Stands are three numbers each: corner, x, y. Where the first is MANOPLUEA_POINT the stand is the point (x, y), else
  * the offset (x, y) from that corner. Minus zero reads as corner 0; a stand whose first number is neither
  * MANOPLUEA_POINT nor a corner of the plan is not accepted. So every list has a reply: a length that is no multiple of
  * 3 is refused with 1, more than MANOPLUEA_MOST_STANDS stands with 2, and a list of no stands is done, with sums 0.
  *
- * A table of fewer than 3*corners*stands numbers is refused with 11, and so are replies of fewer than 3*stands. This is
+ * A table of fewer than 4*corners*stands numbers is refused with 11, and so are replies of fewer than 3*stands. This is
  * judged before any stand is looked at, also where every stand would be refused.
  *
- * On 0 the replies hold three numbers a stand from their beginning on: its own reply (0, 8, 9 or 10), row count and
+ * One reach is stated for all stands, or none. A number that is no reach does not refuse the call: 15 is then the reply
+ * of each stand, but for those that have 8.
+ *
+ * On 0 the replies hold three numbers a stand from their beginning on: its own reply (0, 8, 15, 9 or 10), row count and
  * crossings. The table holds the rows of all stands from its beginning on, one stand after another in the order given.
  * A refused stand has counts 0 and no row, and stops no other. The first two values are the sums of the row counts and
- * of the crossings. Each stand's reply, counts and rows are those of the listing from it, with a table of 3*corners
- * numbers, wherever it is: strictly inside a cell, or strictly within a free side. */
+ * of the crossings. Each stand's reply, counts and rows are those of the listing from it with the same reach and a
+ * table of 4*corners numbers, wherever it is: strictly inside a cell, or strictly within a free side. */
 void manopluea_list_stands(const int32_t *corners, size_t corners_length,
                            const uint16_t *cells, size_t cells_length,
                            const uint16_t *doors, size_t doors_length, uint16_t kind,
                            uint64_t setting,
                            const double *stands, size_t stands_length,
+                           bool stated, uint64_t reach,
                            uint16_t *table, size_t table_length,
                            uint64_t *replies, size_t replies_length,
                            uint64_t *reply, size_t reply_length);
 
-/* The door change. Replies 0 to 13. The given list is the one that is true under the setting, three numbers a row; a
- * list that differs from it in length or any number is refused with 13, and a door that does not exist or is already
- * as wished with 12. On 0 the values and the table are those of the listing with that door shut or open as wished.
- * The given list and the table do not overlap.
+/* The door change. Replies 0 to 13 and 15. The given list is the one that is true under the setting and the reach,
+ * four numbers a row; a list that differs from it in length or any number is refused with 13, and a door that does not
+ * exist or is already as wished with 12. On 0 the values and the table are those of the listing with that door shut or
+ * open as wished and the same reach. The given list and the table do not overlap.
+ *
+ * A door out of reach can be changed like any other. Nothing behind it is listed, shut or open, and it keeps its row:
+ * the new list is the given one.
  *
  * From a stand that is found strictly within a side, a door that exists and whose line holds the stand strictly within
  * is refused with 9, also where it is already as wished: that is before the room, the state of the door and the given
@@ -236,6 +265,7 @@ void manopluea_change_point(const int32_t *corners, size_t corners_length,
                             const uint16_t *cells, size_t cells_length,
                             const uint16_t *doors, size_t doors_length, uint16_t kind,
                             uint64_t setting, double x, double y,
+                            bool stated, uint64_t reach,
                             const uint16_t *given, size_t given_length,
                             size_t door, bool shut,
                             uint16_t *table, size_t table_length,
@@ -245,6 +275,7 @@ void manopluea_change_offset(const int32_t *corners, size_t corners_length,
                              const uint16_t *cells, size_t cells_length,
                              const uint16_t *doors, size_t doors_length, uint16_t kind,
                              uint64_t setting, uint16_t corner, double dx, double dy,
+                             bool stated, uint64_t reach,
                              const uint16_t *given, size_t given_length,
                              size_t door, bool shut,
                              uint16_t *table, size_t table_length,
@@ -252,7 +283,8 @@ void manopluea_change_offset(const int32_t *corners, size_t corners_length,
 
 /* What the printing program prints for an input: a query record (kind 4 or 5), then a plan with cells of either kind.
  * Replies 0 and 11. On 0 the first value is the number of bytes printed, which stand in the text from its beginning; a
- * refused query or plan is printed too, as `refused`, its number and place. */
+ * refused query or plan is printed too, as `refused`, its number and place. No reach is stated: each row's line has its
+ * four numbers, and the last of them is 0. */
 void manopluea_print(const uint8_t *input, size_t input_length,
                      uint8_t *text, size_t text_length,
                      uint64_t *reply, size_t reply_length);

@@ -17,6 +17,10 @@ class Tidied(unittest.TestCase):
         text = "use lib.Nat.{one as unit}\ntwo : unit\n"
         self.assertEqual(tidy.tidied(text), text)
 
+    def test_an_operator_named_as_a_function_is_kept(self):
+        text = "use lib.Bool.{_||_}\nthree : ap _||_ one\n"
+        self.assertEqual(tidy.tidied(text), text)
+
 
 class Checked(unittest.TestCase):
     def setUp(self):

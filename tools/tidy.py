@@ -33,7 +33,7 @@ def tidied(text):
             kept = []
             for item in m.group(2).split(", "):
                 local = item.split(" as ")[-1]
-                if item == "[]" and "[]" in mentioned or all(p in mentioned for p in parts(local)):
+                if local in mentioned or all(p in mentioned for p in parts(local)):
                     kept.append(item)
             if not kept:
                 continue

@@ -1,10 +1,10 @@
-//! Times of the public calls on four floors, and on one of them of a morning's
-//! stands and of its triangles merged into larger cells: of the proved library,
-//! of the second program and of plain Rust, side by side.
+//! Times of the public calls on four floors, of listings with a reach there, and on
+//! one of them of a morning's stands and of its triangles merged into larger cells:
+//! of the proved library, of the second program and of plain Rust, side by side.
 
-use crate::calls::{Calls, DoorChange, Lists, Plan, Stand};
+use crate::calls::{Calls, DoorChange, Lists, Morning, Plan, Query, Reach, Stand, ROW};
 use crate::generate::{self, Dice, Merged, Mesh};
-use crate::paper::{self, Paper, DOORS, MOST_STANDS};
+use crate::paper::{self, Paper, DOORS, MOST_STANDS, REACHES};
 use crate::plain;
 use std::fmt::Write;
 use std::hint::black_box;
@@ -32,6 +32,25 @@ struct Floor {
     morning: Vec<Stand>,
     /// The same floor and doors, with every triangle merged that could be.
     merged: Plan,
+    /// The longer of its two sides, in millimetres.
+    size: u64,
+}
+
+impl Floor {
+    /// With every door open, from the floor's stand.
+    fn query(&self, reach: Reach) -> Query {
+        Query {
+            reach,
+            ..Query::without_reach(0, self.stand)
+        }
+    }
+
+    /// A tenth of the floor's size, that size, and the longest: no reach is longer,
+    /// though a floor may be.
+    fn reaches(&self) -> [u64; 3] {
+        let most = *REACHES.end();
+        [self.size / 10, self.size.min(most), most]
+    }
 }
 
 /// A call made on a floor.
@@ -82,7 +101,18 @@ pub fn report(proved: &dyn Calls) -> String {
         describe(floor, &medians(programs).map(Times::new))
     });
     let text: String = calls.collect();
+    let reaches = floors.iter().map(|floor| report_reaches(floor, proved));
+    let text = text + &reaches.collect::<String>();
     text + &report_morning(&floors[0], proved) + "\n" + &report_merged(&floors[0], proved)
+}
+
+fn report_reaches(floor: &Floor, proved: &dyn Calls) -> String {
+    let programs = [
+        reaches_of(floor, proved),
+        reaches_of(floor, &Paper),
+        reaches_on(floor, plain::find, plain::list),
+    ];
+    describe_reaches(floor, medians(programs))
 }
 
 fn report_morning(floor: &Floor, proved: &dyn Calls) -> String {
@@ -127,7 +157,7 @@ fn floor(name: &'static str, mesh: &Mesh, dice: &mut Dice) -> Floor {
         .map(|_| {
             let [x, y] = generate::inside(mesh, dice);
             let stand = Stand::Point(x as f64, y as f64);
-            (stand, listing(&plan, 0, stand))
+            (stand, listing(&plan, Query::without_reach(0, stand)))
         })
         .collect();
     let stands = tried.iter().map(|&(stand, _)| stand);
@@ -138,7 +168,7 @@ fn floor(name: &'static str, mesh: &Mesh, dice: &mut Dice) -> Floor {
         .expect("some stand is tried");
     // A door that is seen, so that the change changes something.
     let door = (0..plan.doors.len())
-        .find(|door| listing(&plan, 1 << door, stand).0 != given)
+        .find(|door| listing(&plan, Query::without_reach(1 << door, stand)).0 != given)
         .expect("some door is seen");
     Floor {
         name,
@@ -150,7 +180,17 @@ fn floor(name: &'static str, mesh: &Mesh, dice: &mut Dice) -> Floor {
         morning,
         // Dice of its own, so that the floors after it stay what they were.
         merged: Merged::whole(mesh, &doors, &mut Dice::new(2)).plan(&doors),
+        size: size(mesh),
     }
+}
+
+/// The longer side of the rectangle that a floor lies in.
+fn size(mesh: &Mesh) -> u64 {
+    let sides = [0, 1].map(|axis| {
+        let along = || mesh.corners.iter().map(|corner| corner[axis]);
+        along().max().unwrap_or(0) - along().min().unwrap_or(0)
+    });
+    sides[0].max(sides[1]) as u64
 }
 
 fn most_doors(mesh: &Mesh, dice: &mut Dice) -> Vec<usize> {
@@ -167,15 +207,15 @@ fn cells(plan: &Plan) -> u64 {
 }
 
 /// The rows and crossings that the second program lists.
-fn listing(plan: &Plan, setting: u64, stand: Stand) -> (Vec<u16>, u64) {
+fn listing(plan: &Plan, query: Query) -> (Vec<u16>, u64) {
     let mut table = table(plan);
-    let reply = paper::list(plan.lists(), setting, stand, &mut table);
-    table.truncate(3 * reply.values[0] as usize);
+    let reply = paper::list(plan.lists(), query, &mut table);
+    table.truncate(ROW * reply.values[0] as usize);
     (table, reply.values[1])
 }
 
 fn table(plan: &Plan) -> Vec<u16> {
-    vec![0; 3 * plan.corners.len() / 2]
+    vec![0; ROW * plan.corners.len() / 2]
 }
 
 fn calls_of<'a>(floor: &'a Floor, calls: &'a dyn Calls) -> [Call<'a>; 5] {
@@ -183,7 +223,7 @@ fn calls_of<'a>(floor: &'a Floor, calls: &'a dyn Calls) -> [Call<'a>; 5] {
         floor,
         |lists| calls.check(lists),
         |lists, setting, stand| calls.find(lists, setting, stand),
-        |lists, setting, stand, table| calls.list(lists, setting, stand, table),
+        |lists, query, table| calls.list(lists, query, table),
         |lists, change, table| calls.change(lists, change, table),
     )
 }
@@ -194,19 +234,19 @@ fn calls_on<'a, Checked, Found, Listed>(
     floor: &'a Floor,
     check: impl Fn(Lists<'a>) -> Checked + 'a,
     find: impl Fn(Lists<'a>, u64, Stand) -> Found + 'a,
-    list: impl Fn(Lists<'a>, u64, Stand, &mut [u16]) -> Listed + Copy + 'a,
+    list: impl Fn(Lists<'a>, Query, &mut [u16]) -> Listed + Copy + 'a,
     change: impl Fn(Lists<'a>, DoorChange<'a>, &mut [u16]) -> Listed + 'a,
 ) -> [Call<'a>; 5] {
     let (lists, stand) = (floor.plan.lists(), floor.stand);
     let list_under = |setting| {
         let mut table = table(&floor.plan);
         move || {
-            black_box(list(lists, setting, stand, &mut table));
+            let query = Query::without_reach(setting, stand);
+            black_box(list(lists, query, &mut table));
         }
     };
     let shutting = DoorChange {
-        setting: 0,
-        stand,
+        query: Query::without_reach(0, stand),
         given: &floor.given,
         door: floor.door,
         shut: true,
@@ -230,33 +270,74 @@ fn calls_on<'a, Checked, Found, Listed>(
 fn morning_of<'a>(floor: &'a Floor, calls: &'a dyn Calls) -> [Call<'a>; 2] {
     morning_on(
         floor,
-        |lists, setting, stands, table, replies| {
-            calls.list_stands(lists, setting, stands, table, replies)
+        |lists, morning, stands, table, replies| {
+            calls.list_stands(lists, morning, stands, table, replies)
         },
-        |lists, setting, stand, table| calls.list(lists, setting, stand, table),
+        |lists, query, table| calls.list(lists, query, table),
     )
 }
 
 /// A morning's stands in one call, and in a call for each.
 fn morning_on<'a, Listed>(
     floor: &'a Floor,
-    together: impl Fn(Lists<'a>, u64, &[f64], &mut [u16], &mut [u64]) -> Listed + 'a,
-    list: impl Fn(Lists<'a>, u64, Stand, &mut [u16]) -> Listed + 'a,
+    together: impl Fn(Lists<'a>, Morning, &[f64], &mut [u16], &mut [u64]) -> Listed + 'a,
+    list: impl Fn(Lists<'a>, Query, &mut [u16]) -> Listed + 'a,
 ) -> [Call<'a>; 2] {
-    let lists = floor.plan.lists();
+    let (lists, morning) = (floor.plan.lists(), Morning::without_reach(0));
     let numbers = numbers(&floor.morning);
     let mut tables = table(&floor.plan).repeat(floor.morning.len());
     let mut replies = vec![0; numbers.len()];
     let mut table = table(&floor.plan);
     [
         Box::new(move || {
-            black_box(together(lists, 0, &numbers, &mut tables, &mut replies));
+            black_box(together(
+                lists,
+                morning,
+                &numbers,
+                &mut tables,
+                &mut replies,
+            ));
         }),
         Box::new(move || {
             for &stand in &floor.morning {
-                black_box(list(lists, 0, stand, &mut table));
+                black_box(list(lists, morning.query(stand), &mut table));
             }
         }),
+    ]
+}
+
+fn reaches_of<'a>(floor: &'a Floor, calls: &'a dyn Calls) -> [Call<'a>; 5] {
+    reaches_on(
+        floor,
+        |lists, setting, stand| calls.find(lists, setting, stand),
+        |lists, query, table| calls.list(lists, query, table),
+    )
+}
+
+/// Finding, a listing that states no reach, and one for each of the floor's.
+fn reaches_on<'a, Found, Listed>(
+    floor: &'a Floor,
+    find: impl Fn(Lists<'a>, u64, Stand) -> Found + 'a,
+    list: impl Fn(Lists<'a>, Query, &mut [u16]) -> Listed + Copy + 'a,
+) -> [Call<'a>; 5] {
+    let lists = floor.plan.lists();
+    let list_within = |reach| -> Call<'a> {
+        let (query, mut table) = (floor.query(reach), table(&floor.plan));
+        Box::new(move || {
+            black_box(list(lists, query, &mut table));
+        })
+    };
+    let [tenth, size, most] = floor
+        .reaches()
+        .map(|reach| list_within(Reach::Stated(reach)));
+    [
+        Box::new(move || {
+            black_box(find(lists, 0, floor.stand));
+        }),
+        list_within(Reach::NotStated),
+        tenth,
+        size,
+        most,
     ]
 }
 
@@ -265,7 +346,7 @@ fn merged_of<'a>(floor: &'a Floor, calls: &'a dyn Calls) -> [Call<'a>; 6] {
         floor,
         |lists| calls.check(lists),
         |lists, setting, stand| calls.find(lists, setting, stand),
-        |lists, setting, stand, table| calls.list(lists, setting, stand, table),
+        |lists, query, table| calls.list(lists, query, table),
     )
 }
 
@@ -274,7 +355,7 @@ fn merged_on<'a, Checked, Found, Listed>(
     floor: &'a Floor,
     check: impl Fn(Lists<'a>) -> Checked + Copy + 'a,
     find: impl Fn(Lists<'a>, u64, Stand) -> Found + Copy + 'a,
-    list: impl Fn(Lists<'a>, u64, Stand, &mut [u16]) -> Listed + Copy + 'a,
+    list: impl Fn(Lists<'a>, Query, &mut [u16]) -> Listed + Copy + 'a,
 ) -> [Call<'a>; 6] {
     let on = |plan: &'a Plan| -> [Call<'a>; 3] {
         let (lists, stand) = (plan.lists(), floor.stand);
@@ -287,7 +368,8 @@ fn merged_on<'a, Checked, Found, Listed>(
                 black_box(find(lists, 0, stand));
             }),
             Box::new(move || {
-                black_box(list(lists, 0, stand, &mut table));
+                let query = Query::without_reach(0, stand);
+                black_box(list(lists, query, &mut table));
             }),
         ]
     };
@@ -342,13 +424,41 @@ fn describe(floor: &Floor, times: &[Times; 3]) -> String {
     text
 }
 
+/// Each listing with a reach against the one without, and its expansion likewise.
+fn describe_reaches(floor: &Floor, times: [[f64; 5]; 3]) -> String {
+    let mut text = format!("{}, reaches\n{}", floor.name, columns());
+    let [find, none] = [0, 1].map(|call| times.map(|of| of[call]));
+    text += &line("list, no reach", 0, none);
+    let reaches = floor.reaches();
+    for (at, reach) in reaches.into_iter().enumerate() {
+        if reaches[..at].contains(&reach) {
+            continue;
+        }
+        let (given, crossings) = listing(&floor.plan, floor.query(Reach::Stated(reach)));
+        let (rows, _) = given.as_chunks::<ROW>();
+        let far = rows.iter().filter(|&&[.., far]| far == 1).count();
+        let list = times.map(|of| of[2 + at]);
+        text += &format!(
+            "reach {reach}: {} rows, {far} out of reach, {crossings} crossings\n",
+            rows.len()
+        );
+        text += &line("list", 0, list);
+        let against = |times: [f64; 3], none: [f64; 3]| [0, 1, 2].map(|i| times[i] / none[i]);
+        text += &line("  / no reach", 2, against(list, none));
+        let [with, without] = [list, none].map(|list| [0, 1, 2].map(|i| list[i] - find[i]));
+        text += &line("  expansion / no reach", 2, against(with, without));
+    }
+    text.push('\n');
+    text
+}
+
 fn describe_morning(floor: &Floor, times: [[f64; 2]; 3]) -> String {
     let listings = floor
         .morning
         .iter()
-        .map(|&stand| listing(&floor.plan, 0, stand));
+        .map(|&stand| listing(&floor.plan, Query::without_reach(0, stand)));
     let (rows, crossings) = listings.fold((0, 0), |(rows, crossings), listing| {
-        (rows + listing.0.len() / 3, crossings + listing.1)
+        (rows + listing.0.len() / ROW, crossings + listing.1)
     });
     let count = floor.morning.len();
     let mut text = format!(
@@ -364,14 +474,14 @@ fn describe_morning(floor: &Floor, times: [[f64; 2]; 3]) -> String {
 }
 
 fn describe_merged(floor: &Floor, times: [[f64; 6]; 3]) -> String {
-    let (given, crossings) = listing(&floor.merged, 0, floor.stand);
+    let (given, crossings) = listing(&floor.merged, floor.query(Reach::NotStated));
     let mut text = format!(
         "{}, merged: {} cells of {} triangles; {} rows, {crossings} crossings, {:.2} of those \
          through triangles\n{}",
         floor.name,
         cells(&floor.merged),
         cells(&floor.plan),
-        given.len() / 3,
+        given.len() / ROW,
         crossings as f64 / floor.crossings as f64,
         columns(),
     );
@@ -400,7 +510,7 @@ fn heading(floor: &Floor) -> String {
         floor.plan.corners.len() / 2,
         cells(&floor.plan),
         floor.plan.doors.len(),
-        floor.given.len() / 3,
+        floor.given.len() / ROW,
         floor.crossings,
         columns(),
     )
@@ -448,15 +558,44 @@ mod tests {
     #[test]
     fn the_floors_are_listed_alike() {
         for floor in floors() {
-            let mut plain = table(&floor.plan);
-            let counts = plain::list(floor.plan.lists(), 0, floor.stand, &mut plain);
-            let counts = counts.expect("a floor can be listed");
-            assert_eq!(counts.crossings, floor.crossings, "{}", floor.name);
-            assert_eq!(plain[..3 * counts.rows], floor.given, "{}", floor.name);
-            let mut proved = table(&floor.plan);
-            let reply = crate::proved::Proved.list(floor.plan.lists(), 0, floor.stand, &mut proved);
-            assert_eq!(reply, Reply::done([counts.rows as u64, counts.crossings]));
-            assert_eq!(proved, plain, "{}", floor.name);
+            let stated = floor.reaches().map(Reach::Stated);
+            for reach in [Reach::NotStated].into_iter().chain(stated) {
+                let query = floor.query(reach);
+                let (given, crossings) = listing(&floor.plan, query);
+                let mut plain = table(&floor.plan);
+                let counts = plain::list(floor.plan.lists(), query, &mut plain);
+                let counts = counts.expect("a floor can be listed");
+                assert_eq!(counts.crossings, crossings, "{}", floor.name);
+                assert_eq!(plain[..ROW * counts.rows], given, "{}", floor.name);
+                let mut proved = table(&floor.plan);
+                let lists = floor.plan.lists();
+                let reply = crate::proved::Proved.list(lists, query, &mut proved);
+                assert_eq!(reply, Reply::done([counts.rows as u64, counts.crossings]));
+                assert_eq!(proved, plain, "{}", floor.name);
+            }
+            let unlimited = listing(&floor.plan, floor.query(Reach::NotStated));
+            assert_eq!(unlimited, (floor.given, floor.crossings), "{}", floor.name);
+        }
+    }
+
+    /// With a tenth of a floor's size something is out of reach, and something not.
+    #[test]
+    fn the_reaches_are_of_three_kinds() {
+        for floor in floors() {
+            let [tenth, size, most] = floor.reaches();
+            assert!(tenth < size && size <= most, "{}", floor.name);
+            let (given, crossings) = listing(&floor.plan, floor.query(Reach::Stated(tenth)));
+            let (rows, _) = given.as_chunks::<ROW>();
+            let far = rows.iter().filter(|&&[.., far]| far == 1).count();
+            assert!(far > 0 && far < rows.len(), "{}", floor.name);
+            assert!(
+                crossings > 0 && crossings < floor.crossings,
+                "{}",
+                floor.name
+            );
+            // With the longest there is nothing left that could be crossed.
+            let (_, crossings) = listing(&floor.plan, floor.query(Reach::Stated(most)));
+            assert_eq!(crossings, floor.crossings, "{}", floor.name);
         }
     }
 
@@ -467,11 +606,11 @@ mod tests {
         let floor = &floors()[0];
         let walls = |plan: &Plan| {
             let checked = paper::Floor::check(plan.lists()).expect("it passes the check");
-            let (given, crossings) = listing(plan, 0, floor.stand);
-            let (rows, _) = given.as_chunks::<3>();
+            let (given, crossings) = listing(plan, floor.query(Reach::NotStated));
+            let (rows, _) = given.as_chunks::<ROW>();
             let seen = rows.iter();
             let mut walls: Vec<_> = seen
-                .map(|&[face, right, left]| (checked.ends(face), right, left))
+                .map(|&[face, right, left, far]| (checked.ends(face), right, left, far))
                 .collect();
             walls.sort_unstable();
             (walls, crossings)
@@ -480,15 +619,15 @@ mod tests {
         assert_eq!(merged.0, triangles.0);
         assert!(merged.1 < triangles.1);
         assert!(cells(&floor.merged) < cells(&floor.plan) / 2);
+        let (lists, query) = (floor.merged.lists(), floor.query(Reach::NotStated));
         let mut plain = table(&floor.merged);
-        let counts = plain::list(floor.merged.lists(), 0, floor.stand, &mut plain);
+        let counts = plain::list(lists, query, &mut plain);
         let counts = counts.expect("a floor can be listed");
-        let (given, crossings) = listing(&floor.merged, 0, floor.stand);
-        assert_eq!(plain[..3 * counts.rows], given);
+        let (given, crossings) = listing(&floor.merged, query);
+        assert_eq!(plain[..ROW * counts.rows], given);
         assert_eq!(counts.crossings, crossings);
         let mut proved = table(&floor.merged);
-        let lists = floor.merged.lists();
-        let reply = crate::proved::Proved.list(lists, 0, floor.stand, &mut proved);
+        let reply = crate::proved::Proved.list(lists, query, &mut proved);
         assert_eq!(reply, Reply::done([counts.rows as u64, crossings]));
         assert_eq!(proved, plain);
     }
@@ -498,6 +637,7 @@ mod tests {
     fn the_mornings_are_listed_alike() {
         let floor = &floors()[0];
         let (lists, stands) = (floor.plan.lists(), numbers(&floor.morning));
+        let morning = Morning::without_reach(0);
         let lent = || {
             (
                 table(&floor.plan).repeat(MOST_STANDS),
@@ -506,11 +646,11 @@ mod tests {
         };
         let ask = |calls: &dyn Calls| {
             let (mut table, mut replies) = lent();
-            let reply = calls.list_stands(lists, 0, &stands, &mut table, &mut replies);
+            let reply = calls.list_stands(lists, morning, &stands, &mut table, &mut replies);
             (reply, table, replies)
         };
         let (mut table, mut replies) = lent();
-        let counts = plain::list_stands(lists, 0, &stands, &mut table, &mut replies);
+        let counts = plain::list_stands(lists, morning, &stands, &mut table, &mut replies);
         let counts = counts.expect("a floor can be listed");
         let reply = Reply::done([counts.rows as u64, counts.crossings]);
         let plain = (reply, table, replies);

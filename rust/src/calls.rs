@@ -68,13 +68,88 @@ impl Stand {
     }
 }
 
+/// How far the scanner sees.
+#[derive(Clone, Copy, Debug, PartialEq, Eq)]
+pub enum Reach {
+    /// Unlimited.
+    NotStated,
+    /// So many millimetres. Any number may be stated; one that is not 1 to
+    /// 262,144 is refused.
+    Stated(u64),
+}
+
+impl Reach {
+    pub fn is_stated(self) -> bool {
+        matches!(self, Reach::Stated(_))
+    }
+
+    /// The number that passes to C. Where none is stated it means nothing there,
+    /// and is one that would be refused if it did.
+    pub fn number(self) -> u64 {
+        match self {
+            Reach::NotStated => u64::MAX,
+            Reach::Stated(number) => number,
+        }
+    }
+}
+
+/// What a plan is asked for: from where, under which door setting, and how far.
+#[derive(Clone, Copy, Debug)]
+pub struct Query {
+    pub setting: u64,
+    pub stand: Stand,
+    pub reach: Reach,
+}
+
+impl Query {
+    /// A query that states no reach.
+    pub fn without_reach(setting: u64, stand: Stand) -> Query {
+        Query {
+            setting,
+            stand,
+            reach: Reach::NotStated,
+        }
+    }
+}
+
+/// What the stands of a morning share. How many they are is the length of their
+/// list.
+#[derive(Clone, Copy, Debug)]
+pub struct Morning {
+    pub setting: u64,
+    pub reach: Reach,
+}
+
+impl Morning {
+    /// A morning that states no reach.
+    pub fn without_reach(setting: u64) -> Morning {
+        Morning {
+            setting,
+            reach: Reach::NotStated,
+        }
+    }
+
+    /// What is asked for one of its stands alone.
+    pub fn query(self, stand: Stand) -> Query {
+        let Morning { setting, reach } = self;
+        Query {
+            setting,
+            stand,
+            reach,
+        }
+    }
+}
+
+/// How many numbers a row has: face, right limit, left limit, and 0 where its
+/// line is in reach, 1 where it is not.
+pub const ROW: usize = 4;
+
 /// A door change as it is asked for.
 #[derive(Clone, Copy, Debug)]
 pub struct DoorChange<'a> {
-    /// The old one.
-    pub setting: u64,
-    pub stand: Stand,
-    /// The list under the old setting, three numbers a row.
+    /// With the old setting.
+    pub query: Query,
+    /// The list under the old setting and the same reach, four numbers a row.
     pub given: &'a [u16],
     pub door: usize,
     /// The wished state of the door.
@@ -109,6 +184,8 @@ pub enum Refusal {
     Door(usize),
     Setting,
     Stand,
+    /// After STAND, although its number is the highest.
+    Reach,
     Line,
     Outside,
     Room,
@@ -127,6 +204,7 @@ impl Refusal {
             Refusal::Door(door) => (6, door),
             Refusal::Setting => (7, 0),
             Refusal::Stand => (8, 0),
+            Refusal::Reach => (15, 0),
             Refusal::Line => (9, 0),
             Refusal::Outside => (10, 0),
             Refusal::Room => (11, 0),
@@ -137,7 +215,7 @@ impl Refusal {
         Reply::refused(number, place as u32)
     }
 
-    /// The refusal with this number and place, if the number is one of 1 to 13.
+    /// The refusal with this number and place, if there is one with the number.
     fn numbered(number: u32, place: usize) -> Option<Refusal> {
         Some(match number {
             1 => Refusal::Frame,
@@ -153,6 +231,7 @@ impl Refusal {
             11 => Refusal::Room,
             12 => Refusal::Change,
             13 => Refusal::Rows,
+            15 => Refusal::Reach,
             _ => return None,
         })
     }
@@ -183,13 +262,13 @@ impl Reply {
     ///
     /// # Panics
     ///
-    /// Where the number is beyond 13, which no call replies.
+    /// Where the number is none that a call replies.
     pub fn answer(self) -> Result<Values, Refusal> {
         if self.number == 0 {
             return Ok(self.values);
         }
         let refusal = Refusal::numbered(self.number, self.place as usize);
-        Err(refusal.expect("a reply's number is one of 0 to 13"))
+        Err(refusal.expect("a reply's number is one of 0 to 13, or 15"))
     }
 }
 
@@ -204,8 +283,8 @@ pub trait Calls: Sync {
 
     fn find(&self, lists: Lists<'_>, setting: u64, stand: Stand) -> Reply;
 
-    /// Three numbers a row go into the table: face, right limit, left limit.
-    fn list(&self, lists: Lists<'_>, setting: u64, stand: Stand, table: &mut [u16]) -> Reply;
+    /// `ROW` numbers a row go into the table.
+    fn list(&self, lists: Lists<'_>, query: Query, table: &mut [u16]) -> Reply;
 
     /// A morning's stands, three numbers each: `POINT` or a corner, then x, y.
     /// Their rows go into the table one after another, and three numbers a
@@ -213,7 +292,7 @@ pub trait Calls: Sync {
     fn list_stands(
         &self,
         lists: Lists<'_>,
-        setting: u64,
+        morning: Morning,
         stands: &[f64],
         table: &mut [u16],
         replies: &mut [u64],

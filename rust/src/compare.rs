@@ -7,7 +7,7 @@ mod trial;
 pub use shrink::smallest;
 pub use trial::{Asked, AskedOfBytes, Both, Outcome, Trial};
 
-use crate::calls::{Calls, POLYGONS, TRIANGLES};
+use crate::calls::{Calls, Refusal, POLYGONS, TRIANGLES};
 use crate::generate::{self, Case};
 use std::fmt;
 use std::num::NonZero;
@@ -18,15 +18,18 @@ use std::thread;
 /// many is put to it.
 const PROGRAM_EVERY: u64 = 50;
 
+/// Reply numbers are below this one. There is no reply 14.
+pub const NUMBERS: usize = 16;
+
 /// How often each reply number came up, for each call.
 #[derive(Clone, Debug, Default, PartialEq, Eq)]
 pub struct Tally {
     pub cases: u64,
     /// By the kind of the plan's cells, then by call, then by reply number.
-    pub replies: [[[u64; 14]; 8]; 3],
+    pub replies: [[[u64; NUMBERS]; 8]; 3],
     /// Of a morning's first stand, of those between, and of its last: by their
     /// own reply's number.
-    pub stands: [[u64; 14]; 3],
+    pub stands: [[u64; NUMBERS]; 3],
     /// Directions tried for demand 2, those that meet a corner left out.
     pub directions: u64,
     /// Door changes tried for demand 3.
@@ -36,6 +39,7 @@ pub struct Tally {
     pub rows: u64,
     pub crossings: u64,
     pub sides: Sides,
+    pub reaches: Reaches,
 }
 
 /// How often stands on a side came up.
@@ -48,6 +52,21 @@ pub struct Sides {
     pub changes: u64,
     /// Changes refused because the stand is strictly within the door's line.
     pub own_doors: u64,
+}
+
+/// How often reaches came up.
+#[derive(Clone, Copy, Debug, Default, PartialEq, Eq)]
+pub struct Reaches {
+    /// Listings, mornings and door changes that state one.
+    pub stated: u64,
+    /// Of the rows, those out of reach.
+    pub rows: u64,
+    /// Of the door changes of demand 3, those of a door that has a row out of reach.
+    pub changes: u64,
+    /// Listings compared with one of a longer reach, and those of them that then
+    /// cross more lines.
+    pub longer: u64,
+    pub further: u64,
 }
 
 /// The public calls, in the order of the tally.
@@ -119,6 +138,11 @@ impl Tally {
         self.sides.directions += other.sides.directions;
         self.sides.changes += other.sides.changes;
         self.sides.own_doors += other.sides.own_doors;
+        self.reaches.stated += other.reaches.stated;
+        self.reaches.rows += other.reaches.rows;
+        self.reaches.changes += other.reaches.changes;
+        self.reaches.longer += other.reaches.longer;
+        self.reaches.further += other.reaches.further;
         self
     }
 
@@ -126,6 +150,11 @@ impl Tally {
     pub fn of_number(&self, number: usize) -> u64 {
         let of_calls = self.replies.iter().flatten();
         of_calls.map(|replies| replies[number]).sum()
+    }
+
+    /// How often it was the reply of a morning's single stand.
+    pub fn of_stands(&self, number: usize) -> u64 {
+        self.stands.iter().map(|replies| replies[number]).sum()
     }
 }
 
@@ -137,7 +166,7 @@ impl fmt::Display for Tally {
                 .iter()
                 .try_for_each(|name| write!(f, "{name:>9}"))?;
             writeln!(f, "{:>9}", "all")?;
-            for number in 0..14 {
+            for number in 0..NUMBERS {
                 let replies = of_calls.map(|replies| replies[number]);
                 let all: u64 = replies.iter().sum();
                 if all > 0 {
@@ -167,6 +196,22 @@ impl fmt::Display for Tally {
             "on a side: {} stands found, {} of the directions, {} of the door changes; {} changes of \
              a door there refused",
             sides.found, sides.directions, sides.changes, sides.own_doors
+        )?;
+        let (reaches, refused) = (&self.reaches, Refusal::Reach.reply().number as usize);
+        writeln!(
+            f,
+            "reach: {} queries state one; {} of the rows are out of it, and {} of the door changes \
+             are of a door with such a row; {} replies and {} of single stands are {refused}",
+            reaches.stated,
+            reaches.rows,
+            reaches.changes,
+            self.of_number(refused),
+            self.of_stands(refused)
+        )?;
+        writeln!(
+            f,
+            "with a longer reach: {} listings, {} of them with more crossings",
+            reaches.longer, reaches.further
         )?;
         writeln!(f, "in either kind: {} plans of triangles", self.either)
     }
@@ -296,6 +341,7 @@ fn trials(case: Case) -> Vec<Trial> {
             directions: case.directions,
         },
         Asked::Demand3,
+        Asked::Longer { reach: case.longer },
     ];
     let of_bytes = [
         Trial::Bytes(case.file, AskedOfBytes::Read { lists: case.lists }),

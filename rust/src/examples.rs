@@ -1,8 +1,8 @@
 //! The twelve measured examples of document 01, h as request A4 of document 02 has
-//! it, and plan Q in larger cells.
+//! it and rows as request A5 does, and plan Q in larger cells.
 
-use crate::calls::{Calls, Plan, Stand, POLYGONS, TRIANGLES};
-use crate::paper::{Row, WALL};
+use crate::calls::{Calls, Plan, Query, Stand, POLYGONS, ROW, TRIANGLES};
+use crate::paper::{Line, Row, WALL};
 
 /// What an example replies: its rows and crossings, or a refusal's number.
 #[derive(Clone, Debug, PartialEq, Eq)]
@@ -21,14 +21,19 @@ pub struct Example {
 }
 
 impl Example {
+    /// An example states no reach.
+    pub fn query(&self) -> Query {
+        Query::without_reach(self.setting, self.stand)
+    }
+
     /// What an implementor lists for the example.
     pub fn ask(&self, calls: &dyn Calls) -> Expected {
-        let mut table = vec![0; 3 * self.plan.corners.len() / 2];
-        let reply = calls.list(self.plan.lists(), self.setting, self.stand, &mut table);
+        let mut table = vec![0; ROW * self.plan.corners.len() / 2];
+        let reply = calls.list(self.plan.lists(), self.query(), &mut table);
         if reply.number != 0 {
             return Expected::Refused(reply.number);
         }
-        let (rows, _) = table.as_chunks::<3>();
+        let (rows, _) = table.as_chunks::<ROW>();
         Expected::Listed {
             rows: rows[..reply.values[0] as usize].to_vec(),
             crossings: reply.values[1],
@@ -103,9 +108,13 @@ pub fn all() -> Vec<Example> {
         .collect()
 }
 
-fn listed(rows: &[Row], crossings: u64) -> Expected {
+/// Every line is in reach.
+fn listed(lines: &[Line], crossings: u64) -> Expected {
+    let rows = lines.iter();
     Expected::Listed {
-        rows: rows.to_vec(),
+        rows: rows
+            .map(|&[face, right, left]| [face, right, left, 0])
+            .collect(),
         crossings,
     }
 }

@@ -9,6 +9,7 @@ mod lines;
 mod merge;
 mod mesh;
 mod morning;
+mod reaches;
 mod stands;
 
 pub use dice::Dice;
@@ -19,19 +20,45 @@ pub use merge::{in_other_kind, Merged};
 pub use mesh::{Mesh, Spot};
 pub use stands::inside;
 
-use crate::calls::{Plan, Stand};
-use crate::paper::{self, Direction, DOORS, MOST_INPUT};
+use crate::calls::{Morning, Plan, Query, Reach, Stand, ROW};
+use crate::paper::{self, Direction, DOORS, MOST_INPUT, REACHES};
 
-/// A plan seen from a stand under a setting, with a door to be changed, and
-/// the stands of a morning there.
+/// A plan seen from a stand under a setting, as far as a reach goes, with a door to
+/// be changed, and the stands of a morning there.
 #[derive(Clone, Debug)]
 pub struct Scene {
     pub plan: Plan,
     pub setting: u64,
     pub stand: Stand,
+    pub reach: Reach,
     pub door: usize,
     /// Three numbers a stand, where none is missing.
     pub stands: Vec<f64>,
+}
+
+impl Scene {
+    pub fn query(&self) -> Query {
+        self.morning().query(self.stand)
+    }
+
+    pub fn morning(&self) -> Morning {
+        Morning {
+            setting: self.setting,
+            reach: self.reach,
+        }
+    }
+
+    /// The true list of a query, as the paper program has it; a row of zeros where
+    /// there is none.
+    fn true_numbers(&self, query: Query) -> Vec<u16> {
+        let mut table = vec![0; ROW * (self.plan.corners.len() / 2)];
+        let reply = paper::list(self.plan.lists(), query, &mut table);
+        match reply.number {
+            0 => table.truncate(ROW * reply.values[0] as usize),
+            _ => table = vec![0; ROW],
+        }
+        table
+    }
 }
 
 /// How long lent memory is, against what the call asks for.
@@ -70,11 +97,16 @@ pub enum Given {
     },
     /// The first row has moved to the end.
     Turned,
+    /// The fourth number of every row is missing.
+    Unmarked,
+    /// The list is the true one of a query that states no reach.
+    Unlimited,
 }
 
 impl Given {
-    pub fn numbers(self, true_numbers: &[u16]) -> Vec<u16> {
-        let mut numbers = true_numbers.to_vec();
+    /// The list for a scene.
+    pub fn numbers(self, scene: &Scene) -> Vec<u16> {
+        let mut numbers = scene.true_numbers(scene.query());
         let count = numbers.len();
         match self {
             Given::True => {}
@@ -86,7 +118,15 @@ impl Given {
                     numbers[at % count] = numbers[at % count].wrapping_add(by);
                 }
             }
-            Given::Turned => numbers.rotate_left(3.min(count)),
+            Given::Turned => numbers.rotate_left(ROW.min(count)),
+            Given::Unmarked => {
+                let (rows, _) = numbers.as_chunks::<ROW>();
+                numbers = rows.iter().flat_map(|row| row[..3].to_vec()).collect();
+            }
+            Given::Unlimited => {
+                let query = Query::without_reach(scene.setting, scene.stand);
+                numbers = scene.true_numbers(query);
+            }
         }
         numbers
     }
@@ -108,6 +148,8 @@ pub struct Case {
     /// Standard input for the printing program.
     pub input: Vec<u8>,
     pub directions: Vec<Direction>,
+    /// A reach that is as long as the scene's, or longer.
+    pub longer: Reach,
 }
 
 /// One in so many cases is of the largest size: they take the longest.
@@ -119,14 +161,23 @@ const FULL_EVERY: usize = 300;
 /// So many cases in a hundred have stands on lines of the plan.
 const ON_LINES: usize = 30;
 
+/// So many cases in a hundred have a floor that is turned.
+const TURNED: usize = 15;
+
+/// A floor whose coordinates go farther is so large that hardly any stand has a line
+/// in reach, where it is not beside one.
+const BEYOND_REACH: i64 = 4 * *REACHES.end() as i64;
+
 /// The case with this number in the run with this seed.
 pub fn case(seed: u64, number: u64) -> Case {
     let dice = &mut Dice::for_case(seed, number);
-    // The morning has dice of its own, and so have stands on lines: all else is
-    // what a seed gave before there were mornings, and a case without stands on
-    // lines is what it gave before there were those.
+    // The morning has dice of its own, and so have stands on lines, and reaches with
+    // turned floors and stands beside lines: all else is what a seed gave before there
+    // were mornings, and a case without such floors and stands is what it gave before
+    // there were those.
     let aside = &mut Dice::for_case(!seed, number);
     let other = &mut Dice::for_case(seed ^ 1 << 63, number);
+    let far = &mut Dice::for_case(seed ^ 1 << 62, number);
     let mut mesh = floor(dice);
     let on_lines = other.percent(ON_LINES);
     if on_lines && other.percent(40) {
@@ -135,22 +186,42 @@ pub fn case(seed: u64, number: u64) -> Case {
     if on_lines && other.percent(70) {
         floors::spread(&mut mesh, other);
     }
+    let turned = far.percent(TURNED);
+    if turned {
+        if !on_lines && far.percent(60) {
+            mesh = floors::straight(far);
+        }
+        floors::turn(&mut mesh, far);
+    }
     let mut stand = stands::random(&mesh, dice);
     let mut stands = morning::random(&mesh, aside);
     if dice.percent(15) {
-        let map = floors::slant(mesh.reach(), dice);
+        let map = floors::slant(mesh.extent(), dice);
         mesh.map_corners(&map);
         stand = stands::mapped(stand, &map);
         morning::map(&mut stands, &map);
     }
     let mut plan = plan(&mesh, dice);
-    let lines = on_lines.then(|| Lines::new(&plan));
-    let on_line = lines.as_ref().and_then(|lines| lines.random(other));
+    let lines = Lines::new(&plan);
+    let on_line = on_lines.then(|| lines.random(other)).flatten();
     if let Some(OnLine { at, .. }) = on_line {
         stand = stands::as_stand(&mesh, at, other);
     }
-    if let Some(lines) = lines {
-        morning::put_on_lines(&mut stands, &mesh, &lines, other);
+    if on_lines {
+        let on_some = |dice: &mut Dice| lines.random(dice).map(|on_line| on_line.at);
+        morning::put(&mut stands, &mesh, on_some, other);
+    }
+    let mut near = lines.some(far.below(plan.doors.len() + 1), far);
+    let beside = turned || mesh.extent() > BEYOND_REACH && far.percent(70);
+    if beside && on_line.is_none() {
+        near.truncate(1 + far.below(3));
+        if let Some(at) = lines.beside(&near, far) {
+            stand = stands::as_stand(&mesh, at, far);
+        }
+        let beside = |dice: &mut Dice| lines.beside(&near, dice);
+        morning::put(&mut stands, &mesh, beside, far);
+        // These are to be at the end of a reach, before all others.
+        near = near.repeat(8);
     }
     let mut directions = directions(&mesh, stand, dice);
     if let Some(OnLine { at, ends, .. }) = on_line {
@@ -172,16 +243,25 @@ pub fn case(seed: u64, number: u64) -> Case {
             (door, shut) = (own, other.percent(50));
         }
     }
+    near.extend(lines.some(door, far));
+    let q = stands::near(&mesh, some_stand(stand, &stands, far));
+    let reach = reaches::random(q, &near, far);
+    let longer = reaches::longer(reach, q, &near, far);
     let scene = Scene {
         plan,
         setting,
         stand,
+        reach,
         door,
         stands,
     };
+    let mut given = given(dice);
+    if far.percent(4) {
+        given = far.pick(&[Given::Unmarked, Given::Unlimited]);
+    }
     Case {
         shut,
-        given: given(dice),
+        given,
         table: room(dice),
         morning: [room(aside), room(aside)],
         file: file(&scene, dice),
@@ -189,8 +269,18 @@ pub fn case(seed: u64, number: u64) -> Case {
         bytes: room(dice),
         input: input(&scene, dice),
         directions,
+        longer,
         scene,
     }
+}
+
+/// Mostly the stand itself, now and then one of a morning's.
+fn some_stand(stand: Stand, stands: &[f64], dice: &mut Dice) -> Stand {
+    let (stands, _) = stands.as_chunks();
+    if stands.is_empty() || dice.percent(75) {
+        return stand;
+    }
+    paper::stand_of(dice.pick(stands)).unwrap_or(stand)
 }
 
 /// A random floor, now and then of the largest size.
@@ -271,8 +361,8 @@ fn wish(doors: usize, setting: u64, dice: &mut Dice) -> (usize, bool) {
 fn given(dice: &mut Dice) -> Given {
     match dice.below(20) {
         0 => Given::Empty,
-        1 => Given::Cut(dice.pick(&[1, 2, 3, 6])),
-        2 => Given::Lengthened(dice.pick(&[1, 3])),
+        1 => Given::Cut(dice.pick(&[1, 2, ROW, 2 * ROW])),
+        2 => Given::Lengthened(dice.pick(&[1, ROW])),
         3 => Given::Changed {
             at: dice.below(1_000),
             by: dice.pick(&[1, u16::MAX, 256]),
@@ -385,7 +475,7 @@ mod tests {
     fn undamaged_plans_pass_the_check() {
         for (number, (mut mesh, mut dice)) in meshes(3_000).enumerate() {
             if number % 2 == 0 {
-                let map = floors::slant(mesh.reach(), &mut dice);
+                let map = floors::slant(mesh.extent(), &mut dice);
                 mesh.map_corners(&map);
             }
             for _ in 0..3 {
@@ -460,7 +550,7 @@ mod tests {
             corners.sort_unstable();
             corners.dedup();
             parted += usize::from(corners.len() < mesh.corners.len());
-            at_edges += usize::from(mesh.reach() == *COORDINATES.end());
+            at_edges += usize::from(mesh.extent() == *COORDINATES.end());
             let sizes = (mesh.corners.len(), mesh.cells.len());
             largest += usize::from(sizes == (*CORNERS.end(), *CELLS.end()));
         }

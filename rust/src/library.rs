@@ -3,7 +3,7 @@
 //! `include/manopluea.h` has the promise of each call. The lists say which kind
 //! their cells are in. A refusal leaves every lent list, table and file as it was.
 
-use crate::calls::{Calls, DoorChange, Lists, Refusal, Reply, Stand};
+use crate::calls::{Calls, DoorChange, Lists, Morning, Query, Refusal, Reply, Stand};
 use crate::proved::Proved;
 
 /// How many corners, cells and doors an accepted plan has.
@@ -91,14 +91,9 @@ pub fn find(lists: Lists<'_>, setting: u64, stand: Stand) -> Result<Footing, Ref
     })
 }
 
-/// The listing: three numbers a row, from the beginning of the table.
-pub fn list(
-    lists: Lists<'_>,
-    setting: u64,
-    stand: Stand,
-    table: &mut [u16],
-) -> Result<Listed, Refusal> {
-    listed(Proved.list(lists, setting, stand, table))
+/// The listing: `ROW` numbers a row, from the beginning of the table.
+pub fn list(lists: Lists<'_>, query: Query, table: &mut [u16]) -> Result<Listed, Refusal> {
+    listed(Proved.list(lists, query, table))
 }
 
 /// A morning's stands together, up to 32 of them: the rows of each stand as
@@ -110,20 +105,20 @@ pub fn list(
 /// other.
 pub fn list_stands(
     lists: Lists<'_>,
-    setting: u64,
+    morning: Morning,
     stands: &[Stand],
     table: &mut [u16],
     replies: &mut [u64],
 ) -> Result<Listed, Refusal> {
     let numbers: Vec<[f64; 3]> = stands.iter().map(|stand| stand.numbers()).collect();
-    listed(Proved.list_stands(lists, setting, numbers.as_flattened(), table, replies))
+    listed(Proved.list_stands(lists, morning, numbers.as_flattened(), table, replies))
 }
 
 /// What a stand's three numbers in the replies of `list_stands` say of it.
 ///
 /// # Panics
 ///
-/// Where the first of them is beyond 13, which no call writes.
+/// Where the first of them is the number of no reply, which no call writes.
 pub fn stand_listed([number, rows, crossings]: [u64; 3]) -> Result<Listed, Refusal> {
     listed(Reply {
         number: u32::try_from(number).unwrap_or(u32::MAX),
@@ -132,7 +127,8 @@ pub fn stand_listed([number, rows, crossings]: [u64; 3]) -> Result<Listed, Refus
     })
 }
 
-/// The door change: the list with one door shut or opened.
+/// The door change: the list with one door shut or opened, as far as the same reach
+/// goes.
 pub fn change(
     lists: Lists<'_>,
     asked: DoorChange<'_>,
@@ -144,15 +140,15 @@ pub fn change(
 #[cfg(test)]
 mod tests {
     use super::*;
-    use crate::calls::{POLYGONS, TRIANGLES};
+    use crate::calls::{Reach, POLYGONS, ROW, TRIANGLES};
     use crate::examples::{self, plan_q, plan_q_as_one_cell, Expected};
 
     #[test]
     fn the_twelve_examples_are_listed_or_refused() {
         for example in examples::all() {
             let lists = example.plan.lists();
-            let mut table = vec![0; 3 * (lists.corners.len() / 2)];
-            let answer = list(lists, example.setting, example.stand, &mut table);
+            let mut table = vec![0; ROW * (lists.corners.len() / 2)];
+            let answer = list(lists, example.query(), &mut table);
             let found = match answer {
                 Ok(listed) => Expected::Listed {
                     rows: table.as_chunks().0[..listed.rows].to_vec(),
@@ -215,14 +211,14 @@ mod tests {
             })
         );
         assert_eq!(cells[..], plan.cells[..]);
-        let mut table = [7; 12];
+        let mut table = [7; 16];
         let seen = Listed {
             rows: 4,
             crossings: 0,
         };
-        let answer = list(plan.lists(), 0, Stand::Point(6.0, 3.0), &mut table);
-        assert_eq!(answer, Ok(seen));
-        assert_eq!(table, [0, 0, 1, 1, 1, 2, 2, 2, 3, 3, 3, 0]);
+        let query = Query::without_reach(0, Stand::Point(6.0, 3.0));
+        assert_eq!(list(plan.lists(), query, &mut table), Ok(seen));
+        assert_eq!(table, [0, 0, 1, 0, 1, 1, 2, 0, 2, 2, 3, 0, 3, 3, 0, 0]);
         let unknown = Lists {
             kind: 3,
             ..plan.lists()
@@ -252,6 +248,32 @@ mod tests {
         assert_eq!(at(1, 5.0, 5.0), Err(Refusal::Line));
     }
 
+    /// From (6, 3) the walls of plan Q are 3, 4, 7 and 6 mm away, and the line of
+    /// its door a little over 2.
+    #[test]
+    fn a_listing_ends_where_the_reach_does() {
+        let plan = plan_q();
+        let mut table = [7; 16];
+        let mut within = |reach| {
+            let query = Query {
+                reach,
+                ..Query::without_reach(0, Stand::Point(6.0, 3.0))
+            };
+            let answer = list(plan.lists(), query, &mut table);
+            answer.map(|listed| (listed.crossings, table[..ROW * listed.rows].to_vec()))
+        };
+        let nothing = [0, 0, 1, 1, 1, 1, 2, 1, 2, 2, 0, 1].to_vec();
+        assert_eq!(within(Reach::Stated(2)), Ok((0, nothing)));
+        let below = [0, 0, 1, 0, 1, 1, 2, 1, 4, 2, 3, 1, 5, 3, 0, 1].to_vec();
+        assert_eq!(within(Reach::Stated(3)), Ok((1, below)));
+        let all = [0, 0, 1, 0, 1, 1, 2, 0, 4, 2, 3, 0, 5, 3, 0, 0].to_vec();
+        assert_eq!(within(Reach::Stated(7)), Ok((1, all.clone())));
+        assert_eq!(within(Reach::NotStated), Ok((1, all)));
+        for wrong in [0, 262_145, u64::MAX] {
+            assert_eq!(within(Reach::Stated(wrong)), Err(Refusal::Reach));
+        }
+    }
+
     /// Offsets are told from points, whatever their corner; a stand that is
     /// refused stops no other.
     #[test]
@@ -271,18 +293,32 @@ mod tests {
             rows: 8,
             crossings: 2,
         };
-        let (mut table, mut replies) = ([7; 48], [7; 12]);
-        let answer = list_stands(plan.lists(), 0, &stands, &mut table, &mut replies);
+        let (mut table, mut replies) = ([7; 64], [7; 12]);
+        let own = |replies: &[u64]| -> Vec<_> {
+            let (own, _) = replies.as_chunks();
+            own.iter().map(|&numbers| stand_listed(numbers)).collect()
+        };
+        let morning = Morning::without_reach(0);
+        let answer = list_stands(plan.lists(), morning, &stands, &mut table, &mut replies);
         assert_eq!(answer, Ok(both));
-        let (own, _) = replies.as_chunks();
-        let own: Vec<_> = own.iter().map(|&numbers| stand_listed(numbers)).collect();
-        let refused = [Refusal::Stand, Refusal::Outside].map(Err);
-        assert_eq!(own, [refused[0], Ok(seen), refused[1], Ok(seen)]);
-        let rows = [0, 0, 1, 1, 1, 2, 4, 2, 3, 5, 3, 0];
-        assert_eq!(table[..24], [rows, rows].concat());
-        assert_eq!(table[24..], [7; 24]);
+        let [stand, outside, reach] = [Refusal::Stand, Refusal::Outside, Refusal::Reach].map(Err);
+        assert_eq!(own(&replies), [stand, Ok(seen), outside, Ok(seen)]);
+        let rows = [0, 0, 1, 0, 1, 1, 2, 0, 4, 2, 3, 0, 5, 3, 0, 0];
+        assert_eq!(table[..32], [rows, rows].concat());
+        assert_eq!(table[32..], [7; 32]);
+        let none = Listed {
+            rows: 0,
+            crossings: 0,
+        };
+        let wrong = Morning {
+            reach: Reach::Stated(0),
+            ..morning
+        };
+        let answer = list_stands(plan.lists(), wrong, &stands, &mut table, &mut replies);
+        assert_eq!(answer, Ok(none));
+        assert_eq!(own(&replies), [stand, reach, reach, reach]);
         let short = &mut replies[1..];
-        let answer = list_stands(plan.lists(), 0, &stands, &mut table, short);
+        let answer = list_stands(plan.lists(), morning, &stands, &mut table, short);
         assert_eq!(answer, Err(Refusal::Room));
     }
 
@@ -290,20 +326,19 @@ mod tests {
     fn a_door_is_shut_from_the_true_list_only() {
         let plan = plan_q();
         let mut asked = DoorChange {
-            setting: 0,
-            stand: Stand::Point(6.0, 3.0),
-            given: &[0, 0, 1, 1, 1, 2, 4, 2, 3, 5, 3, 0],
+            query: Query::without_reach(0, Stand::Point(6.0, 3.0)),
+            given: &[0, 0, 1, 0, 1, 1, 2, 0, 4, 2, 3, 0, 5, 3, 0, 0],
             door: 0,
             shut: true,
         };
-        let mut table = [7; 12];
+        let mut table = [7; 16];
         let shut = Listed {
             rows: 3,
             crossings: 0,
         };
         assert_eq!(change(plan.lists(), asked, &mut table), Ok(shut));
-        assert_eq!(table, [0, 0, 1, 1, 1, 2, 2, 2, 0, 7, 7, 7]);
-        asked.given = &[0, 0, 1];
+        assert_eq!(table, [0, 0, 1, 0, 1, 1, 2, 0, 2, 2, 0, 0, 7, 7, 7, 7]);
+        asked.given = &[0, 0, 1, 0];
         assert_eq!(change(plan.lists(), asked, &mut table), Err(Refusal::Rows));
     }
 }

@@ -4,12 +4,14 @@
 //! other: the lists become cells with corners and neighbours of their own, which
 //! the check turns into a table of opposite faces; the expansion keeps an
 //! explicit stack of lines still to be followed, and gives each other side of a
-//! cell its part of the whole cone; side values are 128 bits wide.
+//! cell its part of the whole cone; side values are 128 bits wide. Whether a line
+//! is in reach is asked of the one point of it that is nearest, wherever that is.
 
 mod file;
 mod morning;
 mod plan;
 mod printing;
+mod reach;
 mod runs;
 mod sight;
 mod stand;
@@ -18,12 +20,13 @@ pub use file::{decode, encode, take_record};
 pub use morning::{stand_of, MOST_STANDS};
 pub use plan::{cut_cells, Cell, Floor, Point, CELLS, COORDINATES, CORNERS, DOORS, SIDES, WALL};
 pub use printing::{print, query, MOST_INPUT};
+pub use reach::{SquaredDistance, REACHES};
 pub use runs::change_by_runs;
-pub use sight::{Direction, Listing, Row, View, Walk};
+pub use sight::{Direction, Line, Listing, Row, View, Walk};
 pub use stand::{is_within, millimetres, Place};
 
-use crate::calls::{Calls, DoorChange, Lists, Refusal, Reply, Stand, Values};
-use morning::Morning;
+use crate::calls::{Calls, DoorChange, Lists, Morning, Query, Refusal, Reply, Stand, Values, ROW};
+use morning::Answers;
 
 /// The paper program as an implementor of the public calls.
 pub struct Paper;
@@ -51,19 +54,19 @@ impl Calls for Paper {
         find(lists, setting, stand)
     }
 
-    fn list(&self, lists: Lists<'_>, setting: u64, stand: Stand, table: &mut [u16]) -> Reply {
-        list(lists, setting, stand, table)
+    fn list(&self, lists: Lists<'_>, query: Query, table: &mut [u16]) -> Reply {
+        list(lists, query, table)
     }
 
     fn list_stands(
         &self,
         lists: Lists<'_>,
-        setting: u64,
+        morning: Morning,
         stands: &[f64],
         table: &mut [u16],
         replies: &mut [u64],
     ) -> Reply {
-        list_stands(lists, setting, stands, table, replies)
+        list_stands(lists, morning, stands, table, replies)
     }
 
     fn change(&self, lists: Lists<'_>, asked: DoorChange<'_>, table: &mut [u16]) -> Reply {
@@ -91,19 +94,19 @@ pub fn find(lists: Lists<'_>, setting: u64, stand: Stand) -> Reply {
     reply(find_checked(lists, setting, stand))
 }
 
-pub fn list(lists: Lists<'_>, setting: u64, stand: Stand, table: &mut [u16]) -> Reply {
-    reply(list_checked(lists, setting, stand, table))
+pub fn list(lists: Lists<'_>, query: Query, table: &mut [u16]) -> Reply {
+    reply(list_checked(lists, query, table))
 }
 
 pub fn list_stands(
     lists: Lists<'_>,
-    setting: u64,
+    morning: Morning,
     stands: &[f64],
     table: &mut [u16],
     replies: &mut [u64],
 ) -> Reply {
-    let morning = Morning::list(lists, setting, stands, table.len(), replies.len());
-    reply(morning.map(|morning| hand_back_morning(&morning, table, replies)))
+    let answers = Answers::list(lists, morning, stands, table.len(), replies.len());
+    reply(answers.map(|answers| hand_back_answers(&answers, table, replies)))
 }
 
 pub fn change(lists: Lists<'_>, asked: DoorChange<'_>, table: &mut [u16]) -> Reply {
@@ -150,7 +153,8 @@ fn write_checked(lists: Lists<'_>, file: &mut [u8]) -> Result<Values, Refusal> {
 
 fn find_checked(lists: Lists<'_>, setting: u64, stand: Stand) -> Result<Values, Refusal> {
     let floor = Floor::check(lists)?;
-    let [cell, on_side, side] = match View::new(&floor, setting, stand)?.place() {
+    let query = Query::without_reach(setting, stand);
+    let [cell, on_side, side] = match View::new(&floor, query)?.place() {
         Place::Inside(cell) => [cell, 0, 0],
         Place::Within(face) => {
             let cell = floor.cell_with(face);
@@ -160,14 +164,9 @@ fn find_checked(lists: Lists<'_>, setting: u64, stand: Stand) -> Result<Values, 
     Ok([cell as u64, on_side as u64, side as u64, 0, 0])
 }
 
-fn list_checked(
-    lists: Lists<'_>,
-    setting: u64,
-    stand: Stand,
-    table: &mut [u16],
-) -> Result<Values, Refusal> {
+fn list_checked(lists: Lists<'_>, query: Query, table: &mut [u16]) -> Result<Values, Refusal> {
     let floor = Floor::check(lists)?;
-    let view = View::new(&floor, setting, stand)?;
+    let view = View::new(&floor, query)?;
     room_for_rows(&floor, table)?;
     Ok(hand_back(&view.list(), table))
 }
@@ -178,14 +177,14 @@ fn change_checked(
     table: &mut [u16],
 ) -> Result<Values, Refusal> {
     let DoorChange {
-        setting,
-        stand,
+        query,
         given,
         door,
         shut,
     } = asked;
+    let setting = query.setting;
     let floor = Floor::check(lists)?;
-    let before = View::new(&floor, setting, stand)?;
+    let before = View::new(&floor, query)?;
     if before.is_in_doorway(door) {
         return Err(Refusal::Line);
     }
@@ -197,14 +196,17 @@ fn change_checked(
         return Err(Refusal::Rows);
     }
     // Demand 3: what a fresh listing under the new setting says.
-    let after = View::new(&floor, setting ^ (1 << door), stand)?;
-    Ok(hand_back(&after.list(), table))
+    let query = Query {
+        setting: setting ^ (1 << door),
+        ..query
+    };
+    Ok(hand_back(&View::new(&floor, query)?.list(), table))
 }
 
 fn room_for_rows(floor: &Floor, table: &[u16]) -> Result<(), Refusal> {
     // A row can be due for every corner, so the room asked for is fixed
     // before anything is listed.
-    if table.len() < 3 * floor.corners().len() {
+    if table.len() < ROW * floor.corners().len() {
         return Err(Refusal::Room);
     }
     Ok(())
@@ -217,9 +219,9 @@ fn hand_back(listing: &Listing, table: &mut [u16]) -> Values {
 }
 
 /// Gives back the sums.
-fn hand_back_morning(morning: &Morning, table: &mut [u16], replies: &mut [u64]) -> Values {
-    let (rows, own) = (morning.rows(), morning.replies());
-    table[..3 * rows.len()].copy_from_slice(rows.as_flattened());
+fn hand_back_answers(answers: &Answers, table: &mut [u16], replies: &mut [u64]) -> Values {
+    let (rows, own) = (answers.rows(), answers.replies());
+    table[..ROW * rows.len()].copy_from_slice(rows.as_flattened());
     replies[..3 * own.len()].copy_from_slice(own.as_flattened());
     let crossings = own.iter().map(|[_, _, crossings]| crossings).sum();
     [rows.len() as u64, crossings, 0, 0, 0]

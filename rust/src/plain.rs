@@ -1,10 +1,16 @@
 //! The check, the finding, the listings and the door change once more, by the
 //! steps that the proved library takes, as one writes them in Rust without a
-//! proof in mind: 64 bits wide, and a pair of functions that call each other.
-//! What they cost is what the benchmarks hold the proved library to.
+//! proof in mind: 64 bits wide, and a pair of functions that call each other. Where a
+//! reach is stated, the lines out of it are told before any is followed: that is
+//! faster than to ask at each crossing. What they cost is what the benchmarks hold the
+//! proved library to.
 
-use crate::calls::{DoorChange, Lists, Refusal, Stand, POLYGONS, TRIANGLES};
-use crate::paper::{stand_of, CELLS, COORDINATES, CORNERS, DOORS, MOST_STANDS, SIDES, WALL};
+use crate::calls::{
+    DoorChange, Lists, Morning, Query, Reach, Refusal, Stand, POLYGONS, ROW, TRIANGLES,
+};
+use crate::paper::{
+    stand_of, CELLS, COORDINATES, CORNERS, DOORS, MOST_STANDS, REACHES, SIDES, WALL,
+};
 use std::ops::Range;
 
 /// Lists that are cut into corners, cells and doors.
@@ -42,6 +48,15 @@ pub enum Footing {
     Side { cell: usize, side: usize },
 }
 
+/// A stand that was found, and how far is seen from it.
+#[derive(Clone, Copy)]
+struct View {
+    q: Point,
+    footing: Footing,
+    /// The square of the reach; 0 where that is unlimited.
+    square: i64,
+}
+
 /// Row count and crossings.
 #[derive(Clone, Copy, Debug, Default, PartialEq, Eq)]
 pub struct Counts {
@@ -59,6 +74,14 @@ fn side_value(a: Point, b: Point, c: Point) -> i64 {
     (b[0] - a[0]) * (c[1] - a[1]) - (b[1] - a[1]) * (c[0] - a[0])
 }
 
+fn cross(a: Point, b: Point) -> i64 {
+    a[0] * b[1] - a[1] * b[0]
+}
+
+fn dot(a: Point, b: Point) -> i64 {
+    a[0] * b[0] + a[1] * b[1]
+}
+
 pub fn check(lists: Lists<'_>) -> Result<Plan<'_>, Refusal> {
     let cut = Cut::new(lists)?;
     cut.check_counts()?;
@@ -74,26 +97,21 @@ fn is_outside(corner: [i32; 2]) -> bool {
 pub fn find(lists: Lists<'_>, setting: u64, stand: Stand) -> Result<Footing, Refusal> {
     let plan = check(lists)?;
     plan.check_setting(setting)?;
-    let (_, footing) = plan.find(setting, stand)?;
-    Ok(footing)
+    let view = plan.find(Query::without_reach(setting, stand))?;
+    Ok(view.footing)
 }
 
-pub fn list(
-    lists: Lists<'_>,
-    setting: u64,
-    stand: Stand,
-    table: &mut [u16],
-) -> Result<Counts, Refusal> {
+pub fn list(lists: Lists<'_>, query: Query, table: &mut [u16]) -> Result<Counts, Refusal> {
     let plan = check(lists)?;
-    plan.check_setting(setting)?;
-    let (q, footing) = plan.find(setting, stand)?;
+    plan.check_setting(query.setting)?;
+    let view = plan.find(query)?;
     plan.check_room(table)?;
-    Ok(plan.list_from(&plan.lines(setting), q, footing, table))
+    Ok(plan.list_from(&plan.lines(query.setting), view, table))
 }
 
 pub fn list_stands(
     lists: Lists<'_>,
-    setting: u64,
+    morning: Morning,
     stands: &[f64],
     table: &mut [u16],
     replies: &mut [u64],
@@ -108,20 +126,20 @@ pub fn list_stands(
         return Err(Refusal::Size);
     }
     let plan = cut.draw().checked()?;
-    plan.check_setting(setting)?;
-    if table.len() < 3 * plan.corners.len() * stands.len() || replies.len() < 3 * stands.len() {
+    plan.check_setting(morning.setting)?;
+    if table.len() < ROW * plan.corners.len() * stands.len() || replies.len() < 3 * stands.len() {
         return Err(Refusal::Room);
     }
-    let lines = plan.lines(setting);
+    let lines = plan.lines(morning.setting);
     let mut sums = Counts::default();
     let (replies, _) = replies.as_chunks_mut();
     for (&numbers, reply) in stands.iter().zip(replies) {
         let found = stand_of(numbers)
             .ok_or(Refusal::Stand)
-            .and_then(|stand| plan.find(setting, stand));
+            .and_then(|stand| plan.find(morning.query(stand)));
         *reply = match found {
-            Ok((q, footing)) => {
-                let counts = plan.list_from(&lines, q, footing, &mut table[3 * sums.rows..]);
+            Ok(view) => {
+                let counts = plan.list_from(&lines, view, &mut table[ROW * sums.rows..]);
                 sums.rows += counts.rows;
                 sums.crossings += counts.crossings;
                 [0, counts.rows as u64, counts.crossings]
@@ -138,22 +156,32 @@ pub fn change(
     table: &mut [u16],
 ) -> Result<Counts, Refusal> {
     let plan = check(lists)?;
-    plan.check_setting(asked.setting)?;
-    let (q, footing) = plan.find(asked.setting, asked.stand)?;
-    if plan.is_in_doorway(q, footing, asked.door) {
+    let setting = asked.query.setting;
+    plan.check_setting(setting)?;
+    let view = plan.find(asked.query)?;
+    if plan.is_in_doorway(view, asked.door) {
         return Err(Refusal::Line);
     }
     plan.check_room(table)?;
-    if asked.door >= plan.doors.len() || (asked.setting >> asked.door & 1 == 1) == asked.shut {
+    if asked.door >= plan.doors.len() || (setting >> asked.door & 1 == 1) == asked.shut {
         return Err(Refusal::Change);
     }
-    let mut old = vec![0; 3 * plan.corners.len()];
-    let Counts { rows, .. } = plan.list_from(&plan.lines(asked.setting), q, footing, &mut old);
-    if old[..3 * rows] != *asked.given {
+    let mut old = vec![0; ROW * plan.corners.len()];
+    let Counts { rows, .. } = plan.list_from(&plan.lines(setting), view, &mut old);
+    if old[..ROW * rows] != *asked.given {
         return Err(Refusal::Rows);
     }
-    let lines = plan.lines(asked.setting ^ 1 << asked.door);
-    Ok(plan.list_from(&lines, q, footing, table))
+    let lines = plan.lines(setting ^ 1 << asked.door);
+    Ok(plan.list_from(&lines, view, table))
+}
+
+/// The square of a reach; 0 where it is unlimited.
+fn square(reach: Reach) -> Result<i64, Refusal> {
+    match reach {
+        Reach::NotStated => Ok(0),
+        Reach::Stated(number) if REACHES.contains(&number) => Ok((number * number) as i64),
+        Reach::Stated(_) => Err(Refusal::Reach),
+    }
 }
 
 impl<'a> Cut<'a> {
@@ -386,8 +414,8 @@ impl Plan<'_> {
     fn is_within(&self, q: Point, faces: &[[u16; 2]], side: usize) -> bool {
         let a = self.corner(faces[side][0]);
         let b = self.corner(faces[next(side, faces.len())][0]);
-        let dot = (a[0] - q[0]) * (b[0] - q[0]) + (a[1] - q[1]) * (b[1] - q[1]);
-        side_value(a, b, q) == 0 && dot < 0
+        let from_stand = |at: Point| [at[0] - q[0], at[1] - q[1]];
+        side_value(a, b, q) == 0 && dot(from_stand(a), from_stand(b)) < 0
     }
 
     /// Whether sight passes a face: it is no wall, and no shut door is on its line.
@@ -401,15 +429,15 @@ impl Plan<'_> {
     }
 
     /// Whether the stand is on a side, and strictly within the line of a door.
-    fn is_in_doorway(&self, q: Point, footing: Footing, door: usize) -> bool {
-        let (Footing::Side { .. }, Some(&face)) = (footing, self.doors.get(door)) else {
+    fn is_in_doorway(&self, view: View, door: usize) -> bool {
+        let (Footing::Side { .. }, Some(&face)) = (view.footing, self.doors.get(door)) else {
             return false;
         };
         // The cell beyond a door's back face is the door's own.
         let [_, cell] = self.faces[usize::from(self.backs[usize::from(face)])];
         let all = self.faces_of(cell.into());
         let side = usize::from(face) - all.start;
-        self.is_within(q, &self.faces[all], side)
+        self.is_within(view.q, &self.faces[all], side)
     }
 
     /// The least of the side values of a cell's sides with the stand.
@@ -425,25 +453,36 @@ impl Plan<'_> {
         least
     }
 
-    /// The stand, and where it is under a setting that is right.
-    fn find(&self, setting: u64, stand: Stand) -> Result<(Point, Footing), Refusal> {
-        let q = self.millimetres(stand)?;
-        Ok((q, self.locate(setting, q)?))
+    /// The stand where it is under a setting that is right.
+    fn find(&self, query: Query) -> Result<View, Refusal> {
+        let q = self.millimetres(query.stand)?;
+        let square = square(query.reach)?;
+        let footing = self.locate(query.setting, q)?;
+        Ok(View { q, footing, square })
     }
 
     /// Whether a table is long enough for a listing.
     fn check_room(&self, table: &[u16]) -> Result<(), Refusal> {
-        if table.len() < 3 * self.corners.len() {
+        if table.len() < ROW * self.corners.len() {
             return Err(Refusal::Room);
         }
         Ok(())
     }
 
     /// Follows the sides of the stand's cell, or of both cells at its side.
-    fn list_from(&self, lines: &[Line], q: Point, footing: Footing, table: &mut [u16]) -> Counts {
+    fn list_from(&self, lines: &[Line], view: View, table: &mut [u16]) -> Counts {
+        let View { q, footing, square } = view;
         // A difference of two coordinates fits 32 bits.
         let from_stand = |&[x, y]: &[i32; 2]| [x - q[0] as i32, y - q[1] as i32];
         let corners: Vec<[i32; 2]> = self.corners.iter().map(from_stand).collect();
+        let limited;
+        let lines = match square {
+            0 => lines,
+            _ => {
+                limited = self.within_reach(lines, &corners, square);
+                &limited
+            }
+        };
         let mut sight = Sight {
             corners: &corners,
             lines,
@@ -489,12 +528,33 @@ impl Plan<'_> {
         }
         for (door, &face) in self.doors.iter().enumerate() {
             if setting >> door & 1 == 1 {
-                let back = self.backs[usize::from(face)];
-                lines[usize::from(face)].beyond = WALL;
-                lines[usize::from(back)].beyond = WALL;
+                for face in [face, self.backs[usize::from(face)]] {
+                    let line = &mut lines[usize::from(face)];
+                    (line.beyond, line.more) = (WALL, 0);
+                }
             }
         }
         lines
+    }
+
+    /// The lines, of which sight ends at those out of reach too. Most are told by their
+    /// ends, of which each is looked at once.
+    fn within_reach(&self, lines: &[Line], corners: &[[i32; 2]], square: i64) -> Vec<Line> {
+        let is_near = |&corner: &[i32; 2]| dot(point(corner), point(corner)) <= square;
+        let near: Vec<bool> = corners.iter().map(is_near).collect();
+        let within = |(&[start, _], &line): (&[u16; 2], &Line)| {
+            let [a, b] = [start, line.left_end].map(usize::from);
+            let at = |corner: usize| point(corners[corner]);
+            if near[a] || near[b] || !foot_is_far(at(a), at(b), square) {
+                return line;
+            }
+            Line {
+                beyond: WALL,
+                more: 1,
+                ..line
+            }
+        };
+        self.faces.iter().zip(lines).map(within).collect()
     }
 
     /// The first side that is handed on where a cell is entered through a face,
@@ -507,6 +567,19 @@ impl Plan<'_> {
         let first = next(usize::from(entered) - all.start, all.len());
         ((all.start + first) as u16, (all.len() - 2) as u16)
     }
+}
+
+/// Whether no point of a line is in reach, neither of whose ends is. Only where its
+/// nearest point is between the ends are squares of 128 bits needed.
+fn foot_is_far(a: Point, b: Point, square: i64) -> bool {
+    let both = dot(a, b);
+    let (from_a, from_b) = (dot(a, a) - both, dot(b, b) - both);
+    if from_a <= 0 || from_b <= 0 {
+        return true;
+    }
+    let value = i128::from(cross(a, b));
+    let length = i128::from(from_a) + i128::from(from_b);
+    value * value > i128::from(square) * length
 }
 
 /// The face of a cell with these ends whose neighbour is another cell.
@@ -545,11 +618,13 @@ fn whole(number: f64) -> Result<i64, Refusal> {
 }
 
 /// What following the line of a face needs to know.
+#[derive(Clone, Copy)]
 struct Line {
     left_end: u16,
     /// The first side handed on beyond it, or wall where sight ends.
     beyond: u16,
-    /// How many sides follow that one.
+    /// How many sides follow that one. Where sight ends it is the fourth number of the
+    /// row: 0 in reach, 1 out of it.
     more: u16,
     /// The next side of its own cell.
     next: u16,
@@ -568,8 +643,8 @@ impl Sight<'_> {
     fn cross(&mut self, face: u16, r: u16, l: u16) {
         let Line { beyond, more, .. } = self.lines[usize::from(face)];
         if beyond == WALL {
-            let at = 3 * self.counts.rows;
-            self.table[at..at + 3].copy_from_slice(&[face, r, l]);
+            let at = ROW * self.counts.rows;
+            self.table[at..at + ROW].copy_from_slice(&[face, r, l, more]);
             self.counts.rows += 1;
         } else {
             self.counts.crossings += 1;
@@ -599,7 +674,7 @@ impl Sight<'_> {
     /// Whether corner b is strictly left of the ray to corner a.
     fn is_left(&self, a: u16, b: u16) -> bool {
         let [a, b] = [a, b].map(|corner| point(self.corners[usize::from(corner)]));
-        a[0] * b[1] - a[1] * b[0] > 0
+        cross(a, b) > 0
     }
 }
 
@@ -607,26 +682,17 @@ impl Sight<'_> {
 mod tests {
     use super::*;
     use crate::calls::Reply;
-    use crate::generate::{self, Case};
+    use crate::generate::{self, Case, Given};
     use crate::paper::{self, reply};
 
     fn counts(result: Result<Counts, Refusal>) -> Reply {
         reply(result.map(|counts| [counts.rows as u64, counts.crossings, 0, 0, 0]))
     }
 
-    /// The true list of a case, or none where the paper program refuses it.
-    fn true_numbers(case: &Case) -> Vec<u16> {
-        let lists = case.scene.plan.lists();
-        let mut table = vec![0; 3 * (lists.corners.len() / 2)];
-        let reply = paper::list(lists, case.scene.setting, case.scene.stand, &mut table);
-        table.truncate(3 * reply.values[0] as usize);
-        table
-    }
-
     /// What a call leaves in a table of the case's length.
     fn with_table(case: &Case, call: impl FnOnce(&mut [u16]) -> Reply) -> (Reply, Vec<u16>) {
         let corners = case.scene.plan.corners.len() / 2;
-        let mut table = vec![7; case.table.length(3 * corners)];
+        let mut table = vec![7; case.table.length(ROW * corners)];
         (call(&mut table), table)
     }
 
@@ -640,14 +706,14 @@ mod tests {
             case.scene.plan.corners.len() / 2,
             case.scene.stands.len() / 3,
         ];
-        let mut table = vec![7; case.morning[0].length(3 * corners * stands)];
+        let mut table = vec![7; case.morning[0].length(ROW * corners * stands)];
         let mut replies = vec![7; case.morning[1].length(3 * stands)];
         (call(&mut table, &mut replies), table, replies)
     }
 
     #[test]
     fn plain_replies_are_the_paper_programs() {
-        let (mut changed, mut on_side) = (0, 0);
+        let (mut changed, mut on_side, mut far) = (0, 0, 0);
         for number in 0..4_000 {
             let case = generate::case(17, number);
             let (scene, lists) = (&case.scene, case.scene.plan.lists());
@@ -663,23 +729,26 @@ mod tests {
             });
             on_side += found.map_or(0, |[_, on_side, ..]| on_side);
             assert_eq!(reply(found), paper::find(lists, setting, stand), "{number}");
+            let query = scene.query();
             assert_eq!(
-                with_table(&case, |table| counts(list(lists, setting, stand, table))),
-                with_table(&case, |table| paper::list(lists, setting, stand, table)),
+                with_table(&case, |table| counts(list(lists, query, table))),
+                with_table(&case, |table| paper::list(lists, query, table)),
                 "{number}"
             );
-            let stands = &scene.stands;
+            let numbers = Given::True.numbers(scene);
+            let (rows, _) = numbers.as_chunks::<ROW>();
+            far += rows.iter().filter(|&&[.., far]| far == 1).count();
+            let (morning, stands) = (scene.morning(), &scene.stands);
             let plain = with_replies(&case, |table, replies| {
-                counts(list_stands(lists, setting, stands, table, replies))
+                counts(list_stands(lists, morning, stands, table, replies))
             });
             let paper = with_replies(&case, |table, replies| {
-                paper::list_stands(lists, setting, stands, table, replies)
+                paper::list_stands(lists, morning, stands, table, replies)
             });
             assert_eq!(plain, paper, "{number}");
             let asked = DoorChange {
-                setting,
-                stand,
-                given: &case.given.numbers(&true_numbers(&case)),
+                query,
+                given: &case.given.numbers(scene),
                 door: scene.door,
                 shut: case.shut,
             };
@@ -690,5 +759,6 @@ mod tests {
         }
         assert!(changed > 500, "only {changed} changes");
         assert!(on_side > 300, "only {on_side} stands on a side");
+        assert!(far > 3_000, "only {far} rows out of reach");
     }
 }

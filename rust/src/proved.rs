@@ -12,14 +12,14 @@ mod c;
 
 pub use c::on_stack;
 
-use crate::calls::{Calls, DoorChange, Lists, Reply, Stand};
+use crate::calls::{Calls, DoorChange, Lists, Morning, Query, Reply, Stand};
 
 /// The proved library.
 pub struct Proved;
 
 /// A text of so many bytes has room for everything that is printed: the
 /// header's MANOPLUEA_TEXT.
-pub const MOST_TEXT: usize = 36_928;
+pub const MOST_TEXT: usize = 49_216;
 
 /// What a text holds before a call: no byte that is ever printed.
 const UNPRINTED: u8 = 0xa5;
@@ -70,19 +70,19 @@ impl Calls for Proved {
         replied(|seven| c::find(lists, setting, stand, seven))
     }
 
-    fn list(&self, lists: Lists<'_>, setting: u64, stand: Stand, table: &mut [u16]) -> Reply {
-        replied(|seven| c::list(lists, setting, stand, table, seven))
+    fn list(&self, lists: Lists<'_>, query: Query, table: &mut [u16]) -> Reply {
+        replied(|seven| c::list(lists, query, table, seven))
     }
 
     fn list_stands(
         &self,
         lists: Lists<'_>,
-        setting: u64,
+        morning: Morning,
         stands: &[f64],
         table: &mut [u16],
         replies: &mut [u64],
     ) -> Reply {
-        replied(|seven| c::list_stands(lists, setting, stands, table, replies, seven))
+        replied(|seven| c::list_stands(lists, morning, stands, table, replies, seven))
     }
 
     fn change(&self, lists: Lists<'_>, asked: DoorChange<'_>, table: &mut [u16]) -> Reply {
@@ -106,6 +106,7 @@ impl Calls for Proved {
 #[cfg(test)]
 mod tests {
     use super::*;
+    use crate::calls::Reach;
     use crate::examples::plan_q;
     use crate::paper;
 
@@ -119,7 +120,7 @@ mod tests {
             let mut short = vec![7; length];
             let mut bytes = vec![9; file.len()];
             let (mut corners, mut cells, mut doors) = ([9; 8], [9; 12], [9; 1]);
-            let mut table = [9; 12];
+            let mut table = [9; 16];
             let mut replies = [9; 3];
             let mut text = vec![9; MOST_TEXT];
             c::check(lists, &mut short);
@@ -127,24 +128,34 @@ mod tests {
             c::write(lists, &mut bytes, &mut short);
             for stand in [Stand::Point(6.0, 3.0), Stand::Offset(0, 6.0, 3.0)] {
                 c::find(lists, 0, stand, &mut short);
-                c::list(lists, 0, stand, &mut table, &mut short);
-                let stands = stand.numbers();
-                c::list_stands(lists, 0, &stands, &mut table, &mut replies, &mut short);
-                let asked = DoorChange {
-                    setting: 0,
-                    stand,
-                    given: &[0, 0, 1, 1, 1, 2, 4, 2, 3, 5, 3, 0],
-                    door: 0,
-                    shut: true,
-                };
-                c::change(lists, asked, &mut table, &mut short);
+                for reach in [Reach::NotStated, Reach::Stated(9), Reach::Stated(0)] {
+                    let morning = Morning { setting: 0, reach };
+                    let query = morning.query(stand);
+                    c::list(lists, query, &mut table, &mut short);
+                    let stands = stand.numbers();
+                    c::list_stands(
+                        lists,
+                        morning,
+                        &stands,
+                        &mut table,
+                        &mut replies,
+                        &mut short,
+                    );
+                    let asked = DoorChange {
+                        query,
+                        given: &[0, 0, 1, 0, 1, 1, 2, 0, 4, 2, 3, 0, 5, 3, 0, 0],
+                        door: 0,
+                        shut: true,
+                    };
+                    c::change(lists, asked, &mut table, &mut short);
+                }
             }
             c::print(&file, &mut text, &mut short);
             assert_eq!(short, vec![7; length]);
             assert_eq!(text, vec![9; MOST_TEXT]);
             assert_eq!(bytes, vec![9; file.len()]);
             assert_eq!((corners, cells, doors), ([9; 8], [9; 12], [9; 1]));
-            assert_eq!((table, replies), ([9; 12], [9; 3]));
+            assert_eq!((table, replies), ([9; 16], [9; 3]));
         }
     }
 

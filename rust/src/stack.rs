@@ -1,11 +1,12 @@
 //! Every function of `include/manopluea.h` on the deepest floor known, in either
 //! kind, on those with the longest fans and the most splits and on the fullest
-//! plan, inside the cell that all is seen from and on its free side, with a stack
-//! of so many bytes. A stack that is too small ends the process.
+//! plan, inside the cell that all is seen from and on its free side, with no reach
+//! stated and with the longest, which goes through every free line there, with a
+//! stack of so many bytes. A stack that is too small ends the process.
 
-use crate::calls::{Calls, DoorChange, Plan, Stand, POINT};
+use crate::calls::{Calls, DoorChange, Morning, Plan, Query, Reach, Stand, POINT, ROW};
 use crate::generate::{self, in_other_kind, query_record, spot_at, steps_between, Spot};
-use crate::paper::{self, Floor, Paper, Place, View, DOORS, MOST_STANDS, WALL};
+use crate::paper::{self, Floor, Paper, Place, View, DOORS, MOST_STANDS, REACHES, WALL};
 use crate::proved::{on_stack, Proved};
 
 /// Asks each function, and compares with the paper program.
@@ -29,7 +30,8 @@ pub fn ask_every_function(bytes: usize) -> Result<(), String> {
 /// the one nearest to the stand.
 pub fn doorway(plan: &Plan, [x, y]: Spot) -> Option<Spot> {
     let floor = Floor::check(plan.lists()).ok()?;
-    let view = View::new(&floor, 0, Stand::Point(x as f64, y as f64)).ok()?;
+    let query = Query::without_reach(0, Stand::Point(x as f64, y as f64));
+    let view = View::new(&floor, query).ok()?;
     let Place::Inside(cell) = view.place() else {
         return None;
     };
@@ -52,11 +54,11 @@ fn ask_on(name: &str, plan: &Plan, inside: Spot, bytes: usize) -> Result<(), Str
     println!("on {name}:");
     let (lists, last) = (plan.lists(), DOORS.end() - 1);
     let file = paper::encode(lists);
-    let table = || vec![0; 3 * (plan.corners.len() / 2)];
-    let rows = |setting, stand| {
+    let table = || vec![0; ROW * (plan.corners.len() / 2)];
+    let rows = |query| {
         let mut table = table();
-        let reply = paper::list(lists, setting, stand, &mut table);
-        table.truncate(3 * reply.values[0] as usize);
+        let reply = paper::list(lists, query, &mut table);
+        table.truncate(ROW * reply.values[0] as usize);
         table
     };
     same("check", bytes, |calls| calls.check(lists))?;
@@ -80,33 +82,44 @@ fn ask_on(name: &str, plan: &Plan, inside: Spot, bytes: usize) -> Result<(), Str
     let on_side = doorway(plan, inside).ok_or("no spot is on a free side")?;
     for stand in [point(inside), offset(inside), point(on_side)] {
         same("find", bytes, |calls| calls.find(lists, 0, stand))?;
-        same("list", bytes, |calls| {
-            let mut table = table();
-            (calls.list(lists, 0, stand, &mut table), table)
-        })?;
-        for (setting, shut) in [(0, true), (1 << last, false)] {
-            let given = rows(setting, stand);
-            let asked = DoorChange {
-                setting,
-                stand,
-                given: &given,
-                door: last,
-                shut,
-            };
-            same("change", bytes, |calls| {
+        let reaches = [Reach::NotStated, Reach::Stated(*REACHES.end())];
+        let [unlimited, longest] = reaches.map(|reach| {
+            let query = Morning { setting: 0, reach }.query(stand);
+            paper::list(lists, query, &mut table())
+        });
+        if longest != unlimited {
+            return Err("some free line is out of reach".to_string());
+        }
+        for reach in reaches {
+            let under = |setting| Morning { setting, reach };
+            same("list", bytes, |calls| {
                 let mut table = table();
-                (calls.change(lists, asked, &mut table), table)
+                (calls.list(lists, under(0).query(stand), &mut table), table)
+            })?;
+            for (setting, shut) in [(0, true), (1 << last, false)] {
+                let query = under(setting).query(stand);
+                let given = rows(query);
+                let asked = DoorChange {
+                    query,
+                    given: &given,
+                    door: last,
+                    shut,
+                };
+                same("change", bytes, |calls| {
+                    let mut table = table();
+                    (calls.change(lists, asked, &mut table), table)
+                })?;
+            }
+            // As many as there may be; one listing is as deep as many.
+            let mut stands = [POINT, f64::NAN, f64::NAN].repeat(MOST_STANDS - 1);
+            stands.extend(stand.numbers());
+            same("list_stands", bytes, |calls| {
+                let mut table = table().repeat(MOST_STANDS);
+                let mut replies = vec![0; stands.len()];
+                let reply = calls.list_stands(lists, under(0), &stands, &mut table, &mut replies);
+                (reply, table, replies)
             })?;
         }
-        // As many as there may be; one listing is as deep as many.
-        let mut stands = [POINT, f64::NAN, f64::NAN].repeat(MOST_STANDS - 1);
-        stands.extend(stand.numbers());
-        same("list_stands", bytes, |calls| {
-            let mut table = table().repeat(MOST_STANDS);
-            let mut replies = vec![0; stands.len()];
-            let reply = calls.list_stands(lists, 0, &stands, &mut table, &mut replies);
-            (reply, table, replies)
-        })?;
         let input = [query_record(0, stand), file.clone()].concat();
         same("print", bytes, |calls| calls.print(&input))?;
     }

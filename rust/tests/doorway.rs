@@ -1,7 +1,8 @@
 //! Stands on a side, request A4 of document 02: the paper program against the
-//! request's own words, by brute force, on the plans of seeded runs.
+//! request's own words, by brute force, on the plans of seeded runs. No reach is
+//! stated.
 
-use manopluea_compare::calls::{DoorChange, Plan, Reply, Stand};
+use manopluea_compare::calls::{DoorChange, Plan, Query, Reply, Stand, ROW};
 use manopluea_compare::generate::{self, Dice, Lines, Merged, Scene, Spot};
 use manopluea_compare::paper::{self, Direction, Floor, Place, Row, View, WALL};
 
@@ -55,6 +56,10 @@ impl Face {
         };
         self.value(q) == 0 && q != a && q != b && far(a, q) < far(a, b) && far(b, q) < far(a, b)
     }
+}
+
+fn query(scene: &Scene) -> Query {
+    Query::without_reach(scene.setting, scene.stand)
 }
 
 /// What finding has to reply, in the words of the request.
@@ -203,18 +208,17 @@ fn doors_are_changed_from_a_side_as_the_request_says() {
         }
         let faces = faces(floor, scene.setting);
         let (on_side, corners) = (reply.values[1] == 1, floor.corners().len());
-        let mut table = vec![0; 3 * corners];
-        let listed = paper::list(scene.plan.lists(), scene.setting, scene.stand, &mut table);
-        let given = &table[..3 * listed.values[0] as usize];
+        let mut table = vec![0; ROW * corners];
+        let listed = paper::list(scene.plan.lists(), query(scene), &mut table);
+        let given = &table[..ROW * listed.values[0] as usize];
         let line = floor.doors().get(scene.door).copied();
         let holds = line.is_some_and(|face| faces[usize::from(face)].holds(q));
         for shut in [false, true] {
             let is_shut = line.is_some() && scene.setting >> scene.door & 1 == 1;
             let stays = is_shut == shut;
-            for (short, room) in [(0, 3 * corners), (1, 3 * corners - 1)] {
+            for (short, room) in [(0, ROW * corners), (1, ROW * corners - 1)] {
                 let asked = DoorChange {
-                    setting: scene.setting,
-                    stand: scene.stand,
+                    query: query(scene),
                     given,
                     door: scene.door,
                     shut,
@@ -259,7 +263,7 @@ fn holding(floor: &Floor, rows: &[Row], q: [i128; 2], d: [i128; 2]) -> Vec<Row> 
         let at = floor.corner(corner);
         minus([at.x, at.y].map(i128::from), q)
     };
-    let holds = |&&[_, right, left]: &&Row| {
+    let holds = |&&[_, right, left, _]: &&Row| {
         cross(from_stand(right), d) > 0 && cross(d, from_stand(left)) > 0
     };
     rows.iter().filter(holds).copied().collect()
@@ -299,7 +303,7 @@ fn first_wall(faces: &[Face], q: [i128; 2], d: [i128; 2]) -> Option<usize> {
 fn one_row_holds_each_direction_from_a_side() {
     let (mut by_brute_force, mut by_walk, mut from_inside) = (0, 0, 0);
     each_scene(23, 12_000, |scene, floor, q| {
-        let Ok(view) = View::new(floor, scene.setting, scene.stand) else {
+        let Ok(view) = View::new(floor, query(scene)) else {
             return;
         };
         if floor.cell_count() > 150 {
@@ -361,7 +365,7 @@ fn one_row_holds_each_direction_from_a_side() {
 fn the_order_of_the_rows_is_that_of_the_sides() {
     let mut compared = 0;
     each_scene(24, 8_000, |scene, floor, _| {
-        let Ok(view) = View::new(floor, scene.setting, scene.stand) else {
+        let Ok(view) = View::new(floor, query(scene)) else {
             return;
         };
         let Place::Within(face) = view.place() else {
@@ -399,7 +403,7 @@ fn merged_cells_list_the_walls_of_their_triangles_from_a_side() {
     for number in 0..6_000 {
         let dice = &mut Dice::for_case(25, number);
         let mut mesh = generate::floor(dice);
-        if mesh.reach() < 1 << 27 {
+        if mesh.extent() < 1 << 27 {
             mesh.map_corners(|at| at.map(|n| 2 * n));
         }
         let doors = generate::doors(&mesh, dice);
@@ -417,7 +421,8 @@ fn merged_cells_list_the_walls_of_their_triangles_from_a_side() {
             let Some(on_line) = lines.random(dice) else {
                 continue;
             };
-            let view = |floor| View::new(floor, setting, stand_at(on_line.at));
+            let query = Query::without_reach(setting, stand_at(on_line.at));
+            let view = |floor| View::new(floor, query);
             let (Ok(through_small), Ok(through_large)) = (view(&small), view(&large)) else {
                 continue;
             };
@@ -432,9 +437,9 @@ fn merged_cells_list_the_walls_of_their_triangles_from_a_side() {
                 continue;
             }
             let (of_small, of_large) = (through_small.list(), through_large.list());
-            let row = |[face, right, left]: Row| (numbers[usize::from(face)], right, left);
+            let row = |[face, right, left, _]: Row| (numbers[usize::from(face)], right, left);
             let rows: Vec<_> = of_large.rows.into_iter().map(row).collect();
-            let row = |[face, right, left]: Row| (usize::from(face), right, left);
+            let row = |[face, right, left, _]: Row| (usize::from(face), right, left);
             let mut expected: Vec<_> = of_small.rows.into_iter().map(row).collect();
             let first = expected.iter().position(|row| *row == rows[0]);
             expected.rotate_left(first.expect("the first wall is among them"));

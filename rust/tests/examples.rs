@@ -1,6 +1,6 @@
 //! What document 01 gives as measured, printed and to be run.
 
-use manopluea_compare::calls::{Plan, Stand};
+use manopluea_compare::calls::{Plan, Query, Stand};
 use manopluea_compare::examples::{all, plan_q, plan_q_as_one_cell};
 use manopluea_compare::generate::query_record;
 use manopluea_compare::paper::{self, Direction, Floor, Paper, Place, View};
@@ -26,7 +26,7 @@ fn printed(stand: Stand, setting: u64, plan: &Plan) -> String {
 
 #[test]
 fn plan_q_as_printed() {
-    let expected = "rows 4 crossings 1\n0 0 1\n1 1 2\n4 2 3\n5 3 0\n";
+    let expected = "rows 4 crossings 1\n0 0 1 0\n1 1 2 0\n4 2 3 0\n5 3 0 0\n";
     assert_eq!(printed(Stand::Point(6.0, 3.0), 0, &plan_q()), expected);
     assert_eq!(
         printed(Stand::Offset(2, -4.0, -7.0), 0, &plan_q()),
@@ -36,7 +36,7 @@ fn plan_q_as_printed() {
 
 #[test]
 fn plan_q_as_one_cell_printed() {
-    let expected = "rows 4 crossings 0\n0 0 1\n1 1 2\n2 2 3\n3 3 0\n";
+    let expected = "rows 4 crossings 0\n0 0 1 0\n1 1 2 0\n2 2 3 0\n3 3 0 0\n";
     let plan = plan_q_as_one_cell();
     assert_eq!(printed(Stand::Point(6.0, 3.0), 0, &plan), expected);
     // On what was the line between its triangles.
@@ -46,7 +46,7 @@ fn plan_q_as_one_cell_printed() {
 /// On the line of its door: the rows of the same four walls, and no crossing.
 #[test]
 fn plan_q_printed_from_its_doorway() {
-    let expected = "rows 4 crossings 0\n0 0 1\n1 1 2\n4 2 3\n5 3 0\n";
+    let expected = "rows 4 crossings 0\n0 0 1 0\n1 1 2 0\n4 2 3 0\n5 3 0 0\n";
     let (q, stand) = (plan_q(), Stand::Point(5.0, 5.0));
     assert_eq!(printed(stand, 0, &q), expected);
     assert_eq!(printed(Stand::Offset(1, -5.0, 5.0), 0, &q), expected);
@@ -93,7 +93,7 @@ fn a_cell_on_its_back() {
 fn a_walk_over_plan_q() {
     let q = plan_q();
     let floor = Floor::check(q.lists()).unwrap();
-    let view = View::new(&floor, 0, Stand::Point(6.0, 3.0)).unwrap();
+    let view = View::new(&floor, Query::without_reach(0, Stand::Point(6.0, 3.0))).unwrap();
     let walk = view.walk(Direction { x: -3, y: 5 }).unwrap();
     assert_eq!((walk.route, walk.end), (vec![2], 4));
     // Towards corner 2, and away from it.
@@ -107,7 +107,7 @@ fn a_walk_over_plan_q() {
 fn walks_from_a_doorway_of_plan_q() {
     let q = plan_q();
     let floor = Floor::check(q.lists()).unwrap();
-    let view = View::new(&floor, 0, Stand::Point(5.0, 5.0)).unwrap();
+    let view = View::new(&floor, Query::without_reach(0, Stand::Point(5.0, 5.0))).unwrap();
     assert_eq!(view.place(), Place::Within(2));
     for (d, end) in [([1, -2], 0), ([2, -1], 1), ([-1, 2], 4), ([-2, 1], 5)] {
         let walk = view.walk(Direction { x: d[0], y: d[1] }).unwrap();

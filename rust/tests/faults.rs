@@ -3,13 +3,14 @@
 //! find every one of them.
 
 use manopluea_compare::calls::{
-    Calls, DoorChange, Lists, Plan, Reply, Stand, POINT, POLYGONS, TRIANGLES,
+    Calls, DoorChange, Lists, Morning, Plan, Query, Reach, Reply, Stand, POINT, POLYGONS, ROW,
+    TRIANGLES,
 };
 use manopluea_compare::compare::{compare, compare_program, Asked, Mismatch, Trial};
 use manopluea_compare::generate::in_other_kind;
 use manopluea_compare::paper::{
-    self, cut_cells, is_within, millimetres, Cell, Floor, Paper, Place, Point, Row, View, CELLS,
-    CORNERS, DOORS, MOST_STANDS, WALL,
+    self, cut_cells, is_within, millimetres, Cell, Floor, Line, Paper, Place, Point, Row, View,
+    CELLS, CORNERS, DOORS, MOST_STANDS, REACHES, WALL,
 };
 
 /// The enum of the faults, the list of all of them, those in the expansion, and
@@ -45,6 +46,21 @@ faults! {
         NeighboursSidesComeFirst,
         NeighboursSidesAreLeftOut,
         OtherSidesInTheirOwnOrder,
+        // Where the reach ends.
+        InfiniteLineIsInReach,
+        SeenPartIsInReach,
+        OnlyEndsAreInReach,
+        LineIsInReachByItsMiddle,
+        ReachIsExclusive,
+        DistanceIsCutToMillimetres,
+        DoubleDistances,
+        SquareIsCutTo64Bits,
+        ReachTimesLengthIsCutTo64Bits,
+        OutOfReachLineIsCrossed,
+        OutOfReachLineIsCounted,
+        OutOfReachRowIsLeftOut,
+        WallInReachIsMarked,
+        UnreachedWallIsNotMarked,
     }
     place {
         ShutDoorIsFree,
@@ -75,7 +91,18 @@ faults! {
         RefusalClearsTable,
         RefusalCarriesValues,
         RoomIsAskedForRowsOnly,
+        RoomIsThreeNumbersACorner,
         RoomComesBeforeStand,
+        // In the reach that is stated.
+        NotStatedIsTheLongest,
+        ZeroIsUnlimited,
+        LongestReachIsRefused,
+        LongerReachIsTheLongest,
+        ReachIsCutTo32Bits,
+        ReachComesBeforeSetting,
+        ReachComesBeforeStand,
+        ReachComesAfterLine,
+        RoomComesBeforeReach,
         // In a morning's stands.
         RefusedStandStopsTheRest,
         RefusedStandLeavesAGap,
@@ -88,7 +115,10 @@ faults! {
         RefusalClearsReplies,
         RoomIsAskedForAcceptedStands,
         RoomIsAskedOfTableOnly,
+        RoomOfMorningIsThreeNumbersACorner,
         RoomComesBeforeSetting,
+        ReachIsForTheFirstStand,
+        WrongReachRefusesTheMorning,
         SizeOfMorningComesAfterCorner,
         FrameOfMorningComesAfterSize,
         MorningIsOneShorter,
@@ -101,6 +131,10 @@ faults! {
         OldListIsCopied,
         OneRunIsShut,
         GivenListIsTrusted,
+        GivenListIsTheUnlimitedOne,
+        GivenRowsHaveThreeNumbers,
+        DoorOutOfReachStays,
+        DoorOutOfReachLosesItsRow,
         ChangeComesBeforeRoom,
         DoorOfTheLineMayBeChanged,
         OnlyTheDoorOfTheSideFoundIsRefused,
@@ -127,6 +161,7 @@ faults! {
         LineIsItsCorners,
         InputLimitIsExclusive,
         LastLineHasNoEnd,
+        ReachIsNotPrinted,
     }
 }
 
@@ -234,48 +269,68 @@ impl Calls for Faulty {
         }
     }
 
-    fn list(&self, lists: Lists<'_>, setting: u64, stand: Stand, table: &mut [u16]) -> Reply {
+    fn list(&self, lists: Lists<'_>, mut query: Query, table: &mut [u16]) -> Reply {
         let before = table.to_vec();
-        let stand = self.stand(lists, stand);
-        if let Some((q, place)) = found_by(self.0, lists, setting, stand) {
-            if table.len() < 3 * (lists.corners.len() / 2) {
+        query.stand = self.stand(lists, query.stand);
+        query.reach = self.reach(query.reach);
+        let is_short = table.len() < ROW * (lists.corners.len() / 2);
+        let found = found_by(self.0, lists, query.setting, query.stand);
+        if let Some((q, place)) = found.filter(|_| !is_wrong(query.reach)) {
+            if is_short {
                 return refused(11);
             }
-            let (rows, crossings) = expand_from(lists, setting, q, place, self.0);
+            let (rows, crossings) = expand_from(lists, query, q, place, self.0);
             return hand_back(&rows, crossings, &before, table);
         }
-        let mut reply = Paper.list(lists, setting, stand, table);
+        let mut reply = Paper.list(lists, query, table);
         match self.0 {
             RefusalClearsTable if reply.number != 0 => table.fill(0),
             RoomIsAskedForRowsOnly if reply.number == 11 => {
-                let mut long = vec![0; 3 * lists.corners.len() / 2];
-                let full = Paper.list(lists, setting, stand, &mut long);
-                let asked = 3 * full.values[0] as usize;
+                let mut long = vec![0; ROW * lists.corners.len() / 2];
+                let full = Paper.list(lists, query, &mut long);
+                let asked = ROW * full.values[0] as usize;
                 if asked <= table.len() {
                     table[..asked].copy_from_slice(&long[..asked]);
                     return full;
                 }
             }
-            RoomComesBeforeStand
-                if (8..=10).contains(&reply.number)
-                    && table.len() < 3 * (lists.corners.len() / 2) =>
-            {
+            RoomIsThreeNumbersACorner if reply.number == 11 => {
+                if table.len() >= 3 * (lists.corners.len() / 2) {
+                    let (rows, crossings) = listed(lists, query);
+                    return hand_back(&rows, crossings, &before, table);
+                }
+            }
+            RoomComesBeforeStand if [8, 9, 10, 15].contains(&reply.number) && is_short => {
                 return refused(11)
+            }
+            ReachComesBeforeSetting if reply.number == 7 && is_wrong(query.reach) => {
+                return refused(15);
+            }
+            ReachComesBeforeStand if reply.number == 8 && is_wrong(query.reach) => {
+                return refused(15);
+            }
+            ReachComesAfterLine | RoomComesBeforeReach if reply.number == 15 => {
+                let unlimited = Query::without_reach(query.setting, query.stand);
+                let other = Paper.list(lists, unlimited, &mut before.clone());
+                let is_room = other.number == 11;
+                if other.number != 0 && is_room == (self.0 == RoomComesBeforeReach) {
+                    return other;
+                }
             }
             _ if reply.number != 0 => {}
             NothingIsWritten => table.copy_from_slice(&before),
             CrossingsAreInvented => reply.values[1] += 1,
             FacesAreThreeACell => {
-                let (rows, _) = table[..3 * reply.values[0] as usize].as_chunks_mut::<3>();
+                let (rows, _) = table[..ROW * reply.values[0] as usize].as_chunks_mut::<ROW>();
                 three_a_cell(lists, rows);
             }
-            RestOfTableIsCleared => table[3 * reply.values[0] as usize..].fill(0),
+            RestOfTableIsCleared => table[ROW * reply.values[0] as usize..].fill(0),
             AdjacentRowsAreJoined => {
                 let rows = joined(table, reply.values[0] as usize);
                 return hand_back(&rows, reply.values[1], &before, table);
             }
             slip => {
-                if let Some((rows, crossings)) = expand(lists, setting, stand, slip) {
+                if let Some((rows, crossings)) = expand(lists, query, slip) {
                     return hand_back(&rows, crossings, &before, table);
                 }
             }
@@ -286,29 +341,51 @@ impl Calls for Faulty {
     fn list_stands(
         &self,
         lists: Lists<'_>,
-        setting: u64,
+        mut morning: Morning,
         stands: &[f64],
         table: &mut [u16],
         replies: &mut [u64],
     ) -> Reply {
-        let before = Morning::lent(table, replies);
+        let before = Left::lent(table, replies);
         let (corners, count) = (lists.corners.len() / 2, stands.len() / 3);
         let mut read = self.stands(stands);
+        morning.reach = self.reach(morning.reach);
         if self.0 == MorningKnowsNoSides {
-            move_to_corners(lists, setting, &mut read);
+            move_to_corners(lists, morning.setting, &mut read);
         }
-        let mut reply = Paper.list_stands(lists, setting, &read, table, replies);
+        let mut reply = Paper.list_stands(lists, morning, &read, table, replies);
         match self.0 {
             RefusalClearsReplies if reply.number != 0 => replies.fill(0),
             RoomIsAskedForAcceptedStands if reply.number == 11 => {
-                let full = Morning::listed(lists, setting, &read);
-                let asked = 3 * corners * full.accepted();
+                let full = Left::listed(lists, morning, &read);
+                let asked = ROW * corners * full.accepted();
                 if table.len() >= asked && replies.len() >= 3 * count {
                     return full.hand_back(table, replies);
                 }
             }
-            RoomIsAskedOfTableOnly if reply.number == 11 && table.len() >= 3 * corners * count => {
-                return Morning::listed(lists, setting, &read).hand_back(table, replies);
+            RoomIsAskedOfTableOnly
+                if reply.number == 11 && table.len() >= ROW * corners * count =>
+            {
+                return Left::listed(lists, morning, &read).hand_back(table, replies);
+            }
+            RoomOfMorningIsThreeNumbersACorner
+                if reply.number == 11
+                    && table.len() >= 3 * corners * count
+                    && replies.len() >= 3 * count =>
+            {
+                return Left::listed(lists, morning, &read).hand_back(table, replies);
+            }
+            ReachIsForTheFirstStand if reply.number == 0 && count > 1 => {
+                let unlimited = Morning::without_reach(morning.setting);
+                let first = Left::listed(lists, morning, &read[..3]);
+                let rest = Left::listed(lists, unlimited, &read[3..]);
+                return first.then(rest).hand_back(table, replies);
+            }
+            WrongReachRefusesTheMorning
+                if reply.number == 0 && count > 0 && is_wrong(morning.reach) =>
+            {
+                before.hand_back(table, replies);
+                return refused(15);
             }
             RoomComesBeforeSetting if reply.number == 7 && replies.len() < 3 * count => {
                 return refused(11);
@@ -344,7 +421,7 @@ impl Calls for Faulty {
             | RowsStandAtFixedPlaces)
                 if reply.number == 0 =>
             {
-                let full = Morning::listed(lists, setting, &read);
+                let full = Left::listed(lists, morning, &read);
                 return full
                     .slipped(slip, &before, corners)
                     .hand_back(table, replies);
@@ -356,17 +433,22 @@ impl Calls for Faulty {
 
     fn change(&self, lists: Lists<'_>, mut asked: DoorChange<'_>, table: &mut [u16]) -> Reply {
         let before = table.to_vec();
-        asked.stand = self.stand(lists, asked.stand);
+        asked.query.stand = self.stand(lists, asked.query.stand);
+        asked.query.reach = self.reach(asked.query.reach);
         let DoorChange {
-            setting,
-            stand,
+            query,
             given,
             door,
             shut,
         } = asked;
+        let Query { setting, stand, .. } = query;
         let mut reply = paper::change(lists, asked, table);
         let doorway = Doorway::of(lists, asked);
-        let is_short = table.len() < 3 * (lists.corners.len() / 2);
+        let is_short = table.len() < ROW * (lists.corners.len() / 2);
+        let changed = |door: usize| Query {
+            setting: setting ^ 1 << door,
+            ..query
+        };
         match self.0 {
             DoorOfTheLineMayBeChanged if doorway.is_some() => {
                 reply = change_from_a_side(lists, asked, table);
@@ -399,7 +481,7 @@ impl Calls for Faulty {
             }
             OldListIsCopied if reply.number == 0 => {
                 table[..given.len()].copy_from_slice(given);
-                reply.values[0] = (given.len() / 3) as u64;
+                reply.values[0] = (given.len() / ROW) as u64;
             }
             OneRunIsShut if reply.number == 0 && shut => {
                 let before = table.to_vec();
@@ -407,7 +489,34 @@ impl Calls for Faulty {
                 reply = hand_back(&rows, reply.values[1], &before, table);
             }
             GivenListIsTrusted if reply.number == 13 => {
-                reply = Paper.list(lists, setting ^ 1 << door, stand, table);
+                reply = Paper.list(lists, changed(door), table);
+            }
+            GivenListIsTheUnlimitedOne if [0, 13].contains(&reply.number) => {
+                let (rows, _) = listed(lists, Query::without_reach(setting, stand));
+                table.copy_from_slice(&before);
+                reply = match rows.as_flattened() == given {
+                    true => Paper.list(lists, changed(door), table),
+                    false => refused(13),
+                };
+            }
+            GivenRowsHaveThreeNumbers if reply.number == 13 => {
+                let (rows, _) = listed(lists, query);
+                let lines: Vec<u16> = rows.iter().flat_map(|row| row[..3].to_vec()).collect();
+                if lines == given {
+                    reply = Paper.list(lists, changed(door), table);
+                }
+            }
+            DoorOutOfReachStays if reply.number == 0 && has_row_out_of_reach(lists, asked) => {
+                table.copy_from_slice(&before);
+                reply = refused(12);
+            }
+            DoorOutOfReachLosesItsRow
+                if reply.number == 0 && has_row_out_of_reach(lists, asked) =>
+            {
+                let floor = Floor::check(lists).expect("it passed the check");
+                let (mut rows, crossings) = listed(lists, changed(door));
+                rows.retain(|row| !floor.door_faces(door).contains(&row[0]));
+                reply = hand_back(&rows, crossings, &before, table);
             }
             ChangeComesBeforeRoom if reply.number == 11 && door >= lists.doors.len() => {
                 reply = refused(12);
@@ -425,21 +534,27 @@ impl Calls for Faulty {
                 printed.pop();
                 printed
             }
+            ReachIsNotPrinted if printed.starts_with(b"rows") => {
+                let counts = printed.iter().take_while(|&&byte| byte != b'\n').count();
+                let rows = String::from_utf8(printed.split_off(counts));
+                let rows = rows.expect("it prints letters and digits");
+                [printed, rows.replace(" 0\n", "\n").into_bytes()].concat()
+            }
             _ => printed,
         }
     }
 }
 
 /// What a call for a morning leaves.
-struct Morning {
+struct Left {
     reply: Reply,
     table: Vec<u16>,
     replies: Vec<u64>,
 }
 
-impl Morning {
-    fn lent(table: &[u16], replies: &[u64]) -> Morning {
-        Morning {
+impl Left {
+    fn lent(table: &[u16], replies: &[u64]) -> Left {
+        Left {
             reply: Reply::done([]),
             table: table.to_vec(),
             replies: replies.to_vec(),
@@ -447,12 +562,12 @@ impl Morning {
     }
 
     /// The true one, where nothing is lent that is too short.
-    fn listed(lists: Lists<'_>, setting: u64, stands: &[f64]) -> Morning {
-        let mut table = vec![0; lists.corners.len() / 2 * stands.len()];
+    fn listed(lists: Lists<'_>, morning: Morning, stands: &[f64]) -> Left {
+        let mut table = vec![0; ROW * (lists.corners.len() / 2) * (stands.len() / 3)];
         let mut replies = vec![0; stands.len()];
-        let reply = Paper.list_stands(lists, setting, stands, &mut table, &mut replies);
-        table.truncate(3 * reply.values[0] as usize);
-        Morning {
+        let reply = Paper.list_stands(lists, morning, stands, &mut table, &mut replies);
+        table.truncate(ROW * reply.values[0] as usize);
+        Left {
             reply,
             table,
             replies,
@@ -469,6 +584,15 @@ impl Morning {
         self.reply
     }
 
+    /// This one, and another behind it.
+    fn then(mut self, other: Left) -> Left {
+        self.table.extend(other.table);
+        self.replies.extend(other.replies);
+        let sums = self.reply.values.iter_mut().zip(other.reply.values);
+        sums.for_each(|(sum, value)| *sum += value);
+        self
+    }
+
     fn accepted(&self) -> usize {
         let numbers = self.replies.iter().step_by(3);
         numbers.filter(|&&number| number == 0).count()
@@ -476,21 +600,21 @@ impl Morning {
 
     /// The true one written over what was lent, with a slip in where the rows
     /// go.
-    fn slipped(&self, slip: Fault, before: &Morning, corners: usize) -> Morning {
-        let mut left = Morning::lent(&before.table, &before.replies);
+    fn slipped(&self, slip: Fault, before: &Left, corners: usize) -> Left {
+        let mut left = Left::lent(&before.table, &before.replies);
         let (own, _) = self.replies.as_chunks::<3>();
         let (mut from, mut to) = (0, 0);
         for (at, &[number, rows, crossings]) in own.iter().enumerate() {
-            let length = 3 * rows as usize;
+            let length = ROW * rows as usize;
             match slip {
                 RefusedStandStopsTheRest if number != 0 => {
                     left.replies[3 * at] = number;
                     left.replies[3 * at + 1..3 * at + 3].fill(0);
                     return left;
                 }
-                RefusedStandLeavesAGap if number != 0 => to += 3,
-                RefusedStandHasRows if number != 0 => left.table[to..to + 3].fill(0),
-                RowsStandAtFixedPlaces => to = 3 * corners * at,
+                RefusedStandLeavesAGap if number != 0 => to += ROW,
+                RefusedStandHasRows if number != 0 => left.table[to..to + ROW].fill(0),
+                RowsStandAtFixedPlaces => to = ROW * corners * at,
                 _ => {}
             }
             left.table[to..to + length].copy_from_slice(&self.table[from..from + length]);
@@ -561,15 +685,51 @@ impl Faulty {
             _ => stand,
         }
     }
+
+    fn reach(&self, reach: Reach) -> Reach {
+        let longest = *REACHES.end();
+        match (self.0, reach) {
+            (NotStatedIsTheLongest, Reach::NotStated) => Reach::Stated(longest),
+            (ZeroIsUnlimited, Reach::Stated(0)) => Reach::NotStated,
+            (LongestReachIsRefused, Reach::Stated(number)) if number == longest => {
+                Reach::Stated(longest + 1)
+            }
+            (LongerReachIsTheLongest, Reach::Stated(number)) => Reach::Stated(number.min(longest)),
+            (ReachIsCutTo32Bits, Reach::Stated(number)) => Reach::Stated(u64::from(number as u32)),
+            _ => reach,
+        }
+    }
+}
+
+/// Whether a number is stated that is no reach.
+fn is_wrong(reach: Reach) -> bool {
+    matches!(reach, Reach::Stated(number) if !REACHES.contains(&number))
 }
 
 fn refused(number: u32) -> Reply {
     Reply::refused(number, 0)
 }
 
+/// The true rows and crossings of a query that is not refused.
+fn listed(lists: Lists<'_>, query: Query) -> (Vec<Row>, u64) {
+    let floor = Floor::check(lists).expect("it passed the check");
+    let view = View::new(&floor, query).expect("the stand was found");
+    let listing = view.list();
+    (listing.rows, listing.crossings)
+}
+
+/// Whether the door of a change has a row, and is out of reach.
+fn has_row_out_of_reach(lists: Lists<'_>, asked: DoorChange<'_>) -> bool {
+    let floor = Floor::check(lists).expect("it passed the check");
+    let faces = floor.door_faces(asked.door);
+    let (rows, _) = asked.given.as_chunks::<ROW>();
+    rows.iter()
+        .any(|&[face, _, _, far]| far == 1 && faces.contains(&face))
+}
+
 fn hand_back(rows: &[Row], crossings: u64, before: &[u16], table: &mut [u16]) -> Reply {
     table.copy_from_slice(before);
-    let written = (3 * rows.len()).min(table.len());
+    let written = (ROW * rows.len()).min(table.len());
     table[..written].copy_from_slice(&rows.as_flattened()[..written]);
     Reply::done([rows.len() as u64, crossings])
 }
@@ -683,7 +843,7 @@ fn found_by(slip: Fault, lists: Lists<'_>, setting: u64, stand: Stand) -> Option
     let across = floor.across_under(setting).ok()?;
     let open = floor.across_under(0).ok()?;
     let q = millimetres(&floor, stand).ok()?;
-    let truth = View::new(&floor, setting, stand);
+    let truth = View::new(&floor, Query::without_reach(setting, stand));
     let is_on_border = matches!(&truth, Err(refusal) if refusal.reply().number == 9);
     let is_found = |face: &u16| {
         let [a, b] = floor.ends(*face).map(|corner| floor.corner(corner));
@@ -744,13 +904,13 @@ struct Doorway {
 impl Doorway {
     fn of(lists: Lists<'_>, asked: DoorChange<'_>) -> Option<Doorway> {
         let floor = Floor::check(lists).ok()?;
-        let view = View::new(&floor, asked.setting, asked.stand).ok()?;
+        let view = View::new(&floor, asked.query).ok()?;
         let Place::Within(face) = view.place() else {
             return None;
         };
         view.is_in_doorway(asked.door).then(|| Doorway {
             is_found: floor.door_faces(asked.door).contains(&face),
-            is_as_wished: (asked.setting >> asked.door & 1 == 1) == asked.shut,
+            is_as_wished: (asked.query.setting >> asked.door & 1 == 1) == asked.shut,
         })
     }
 }
@@ -758,19 +918,22 @@ impl Doorway {
 /// The change of a door whose line the stand is on, as if it were any other.
 fn change_from_a_side(lists: Lists<'_>, asked: DoorChange<'_>, table: &mut [u16]) -> Reply {
     let floor = Floor::check(lists).expect("it passed the check");
-    let view = View::new(&floor, asked.setting, asked.stand).expect("the stand was found");
-    if table.len() < 3 * floor.corners().len() {
+    let view = View::new(&floor, asked.query).expect("the stand was found");
+    if table.len() < ROW * floor.corners().len() {
         return refused(11);
     }
-    if (asked.setting >> asked.door & 1 == 1) == asked.shut {
+    if (asked.query.setting >> asked.door & 1 == 1) == asked.shut {
         return refused(12);
     }
     if view.list().rows.as_flattened() != asked.given {
         return refused(13);
     }
-    let setting = asked.setting ^ 1 << asked.door;
+    let query = Query {
+        setting: asked.query.setting ^ 1 << asked.door,
+        ..asked.query
+    };
     let slip = DoorOfTheLineMayBeChanged;
-    let (rows, crossings) = expand_from(lists, setting, view.stand(), view.place(), slip);
+    let (rows, crossings) = expand_from(lists, query, view.stand(), view.place(), slip);
     let before = table.to_vec();
     hand_back(&rows, crossings, &before, table)
 }
@@ -811,10 +974,11 @@ fn highest_cell(lists: Lists<'_>, stand: Stand) -> Reply {
 
 fn joined(table: &[u16], count: usize) -> Vec<Row> {
     let mut rows: Vec<Row> = Vec::new();
-    for row in table.chunks(3).take(count) {
+    let (all, _) = table.as_chunks::<ROW>();
+    for &row in &all[..count] {
         match rows.last_mut() {
             Some(last) if last[0] == row[0] => last[2] = row[2],
-            _ => rows.push([row[0], row[1], row[2]]),
+            _ => rows.push(row),
         }
     }
     rows
@@ -823,29 +987,27 @@ fn joined(table: &[u16], count: usize) -> Vec<Row> {
 /// Keeps the first row on a door, and drops every later one.
 fn first_run_shut(table: &[u16], count: usize, face: u16) -> Vec<Row> {
     let mut seen = false;
-    let rows = table
-        .chunks(3)
-        .take(count)
-        .map(|row| [row[0], row[1], row[2]]);
+    let (rows, _) = table.as_chunks::<ROW>();
+    let rows = rows[..count].iter().copied();
     rows.filter(|row| row[0] != face || !std::mem::replace(&mut seen, true))
         .collect()
 }
 
 /// An expansion with a slip in it, as a function that calls itself; none for
 /// faults that are elsewhere.
-fn expand(lists: Lists<'_>, setting: u64, stand: Stand, slip: Fault) -> Option<(Vec<Row>, u64)> {
+fn expand(lists: Lists<'_>, query: Query, slip: Fault) -> Option<(Vec<Row>, u64)> {
     if !IN_EXPANSION.contains(&slip) {
         return None;
     }
     let floor = Floor::check(lists).ok()?;
-    let view = View::new(&floor, setting, stand).ok()?;
+    let view = View::new(&floor, query).ok()?;
     let (q, place) = (view.stand(), view.place());
-    Some(expand_from(lists, setting, q, place, slip))
+    Some(expand_from(lists, query, q, place, slip))
 }
 
 fn expand_from(
     lists: Lists<'_>,
-    setting: u64,
+    query: Query,
     q: Point,
     place: Place,
     slip: Fault,
@@ -854,7 +1016,8 @@ fn expand_from(
     let mut sight = Sight {
         floor: &floor,
         q: [q.x, q.y],
-        across: across(&floor, lists, setting, slip).expect("the setting is right"),
+        across: across(&floor, lists, query.setting, slip).expect("the setting is right"),
+        reach: query.reach,
         slip,
         rows: Vec::new(),
         crossings: 0,
@@ -863,11 +1026,12 @@ fn expand_from(
     sight.crossings += u64::from(slip == LineStoodOnIsCrossed && is_on_side);
     for (at, face) in around(&floor, place, slip).into_iter().enumerate() {
         let [right, left] = floor.ends(face);
-        let row = [face, right, left];
+        let line = [face, right, left];
         if slip == OtherSidesAreWalls && at > 0 {
-            sight.rows.push(row);
+            let far = sight.is_far(line);
+            sight.end(line, far);
         } else {
-            sight.follow(row, 0);
+            sight.follow(line, 0);
         }
     }
     (sight.rows, sight.crossings)
@@ -916,6 +1080,7 @@ struct Sight<'a> {
     floor: &'a Floor,
     q: [i64; 2],
     across: Vec<u16>,
+    reach: Reach,
     slip: Fault,
     rows: Vec<Row>,
     crossings: u64,
@@ -923,12 +1088,15 @@ struct Sight<'a> {
 
 impl Sight<'_> {
     /// Follows a line that so many others were crossed for.
-    fn follow(&mut self, row: Row, depth: usize) {
-        let entered = self.across[usize::from(row[0])];
+    fn follow(&mut self, line: Line, depth: usize) {
+        let entered = self.across[usize::from(line[0])];
+        let far = self.is_far(line);
+        let is_end = entered == WALL || far && self.slip != OutOfReachLineIsCrossed;
         // A slip can lead to endless rows or lines; no listing has so many.
-        if entered == WALL || self.rows.len() > 4_096 || depth > *CELLS.end() {
-            self.rows.push(row);
-            return;
+        if is_end || self.rows.len() > 4_096 || depth > *CELLS.end() {
+            self.crossings +=
+                u64::from(self.slip == OutOfReachLineIsCounted && entered != WALL && far);
+            return self.end(line, far);
         }
         self.crossings += 1;
         let limits = match self.slip {
@@ -936,7 +1104,7 @@ impl Sight<'_> {
                 let [left, right] = self.floor.ends(entered);
                 [right, left]
             }
-            _ => [row[1], row[2]],
+            _ => [line[1], line[2]],
         };
         let mut lines = self.fan(entered, limits);
         if self.slip == SidesFromTheLeftEnd {
@@ -947,9 +1115,72 @@ impl Sight<'_> {
         }
     }
 
+    /// The row of a line that sight ends at.
+    fn end(&mut self, [face, right, left]: Line, far: bool) {
+        let is_wall = self.across[usize::from(face)] == WALL;
+        let is_marked = match self.slip {
+            WallInReachIsMarked if self.reach.is_stated() => far || is_wall,
+            UnreachedWallIsNotMarked => far && !is_wall,
+            _ => far,
+        };
+        if !(far && self.slip == OutOfReachRowIsLeftOut) {
+            self.rows.push([face, right, left, is_marked.into()]);
+        }
+    }
+
+    /// Whether a line is out of reach. What is nearest of it is an end, or the foot
+    /// of the perpendicular.
+    fn is_far(&self, [face, right, left]: Line) -> bool {
+        let Reach::Stated(reach) = self.reach else {
+            return false;
+        };
+        let [a, b] = self.floor.ends(face).map(|corner| self.seen(corner));
+        let square = i128::from(reach) * i128::from(reach);
+        let end = dot(a, a).min(dot(b, b));
+        let has_foot = dot(a, b) < end;
+        let way = [b[0] - a[0], b[1] - a[1]];
+        let (value, length) = (cross(a, b), dot(way, way));
+        let is_far = |end: bool, foot: bool| if has_foot { foot } else { end };
+        let foot_is_far = value * value > square * length;
+        let truth = is_far(end > square, foot_is_far);
+        let cut = |number: i128| i128::from(number as u64);
+        match self.slip {
+            InfiniteLineIsInReach => foot_is_far,
+            SeenPartIsInReach => {
+                let limits = [right, left].map(|corner| self.seen(corner));
+                seen_part_is_far([a, b], limits, square).unwrap_or(truth)
+            }
+            OnlyEndsAreInReach => end > square,
+            LineIsInReachByItsMiddle => {
+                let twice = [a[0] + b[0], a[1] + b[1]];
+                dot(twice, twice) > 4 * square
+            }
+            ReachIsExclusive => is_far(end >= square, value * value >= square * length),
+            DistanceIsCutToMillimetres => {
+                let next = i128::from(reach + 1) * i128::from(reach + 1);
+                is_far(end >= next, value * value >= next * length)
+            }
+            DoubleDistances => {
+                let [value, square, length] = [value, square, length].map(|n| n as f64);
+                is_far(end as f64 > square, value * value > square * length)
+            }
+            SquareIsCutTo64Bits => is_far(end > square, cut(value * value) > square * length),
+            ReachTimesLengthIsCutTo64Bits => {
+                is_far(end > square, value * value > cut(square * length))
+            }
+            _ => truth,
+        }
+    }
+
+    /// A corner less the stand.
+    fn seen(&self, corner: u16) -> [i128; 2] {
+        let at = self.floor.corner(corner);
+        [at.x - self.q[0], at.y - self.q[1]].map(i128::from)
+    }
+
     /// The lines that are handed on, as a fan: its right limit moves on from
     /// side to side, and it ends at the left one.
-    fn fan(&self, entered: u16, [mut right, left]: [u16; 2]) -> Vec<Row> {
+    fn fan(&self, entered: u16, [mut right, left]: [u16; 2]) -> Vec<Line> {
         let ties_between = self.slip == CornerOnLimitIsBetween;
         let farther = self.slip == FartherCornerBecomesLimit;
         let goes_on = self.slip == FanGoesOnAfterTheLeftLimit;
@@ -1003,6 +1234,38 @@ impl Sight<'_> {
     }
 }
 
+fn cross(a: [i128; 2], b: [i128; 2]) -> i128 {
+    a[0] * b[1] - a[1] * b[0]
+}
+
+fn dot(a: [i128; 2], b: [i128; 2]) -> i128 {
+    a[0] * b[0] + a[1] * b[1]
+}
+
+/// Whether the part of a line between the rays to two limits is out of reach; none
+/// where that takes more than 128 bits. What is nearest of it is the foot of the
+/// perpendicular, where it is seen, or on the limit that is nearer to that.
+fn seen_part_is_far(
+    [a, b]: [[i128; 2]; 2],
+    [right, left]: [[i128; 2]; 2],
+    square: i128,
+) -> Option<bool> {
+    let way = [b[0] - a[0], b[1] - a[1]];
+    let towards = [way[1], -way[0]];
+    let value = cross(a, b);
+    let limit = if cross(right, towards) < 0 {
+        right
+    } else if cross(towards, left) < 0 {
+        left
+    } else {
+        return Some(value * value > square * dot(way, way));
+    };
+    // The ray to the limit meets the line at value / slant of the limit.
+    let slant = cross(limit, way);
+    let far = (value * value).checked_mul(dot(limit, limit))?;
+    Some(far > slant.checked_mul(slant)?.checked_mul(square)?)
+}
+
 fn mismatch(fault: Fault) -> Box<Mismatch> {
     match compare(&Paper, &Faulty(fault), 3, 20_000) {
         Ok(_) => panic!("{fault:?} is not found"),
@@ -1020,7 +1283,7 @@ fn every_fault_is_found() {
 /// A fault of the printing program is found by the inputs that are put to it.
 #[test]
 fn a_fault_of_the_printing_program_is_found() {
-    for fault in [InputLimitIsExclusive, LastLineHasNoEnd] {
+    for fault in [InputLimitIsExclusive, LastLineHasNoEnd, ReachIsNotPrinted] {
         let compared = compare_program(|input| Faulty(fault).print(input), 3, 40_000);
         println!("{fault:?}: {}", compared.expect_err("a fault is found"));
     }
@@ -1039,6 +1302,12 @@ fn a_mismatch_is_made_small() {
         LineStoodOnIsCrossed,
         SideComesBeforeInside,
         DoorOfTheLineMayBeChanged,
+        InfiniteLineIsInReach,
+        SeenPartIsInReach,
+        ReachIsExclusive,
+        SquareIsCutTo64Bits,
+        OutOfReachLineIsCrossed,
+        GivenListIsTheUnlimitedOne,
     ] {
         match mismatch(fault).trial {
             Trial::Lists(scene, _) => {
@@ -1060,6 +1329,8 @@ fn a_morning_is_made_small() {
         (LastStandForTheSums, 2),
         (PointsAndOffsetsAreMixedUp, 1),
         (MinusZeroIsNoCorner, 1),
+        (ReachIsForTheFirstStand, 2),
+        (WrongReachRefusesTheMorning, 1),
         (MorningIsOneShorter, MOST_STANDS),
     ] {
         match mismatch(fault).trial {

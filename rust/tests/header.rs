@@ -1,11 +1,11 @@
 //! The numbers of `include/manopluea.h` are those of the documents, and its stack
 //! is enough for every function.
 
-use manopluea_compare::calls::{Refusal, Stand, POINT, POLYGONS, TRIANGLES};
+use manopluea_compare::calls::{Query, Refusal, Stand, POINT, POLYGONS, TRIANGLES};
 use manopluea_compare::generate::{self, in_other_kind};
 use manopluea_compare::paper::{
     self, encode, Direction, Floor, Place, View, CELLS, COORDINATES, CORNERS, DOORS, MOST_INPUT,
-    MOST_STANDS, SIDES, WALL,
+    MOST_STANDS, REACHES, SIDES, WALL,
 };
 use manopluea_compare::proved::{MOST_TEXT, REPLY};
 use manopluea_compare::stack::doorway;
@@ -47,6 +47,8 @@ fn the_limits() {
     assert_eq!(defined("TRIANGLES"), i64::from(TRIANGLES));
     assert_eq!(defined("POLYGONS"), i64::from(POLYGONS));
     assert_eq!(defined("REPLY"), REPLY as i64);
+    assert_eq!(defined("LEAST_REACH"), *REACHES.start() as i64);
+    assert_eq!(defined("MOST_REACH"), *REACHES.end() as i64);
 }
 
 /// The fullest plan is accepted, and no list of it could be longer.
@@ -67,7 +69,7 @@ fn the_text_has_room_for_the_longest_answer() {
     assert_eq!(defined("TEXT"), MOST_TEXT as i64);
     let rows = *CORNERS.end();
     let (face, corner) = (SIDES.end() * CELLS.end() - 1, rows - 1);
-    let row = format!("{face} {corner} {corner}\n");
+    let row = format!("{face} {corner} {corner} 1\n");
     let crossings = rows * (CELLS.end() - 1);
     let first = format!("rows {rows} crossings {crossings}\n");
     assert!(first.len() + rows * row.len() <= MOST_TEXT);
@@ -89,6 +91,7 @@ fn the_reply_numbers() {
         Refusal::Room,
         Refusal::Change,
         Refusal::Rows,
+        Refusal::Reach,
     ];
     let expected = refusals.map(|refusal| {
         let name = format!("{refusal:?}").replace("(0)", "").to_uppercase();
@@ -112,8 +115,8 @@ fn no_floor_is_deeper_than_the_deepest() {
     let other = in_other_kind(&plan).expect("it is of triangles");
     for plan in [plan, other] {
         let floor = Floor::check(plan.lists()).expect("the paper program accepts it");
-        let stand = Stand::Point(x as f64, y as f64);
-        let view = View::new(&floor, 0, stand).expect("the stand is inside");
+        let query = Query::without_reach(0, Stand::Point(x as f64, y as f64));
+        let view = View::new(&floor, query).expect("the stand is inside");
         let west = Direction { x: -1, y: 0 };
         assert!(!view.meets_corner(west));
         let walk = view.walk(west).expect("it ends at a wall");
@@ -128,8 +131,8 @@ fn no_floor_is_deeper_from_a_side() {
     let plan = mesh.plan(&[]);
     let [x, y] = doorway(&plan, inside).expect("a line leads on");
     let floor = Floor::check(plan.lists()).expect("the paper program accepts it");
-    let stand = Stand::Point(x as f64, y as f64);
-    let view = View::new(&floor, 0, stand).expect("the stand is on a free side");
+    let query = Query::without_reach(0, Stand::Point(x as f64, y as f64));
+    let view = View::new(&floor, query).expect("the stand is on a free side");
     assert!(matches!(view.place(), Place::Within(_)));
     let west = Direction { x: -1, y: 0 };
     assert!(!view.meets_corner(west));

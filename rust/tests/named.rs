@@ -1,8 +1,9 @@
 //! The named cases: each reply is the one the documents give, of the paper
-//! program and of the proved library, and both leave the same lent memory.
+//! program and of the proved library, and both leave the same lent memory. No query
+//! here states a reach; `reach.rs` has those that do.
 
 use manopluea_compare::calls::{
-    Calls, DoorChange, Lists, Plan, Reply, Stand, POINT, POLYGONS, TRIANGLES,
+    Calls, DoorChange, Lists, Morning, Plan, Query, Reply, Stand, POINT, POLYGONS, ROW, TRIANGLES,
 };
 use manopluea_compare::examples::{all, plan_q, plan_q_as_one_cell, Example};
 use manopluea_compare::generate::{
@@ -35,9 +36,16 @@ fn find(plan: &Plan, stand: Stand) -> Reply {
 fn list(plan: &Plan, setting: u64, stand: Stand, room: usize) -> (Reply, Vec<u16>) {
     both(|calls| {
         let mut table = vec![u16::from(FILL); room];
-        let reply = calls.list(plan.lists(), setting, stand, &mut table);
-        (reply, table)
+        let query = Query::without_reach(setting, stand);
+        (calls.list(plan.lists(), query, &mut table), table)
     })
+}
+
+/// Rows of these lines. With no reach stated, each is in reach.
+fn in_reach(lines: &[[u16; 3]]) -> Vec<u16> {
+    let rows = lines.iter();
+    rows.flat_map(|&[face, right, left]| [face, right, left, 0])
+        .collect()
 }
 
 /// Reads into lists of these lengths, whose kind becomes the one that is read; a
@@ -384,20 +392,21 @@ fn room_for_the_reader_the_writer_and_the_listing() {
     assert_eq!(reply, Reply::done([4, 2, 1]));
     assert_eq!(longer, [file, vec![FILL; 4]].concat());
     let beside = Stand::Point(6.0, 3.0);
-    for room in [0, 9, 11] {
+    for room in [0, 12, 15] {
         let fill = vec![u16::from(FILL); room];
         assert_eq!(
             list(&plan_q(), 1, beside, room),
             (Reply::refused(11, 0), fill)
         );
     }
-    let (reply, table) = list(&plan_q(), 1, beside, 13);
+    let (reply, table) = list(&plan_q(), 1, beside, 17);
     assert_eq!(reply, Reply::done([3, 0, 0]));
     let fill = u16::from(FILL);
-    assert_eq!(table, [0, 0, 1, 1, 1, 2, 2, 2, 0, fill, fill, fill, fill]);
+    let seen = in_reach(&[[0, 0, 1], [1, 1, 2], [2, 2, 0]]);
+    assert_eq!(table, [seen, vec![fill; 5]].concat());
     // The stand comes before the room.
     let corner = Stand::Point(0.0, 0.0);
-    assert_eq!(list(&plan_q(), 1, corner, 11).0, Reply::refused(9, 0));
+    assert_eq!(list(&plan_q(), 1, corner, 15).0, Reply::refused(9, 0));
 }
 
 #[test]
@@ -405,18 +414,18 @@ fn settings_with_high_bits() {
     let beside = Stand::Point(10.0, 1.0);
     let bit = 1 << 63;
     // The door on line 63 is shut, and nothing is seen behind it.
-    let (reply, _) = list(&strip(100, 64), bit, beside, 306);
+    let (reply, _) = list(&strip(100, 64), bit, beside, 408);
     assert_eq!(reply, Reply::done([66, 63, 0]));
     assert_eq!(
-        list(&strip(100, 64), 0, beside, 306).0,
+        list(&strip(100, 64), 0, beside, 408).0,
         Reply::done([102, 99, 0])
     );
     assert_eq!(
-        list(&strip(100, 64), !0, beside, 306).0,
+        list(&strip(100, 64), !0, beside, 408).0,
         Reply::done([3, 0, 0])
     );
     for (doors, setting) in [(63, bit), (63, !0), (0, 1), (0, bit), (1, 2), (62, 1 << 62)] {
-        let (reply, _) = list(&strip(100, doors), setting, beside, 306);
+        let (reply, _) = list(&strip(100, doors), setting, beside, 408);
         assert_eq!(
             reply,
             Reply::refused(7, 0),
@@ -521,7 +530,7 @@ fn numbers_of_a_stand() {
         ] {
             let reply = find(&plan, stand);
             assert_eq!(reply.number != 8, accepted, "{stand:?}");
-            let (listed, _) = list(&plan, 0, stand, 12);
+            let (listed, _) = list(&plan, 0, stand, 16);
             assert_eq!(
                 (listed.number, listed.place),
                 (reply.number, 0),
@@ -571,9 +580,9 @@ fn offsets() {
     assert_eq!(reply(limit + 1.0, 1.0), Reply::refused(8, 0));
     assert_eq!(reply(-1.0, 1.0), Reply::refused(8, 0));
     assert_eq!(reply(-0.0, 1.0), Reply::refused(10, 0));
-    let (listed, table) = list(&plan_q(), 0, Stand::Offset(2, -4.0, -7.0), 12);
+    let (listed, table) = list(&plan_q(), 0, Stand::Offset(2, -4.0, -7.0), 16);
     assert_eq!(listed, Reply::done([4, 1, 0]));
-    assert_eq!(table, [0, 0, 1, 1, 1, 2, 4, 2, 3, 5, 3, 0]);
+    assert_eq!(table, SEEN);
 }
 
 #[test]
@@ -661,55 +670,57 @@ fn the_twelve_examples() {
 #[test]
 fn the_longest_strip() {
     let beside = Stand::Point(10.0, 1.0);
-    let (reply, _) = list(&strip(2_046, 64), 0, beside, 3 * 2_048);
+    let (reply, _) = list(&strip(2_046, 64), 0, beside, 4 * 2_048);
     assert_eq!(reply, Reply::done([2_048, 2_045, 0]));
 }
 
 /// What a call for a morning leaves.
 #[derive(Debug, PartialEq)]
-struct Morning {
+struct Left {
     reply: Reply,
     table: Vec<u16>,
     replies: Vec<u64>,
 }
 
-impl Morning {
+impl Left {
     /// Lent memory of these lengths after a call that replies this and writes
     /// these rows and stands' own replies.
-    fn new(reply: Reply, [table, replies]: [usize; 2], rows: &[u16], own: &[[u64; 3]]) -> Morning {
-        let mut morning = Morning {
+    fn new(reply: Reply, [table, replies]: [usize; 2], rows: &[u16], own: &[[u64; 3]]) -> Left {
+        let mut left = Left {
             reply,
             table: vec![u16::from(FILL); table],
             replies: vec![u64::from(FILL); replies],
         };
-        morning.table[..rows.len()].copy_from_slice(rows);
-        morning.replies[..3 * own.len()].copy_from_slice(own.as_flattened());
-        morning
+        left.table[..rows.len()].copy_from_slice(rows);
+        left.replies[..3 * own.len()].copy_from_slice(own.as_flattened());
+        left
     }
 
     /// A refusal leaves lent memory of these lengths as it was.
-    fn refused(number: u32, place: u32, room: [usize; 2]) -> Morning {
-        Morning::new(Reply::refused(number, place), room, &[], &[])
+    fn refused(number: u32, place: u32, room: [usize; 2]) -> Left {
+        Left::new(Reply::refused(number, place), room, &[], &[])
     }
 }
 
-fn list_stands(plan: &Plan, setting: u64, stands: &[f64], room: [usize; 2]) -> Morning {
+fn list_stands(plan: &Plan, setting: u64, stands: &[f64], room: [usize; 2]) -> Left {
     both(|calls| {
-        let mut left = Morning::refused(0, 0, room);
+        let mut left = Left::refused(0, 0, room);
         let (table, replies) = (&mut left.table, &mut left.replies);
-        left.reply = calls.list_stands(plan.lists(), setting, stands, table, replies);
+        let morning = Morning::without_reach(setting);
+        left.reply = calls.list_stands(plan.lists(), morning, stands, table, replies);
         left
     })
 }
 
 /// The lengths of a table and of replies that are just enough.
 fn enough(plan: &Plan, stands: &[f64]) -> [usize; 2] {
-    [plan.corners.len() / 2 * stands.len(), stands.len()]
+    let table = 4 * (plan.corners.len() / 2) * (stands.len() / 3);
+    [table, stands.len()]
 }
 
 /// The stand of examples a and c, and what is listed for it.
 const BESIDE: [f64; 3] = [POINT, 6.0, 3.0];
-const SEEN: [u16; 12] = [0, 0, 1, 1, 1, 2, 4, 2, 3, 5, 3, 0];
+const SEEN: [u16; 16] = [0, 0, 1, 0, 1, 1, 2, 0, 4, 2, 3, 0, 5, 3, 0, 0];
 
 #[test]
 fn mornings_of_any_count_of_stands() {
@@ -725,7 +736,7 @@ fn mornings_of_any_count_of_stands() {
             [table + 1, replies + 1],
             [table + 40, replies + 40],
         ] {
-            let expected = Morning::new(reply, room, &SEEN.repeat(count), &own);
+            let expected = Left::new(reply, room, &SEEN.repeat(count), &own);
             assert_eq!(
                 list_stands(&plan, 0, &stands, room),
                 expected,
@@ -736,7 +747,7 @@ fn mornings_of_any_count_of_stands() {
     for count in [33, 34, 64, 1_000] {
         let stands = BESIDE.repeat(count);
         let room = enough(&plan, &stands);
-        let expected = Morning::refused(2, 0, room);
+        let expected = Left::refused(2, 0, room);
         assert_eq!(
             list_stands(&plan, 0, &stands, room),
             expected,
@@ -771,7 +782,7 @@ fn each_reply_of_a_stand_at_the_first_a_middle_and_the_last_place() {
                 let room = enough(&plan, &stands);
                 assert_eq!(
                     list_stands(&plan, 0, &stands, room),
-                    Morning::new(reply, room, &SEEN.repeat(accepted), &own),
+                    Left::new(reply, room, &SEEN.repeat(accepted), &own),
                     "{asked:?}"
                 );
             }
@@ -789,11 +800,11 @@ fn a_morning_where_every_stand_is_refused() {
         let own: Vec<_> = asked.iter().map(|&&(number, _)| [number, 0, 0]).collect();
         let [table, replies] = enough(&plan, &stands);
         let room = [table, replies];
-        let expected = Morning::new(Reply::done([0; 3]), room, &[], &own);
+        let expected = Left::new(Reply::done([0; 3]), room, &[], &own);
         assert_eq!(list_stands(&plan, 0, &stands, room), expected);
         // No row is written, and room for every stand is asked for all the same.
         for room in [[table - 1, replies], [table, replies - 1], [0, 0]] {
-            let expected = Morning::refused(11, 0, room);
+            let expected = Left::refused(11, 0, room);
             assert_eq!(list_stands(&plan, 0, &stands, room), expected);
         }
     }
@@ -804,26 +815,27 @@ fn room_for_a_morning() {
     let plan = plan_q();
     let stands = BESIDE.repeat(2);
     for room in [
-        [23, 6],
-        [24, 5],
-        [23, 5],
-        [12, 6],
-        [24, 3],
+        [31, 6],
+        [32, 5],
+        [31, 5],
+        [24, 6],
+        [16, 6],
+        [32, 3],
         [0, 6],
-        [24, 0],
+        [32, 0],
         [0, 0],
     ] {
-        let expected = Morning::refused(11, 0, room);
+        let expected = Left::refused(11, 0, room);
         assert_eq!(list_stands(&plan, 0, &stands, room), expected);
     }
     // With the door shut three rows are due, and room for four is asked for.
-    let shut = [0, 0, 1, 1, 1, 2, 2, 2, 0].repeat(2);
-    let expected = Morning::new(Reply::done([6, 0, 0]), [24, 6], &shut, &[[0, 3, 0]; 2]);
-    assert_eq!(list_stands(&plan, 1, &stands, [24, 6]), expected);
-    let expected = Morning::refused(11, 0, [23, 6]);
-    assert_eq!(list_stands(&plan, 1, &stands, [23, 6]), expected);
+    let shut = in_reach(&[[0, 0, 1], [1, 1, 2], [2, 2, 0]]).repeat(2);
+    let expected = Left::new(Reply::done([6, 0, 0]), [32, 6], &shut, &[[0, 3, 0]; 2]);
+    assert_eq!(list_stands(&plan, 1, &stands, [32, 6]), expected);
+    let expected = Left::refused(11, 0, [31, 6]);
+    assert_eq!(list_stands(&plan, 1, &stands, [31, 6]), expected);
     // No stands ask for no room.
-    let expected = Morning::new(Reply::done([0; 3]), [0, 0], &[], &[]);
+    let expected = Left::new(Reply::done([0; 3]), [0, 0], &[], &[]);
     assert_eq!(list_stands(&plan, 1, &[], [0, 0]), expected);
 }
 
@@ -842,7 +854,7 @@ fn points_and_offsets_in_one_morning() {
     ]
     .concat();
     let room = enough(&plan, &stands);
-    let expected = Morning::new(
+    let expected = Left::new(
         Reply::done([28, 7, 0]),
         room,
         &SEEN.repeat(7),
@@ -855,9 +867,9 @@ fn points_and_offsets_in_one_morning() {
 fn first_numbers_of_a_stand() {
     let plan = plan_q();
     let reply = |numbers: &[f64; 3]| {
-        let morning = list_stands(&plan, 0, numbers, [12, 3]);
-        assert_eq!((morning.reply.number, morning.reply.place), (0, 0));
-        morning.replies[0]
+        let left = list_stands(&plan, 0, numbers, [16, 3]);
+        assert_eq!((left.reply.number, left.reply.place), (0, 0));
+        left.replies[0]
     };
     // Corner 0 is at zero: what is read as 0 or as a point is listed.
     for first in [POINT, 0.0, -0.0] {
@@ -901,7 +913,7 @@ fn first_numbers_of_a_stand() {
 fn a_morning_is_refused_by_the_lowest_number() {
     let refused = |plan: &Plan, setting, stands: &[f64], number, place| {
         for room in [enough(plan, stands), [0, 0]] {
-            let expected = Morning::refused(number, place, room);
+            let expected = Left::refused(number, place, room);
             assert_eq!(list_stands(plan, setting, stands, room), expected);
         }
     };
@@ -942,7 +954,7 @@ fn a_morning_is_refused_by_the_lowest_number() {
 }
 
 /// Each stand's part of a morning is what a call for it alone leaves in a table
-/// of three numbers a corner, and the sums are those of the single calls.
+/// of four numbers a corner, and the sums are those of the single calls.
 #[test]
 fn a_morning_equals_single_calls() {
     let plan = hall();
@@ -960,15 +972,15 @@ fn a_morning_equals_single_calls() {
         for stands in stands.chunks(32) {
             let (mut rows, mut own, mut crossings) = (Vec::new(), Vec::new(), 0);
             for &stand in stands {
-                let (reply, table) = list(&plan, setting, stand, 18);
-                rows.extend_from_slice(&table[..3 * reply.values[0] as usize]);
+                let (reply, table) = list(&plan, setting, stand, 24);
+                rows.extend_from_slice(&table[..4 * reply.values[0] as usize]);
                 own.push([u64::from(reply.number), reply.values[0], reply.values[1]]);
                 crossings += reply.values[1];
             }
             let numbers: Vec<f64> = stands.iter().flat_map(|stand| stand.numbers()).collect();
             let room = enough(&plan, &numbers).map(|length| length + 5);
-            let sums = Reply::done([rows.len() as u64 / 3, crossings, 0]);
-            let expected = Morning::new(sums, room, &rows, &own);
+            let sums = Reply::done([rows.len() as u64 / 4, crossings, 0]);
+            let expected = Left::new(sums, room, &rows, &own);
             assert_eq!(list_stands(&plan, setting, &numbers, room), expected);
         }
     }
@@ -982,16 +994,16 @@ fn the_fullest_morning() {
     let stand = Stand::Point(10.0, 1.0);
     let stands = stand.numbers().repeat(32);
     let room = enough(&plan, &stands);
-    assert_eq!(room, [196_608, 96]);
-    let (_, rows) = list(&plan, 0, stand, 3 * 2_048);
+    assert_eq!(room, [262_144, 96]);
+    let (_, rows) = list(&plan, 0, stand, 4 * 2_048);
     let own = [[0, 2_048, 2_045]; 32];
     let reply = Reply::done([65_536, 65_440, 0]);
-    let expected = Morning::new(reply, room, &rows.repeat(32), &own);
+    let expected = Left::new(reply, room, &rows.repeat(32), &own);
     assert_eq!(list_stands(&plan, 0, &stands, room), expected);
-    let short = [196_607, 96];
+    let short = [262_143, 96];
     assert_eq!(
         list_stands(&plan, 0, &stands, short),
-        Morning::refused(11, 0, short)
+        Left::refused(11, 0, short)
     );
 }
 
@@ -1017,15 +1029,15 @@ fn the_printing_program_refuses_its_query_first() {
 
 /// The numbers of the listing, without the rest of the table.
 fn rows(plan: &Plan, setting: u64, stand: Stand) -> Vec<u16> {
-    let (reply, mut table) = list(plan, setting, stand, 3 * plan.corners.len() / 2);
+    let (reply, mut table) = list(plan, setting, stand, ROW * plan.corners.len() / 2);
     assert_eq!(reply.number, 0);
-    table.truncate(3 * usize::try_from(reply.values[0]).expect("rows are few"));
+    table.truncate(ROW * usize::try_from(reply.values[0]).expect("rows are few"));
     table
 }
 
 /// The change's reply and table; a refusal leaves the table as it was.
 fn change(plan: &Plan, asked: DoorChange<'_>) -> (Reply, Vec<u16>) {
-    let before = vec![u16::from(FILL); 3 * plan.corners.len() / 2];
+    let before = vec![u16::from(FILL); ROW * plan.corners.len() / 2];
     let (reply, table) = both(|calls| {
         let mut table = before.clone();
         (calls.change(plan.lists(), asked, &mut table), table)
@@ -1040,8 +1052,7 @@ fn change(plan: &Plan, asked: DoorChange<'_>) -> (Reply, Vec<u16>) {
 fn toggle(plan: &Plan, setting: u64, stand: Stand, door: usize) -> Vec<u16> {
     let bit = 1 << door;
     let asked = DoorChange {
-        setting,
-        stand,
+        query: Query::without_reach(setting, stand),
         given: &rows(plan, setting, stand),
         door,
         shut: setting & bit == 0,
@@ -1075,7 +1086,8 @@ fn a_door_that_fills_two_adjacent_rows() {
     let (plan, stand) = (hall(), Stand::Point(0.0, 5.0));
     let open = rows(&plan, 0, stand);
     let shut = toggle(&plan, 0, stand, 0);
-    let on_the_door: Vec<usize> = (0..shut.len() / 3).filter(|&i| shut[3 * i] == 10).collect();
+    let (shut, _) = shut.as_chunks::<ROW>();
+    let on_the_door: Vec<usize> = (0..shut.len()).filter(|&i| shut[i][0] == 10).collect();
     assert_eq!(on_the_door.len(), 2, "one row for each route: {shut:?}");
     assert_eq!(on_the_door[0] + 1, on_the_door[1], "side by side: {shut:?}");
     assert_eq!(toggle(&plan, 1, stand, 0), open);
@@ -1091,7 +1103,7 @@ fn a_door_that_is_not_seen_and_the_doors_of_the_stands_own_cell() {
             toggle(&plan, setting, stand, door);
         }
     }
-    assert_eq!(rows(&plan, 0b110, stand).len(), 9);
+    assert_eq!(rows(&plan, 0b110, stand).len(), 3 * ROW);
 }
 
 #[test]
@@ -1111,8 +1123,7 @@ fn changes_that_are_refused() {
     let (plan, stand) = (hall(), Stand::Point(0.0, 5.0));
     let truth = rows(&plan, 0, stand);
     let shutting = DoorChange {
-        setting: 0,
-        stand,
+        query: Query::without_reach(0, stand),
         given: &truth,
         door: 0,
         shut: true,
@@ -1129,17 +1140,16 @@ fn changes_that_are_refused() {
         }
     }
     untrue(&[]);
-    untrue(&truth[..truth.len() - 3]);
+    untrue(&truth[..truth.len() - ROW]);
     untrue(&truth[..truth.len() - 1]);
-    untrue(&[&truth[..], &truth[..3]].concat());
+    untrue(&[&truth[..], &truth[..ROW]].concat());
     untrue(&[&truth[..], &[0, 0]].concat());
     untrue(&rows(&plan, 0, Stand::Point(-9.0, 10.0)));
     untrue(&rows(&plan, 1, stand));
     // Reply 12 comes before 13.
     for (setting, door, shut) in [(0, 3, true), (0, 64, false), (0, 0, false), (1, 0, true)] {
         let asked = DoorChange {
-            setting,
-            stand,
+            query: Query::without_reach(setting, stand),
             given: &[],
             door,
             shut,
@@ -1152,7 +1162,7 @@ fn changes_that_are_refused() {
     };
     assert_eq!(change(&plan, no_door).0, Reply::refused(12, 0));
     let no_such_bit = DoorChange {
-        setting: 8,
+        query: Query::without_reach(8, stand),
         ..shutting
     };
     assert_eq!(change(&plan, no_such_bit).0, Reply::refused(7, 0));
@@ -1234,7 +1244,7 @@ fn cells_of_several_sizes() {
     }
     // Through all of them: corners 5 and 10 are outside the cone that comes
     // through the second line, and take no part.
-    let (reply, table) = list(&plan, 0, Stand::Point(5.0, 0.0), 42);
+    let (reply, table) = list(&plan, 0, Stand::Point(5.0, 0.0), 56);
     assert_eq!(reply, Reply::done([12, 3]));
     let expected = [
         [0, 0, 1],
@@ -1250,7 +1260,7 @@ fn cells_of_several_sizes() {
         [5, 4, 2],
         [2, 2, 0],
     ];
-    assert_eq!(table[..36], *expected.as_flattened());
+    assert_eq!(table[..48], in_reach(&expected));
 }
 
 /// Faces are numbered in the order of the list, so the places behind a larger
@@ -1299,36 +1309,36 @@ fn doors_between_cells_of_different_size() {
     }
     // The door is seen from the octagon's face 10, and from the other's 19.
     let shut = |x| rows(&plan, 0b100, Stand::Point(x, 0.0));
-    assert!(shut(35.0).chunks(3).any(|row| row == [10, 7, 8]));
-    assert!(shut(55.0).chunks(3).any(|row| row == [19, 8, 7]));
+    assert!(shut(35.0).chunks(ROW).any(|row| row == [10, 7, 8, 0]));
+    assert!(shut(55.0).chunks(ROW).any(|row| row == [19, 8, 7, 0]));
 }
 
 #[test]
 fn plan_q_as_one_cell_of_four_corners() {
     let plan = plan_q_as_one_cell();
     assert_eq!(check(&plan), Reply::done([4, 1, 0]));
-    let seen = [0, 0, 1, 1, 1, 2, 2, 2, 3, 3, 3, 0];
+    let seen = in_reach(&[[0, 0, 1], [1, 1, 2], [2, 2, 3], [3, 3, 0]]);
     // The second stand is on what was the line between two triangles.
     for stand in [
         Stand::Point(6.0, 3.0),
         Stand::Point(5.0, 5.0),
         Stand::Offset(2, -4.0, -7.0),
     ] {
-        let (reply, table) = list(&plan, 0, stand, 12);
+        let (reply, table) = list(&plan, 0, stand, 16);
         assert_eq!((reply, &table[..]), (Reply::done([4, 0]), &seen[..]));
     }
-    let morning = list_stands(&plan, 0, &[BESIDE, [POINT, 5.0, 5.0]].concat(), [24, 6]);
-    let expected = Morning::new(
+    let left = list_stands(&plan, 0, &[BESIDE, [POINT, 5.0, 5.0]].concat(), [32, 6]);
+    let expected = Left::new(
         Reply::done([8, 0]),
-        [24, 6],
+        [32, 6],
         &seen.repeat(2),
         &[[0, 4, 0]; 2],
     );
-    assert_eq!(morning, expected);
+    assert_eq!(left, expected);
     let at = |x, y| find(&plan, Stand::Point(x, y)).number;
     assert_eq!([at(0.0, 0.0), at(6.0, 0.0), at(10.0, 9.0)], [9; 3]);
     assert_eq!([at(11.0, 5.0), at(5.0, -1.0), at(-1.0, 11.0)], [10; 3]);
-    assert_eq!(list(&plan, 1, Stand::Point(6.0, 3.0), 12).0.number, 7);
+    assert_eq!(list(&plan, 1, Stand::Point(6.0, 3.0), 16).0.number, 7);
 }
 
 #[test]
@@ -1428,12 +1438,11 @@ fn kinds_that_there_are_not() {
             let stand = Stand::Point(6.0, 3.0);
             let (reply, table) = list(&wrong, 1 << 63, stand, 0);
             assert_eq!((reply, table), (refused, vec![]), "kind {kind}");
-            let room = [42, 3];
-            let morning = list_stands(&wrong, 1 << 63, &BESIDE, room);
-            assert_eq!(morning, Morning::refused(1, 0, room), "kind {kind}");
+            let room = [56, 3];
+            let left = list_stands(&wrong, 1 << 63, &BESIDE, room);
+            assert_eq!(left, Left::refused(1, 0, room), "kind {kind}");
             let asked = DoorChange {
-                setting: 0,
-                stand,
+                query: Query::without_reach(0, stand),
                 given: &[],
                 door: 99,
                 shut: true,
@@ -1567,12 +1576,16 @@ fn corners_of_larger_cells_on_limits() {
         let mut neighbours = vec![WALL; far.len()];
         neighbours[0] = 0;
         let plan = polygons(&corners, &[near, (far, &neighbours)]);
-        let (reply, table) = list(&plan, 0, Stand::Point(0.0, -10.0), 21);
+        let (reply, table) = list(&plan, 0, Stand::Point(0.0, -10.0), 28);
         assert_eq!((reply.number, reply.values[1]), (0, 1), "{far:?}");
-        let (rows, _) = table.as_chunks::<3>();
-        let rows = rows[..reply.values[0] as usize].to_vec();
-        assert_eq!((rows[0], rows[rows.len() - 1]), ([0, 0, 1], [2, 2, 0]));
-        rows[1..rows.len() - 1].to_vec()
+        let (rows, _) = table[..ROW * reply.values[0] as usize].as_chunks::<ROW>();
+        let line = |&[face, right, left, far]: &[u16; ROW]| {
+            assert_eq!(far, 0);
+            [face, right, left]
+        };
+        let lines: Vec<[u16; 3]> = rows.iter().map(line).collect();
+        assert_eq!((lines[0], lines[lines.len() - 1]), ([0, 0, 1], [2, 2, 0]));
+        lines[1..lines.len() - 1].to_vec()
     };
     // Two corners on the limits, and two between them.
     let hexagon = seen(&[2, 1, 3, 4, 5, 6]);
@@ -1654,7 +1667,7 @@ fn the_fullest_plan() {
     let stand = Stand::Point(x as f64, y as f64);
     assert_eq!(find(&plan, stand), Reply::done([0]));
     let open = rows(&plan, 0, stand);
-    assert_eq!(toggle(&plan, 0, stand, 0).len(), 3 * 8);
+    assert_eq!(toggle(&plan, 0, stand, 0).len(), ROW * 8);
     assert_eq!(toggle(&plan, 0, stand, 63), open);
     let file = encode(plan.lists());
     assert_eq!(write(&plan, file.len() - 1).0, Reply::refused(11, 0));
@@ -1680,7 +1693,7 @@ fn the_longest_fans() {
     let (plan, [x, y]) = longest_fans();
     assert_eq!(check(&plan), Reply::done([2_047, 2_040, 64]));
     let stand = Stand::Point(x as f64, y as f64);
-    let (reply, _) = list(&plan, 0, stand, 3 * 2_047);
+    let (reply, _) = list(&plan, 0, stand, 4 * 2_047);
     assert_eq!((reply.number, reply.values[1]), (0, 2_039));
     for door in [0, 1, 62, 63] {
         toggle(&plan, 0, stand, door);
@@ -1694,7 +1707,7 @@ fn the_most_splits() {
     let (plan, [x, y]) = most_splits();
     assert_eq!(check(&plan), Reply::done([2_048, 2_400, 64]));
     let stand = Stand::Point(x as f64, y as f64);
-    let (reply, _) = list(&plan, 0, stand, 3 * 2_048);
+    let (reply, _) = list(&plan, 0, stand, 4 * 2_048);
     assert_eq!(
         (reply.number, reply.values[..2].to_vec()),
         (0, vec![2_040, 2_037])
@@ -1728,7 +1741,7 @@ fn triangles_in_either_kind() {
     for (plan, spots) in [strip, hall, q] {
         let other = other_kind(&plan);
         assert_eq!(check(&plan), check(&other));
-        let room = 3 * plan.corners.len() / 2;
+        let room = ROW * plan.corners.len() / 2;
         let mut stands = Vec::new();
         for [x, y] in spots {
             let stand = Stand::Point(x.into(), y.into());
@@ -1738,13 +1751,12 @@ fn triangles_in_either_kind() {
                 let listed = list(&plan, setting, stand, room);
                 assert_eq!(listed, list(&other, setting, stand, room));
                 let asked = |given| DoorChange {
-                    setting,
-                    stand,
+                    query: Query::without_reach(setting, stand),
                     given,
                     door: 0,
                     shut: setting & 1 == 0,
                 };
-                let given = &listed.1[..3 * listed.0.values[0] as usize];
+                let given = &listed.1[..ROW * listed.0.values[0] as usize];
                 for given in [given, &[]] {
                     let changed = change(&plan, asked(given));
                     assert_eq!(changed, change(&other, asked(given)));
@@ -1752,8 +1764,8 @@ fn triangles_in_either_kind() {
             }
         }
         let room = enough(&plan, &stands);
-        let morning = list_stands(&plan, 1, &stands, room);
-        assert_eq!(morning, list_stands(&other, 1, &stands, room));
+        let left = list_stands(&plan, 1, &stands, room);
+        assert_eq!(left, list_stands(&other, 1, &stands, room));
         // The file says which kind it is in.
         assert_ne!(encode(plan.lists()), encode(other.lists()));
     }
@@ -1766,10 +1778,10 @@ fn the_printing_program_takes_either_kind() {
         String::from_utf8(both(|calls| calls.print(&input))).expect("it prints letters and digits")
     };
     let beside = Stand::Point(6.0, 3.0);
-    let as_printed = "rows 4 crossings 1\n0 0 1\n1 1 2\n4 2 3\n5 3 0\n";
+    let as_printed = "rows 4 crossings 1\n0 0 1 0\n1 1 2 0\n4 2 3 0\n5 3 0 0\n";
     assert_eq!(printed(&plan_q(), beside), as_printed);
     assert_eq!(printed(&other_kind(&plan_q()), beside), as_printed);
-    let in_one_cell = "rows 4 crossings 0\n0 0 1\n1 1 2\n2 2 3\n3 3 0\n";
+    let in_one_cell = "rows 4 crossings 0\n0 0 1 0\n1 1 2 0\n2 2 3 0\n3 3 0 0\n";
     assert_eq!(printed(&plan_q_as_one_cell(), beside), in_one_cell);
     let mut wrong = row_of_cells();
     wrong.cells[43] = WALL;
@@ -1788,11 +1800,11 @@ fn the_doorway_of_plan_q() {
     let plan = plan_q();
     for stand in [IN_DOORWAY, Stand::Offset(2, -5.0, -5.0)] {
         assert_eq!(find(&plan, stand), Reply::done([0, 1, 2]));
-        let listed = list(&plan, 0, stand, 12);
+        let listed = list(&plan, 0, stand, 16);
         assert_eq!(listed, (Reply::done([4, 0]), SEEN.to_vec()));
-        assert_eq!(list(&plan, 0, stand, 11).0, Reply::refused(11, 0));
+        assert_eq!(list(&plan, 0, stand, 15).0, Reply::refused(11, 0));
         // Shut, the line is a wall: example k's reply, and before the room.
-        for room in [12, 11, 0] {
+        for room in [16, 15, 0] {
             assert_eq!(list(&plan, 1, stand, room).0, Reply::refused(9, 0));
         }
     }
@@ -1806,7 +1818,7 @@ fn the_doorway_of_plan_q() {
         let input = [query_record(setting, IN_DOORWAY), encode(plan.lists())].concat();
         String::from_utf8(both(|calls| calls.print(&input))).expect("it prints letters and digits")
     };
-    let rows = "0 0 1\n1 1 2\n4 2 3\n5 3 0\n";
+    let rows = "0 0 1 0\n1 1 2 0\n4 2 3 0\n5 3 0 0\n";
     assert_eq!(printed(0), format!("rows 4 crossings 0\n{rows}"));
     assert_eq!(printed(1), "refused 9 0\n");
     assert_eq!(printed(2), "refused 7 0\n");
@@ -1821,13 +1833,13 @@ fn a_free_line_without_a_door() {
     for x in 1..10 {
         let stand = Stand::Point(x.into(), x.into());
         assert_eq!(find(&plan, stand), Reply::done([0, 1, 2]), "{x}");
-        let listed = list(&plan, 0, stand, 12);
+        let listed = list(&plan, 0, stand, 16);
         assert_eq!(listed, (Reply::done([4, 0]), SEEN.to_vec()), "{x}");
     }
     for (x, number) in [(0, 9), (10, 9), (-1, 10), (11, 10)] {
         let stand = Stand::Point(x.into(), x.into());
         assert_eq!(find(&plan, stand), Reply::refused(number, 0), "{x}");
-        assert_eq!(list(&plan, 0, stand, 12).0.number, number, "{x}");
+        assert_eq!(list(&plan, 0, stand, 16).0.number, number, "{x}");
     }
     // A wall that goes straight on from a free line is none.
     let corners = [[0, 0], [10, 0], [0, 10], [0, -10], [20, 0], [20, 10]];
@@ -1884,9 +1896,9 @@ fn sides_in_order_after_the_one_stood_on() {
             let rows: Vec<u16> = faces
                 .iter()
                 .zip(walls)
-                .flat_map(|(&face, [right, left])| [face as u16, right, left])
+                .flat_map(|(&face, [right, left])| [face as u16, right, left, 0])
                 .collect();
-            let listed = list(&plan, 0, IN_DOORWAY, 12);
+            let listed = list(&plan, 0, IN_DOORWAY, 16);
             assert_eq!(listed, (Reply::done([4, 0]), rows));
         }
     }
@@ -1910,23 +1922,23 @@ fn change_in(plan: &Plan, asked: DoorChange<'_>, room: usize) -> u32 {
 #[test]
 fn the_door_of_the_doorway_stays() {
     let plan = plan_q();
+    let under = |setting| Query::without_reach(setting, IN_DOORWAY);
     let asked = DoorChange {
-        setting: 0,
-        stand: IN_DOORWAY,
+        query: under(0),
         given: &SEEN,
         door: 0,
         shut: true,
     };
     for shut in [true, false] {
-        for given in [&SEEN[..], &SEEN[..9], &[]] {
+        for given in [&SEEN[..], &SEEN[..12], &[]] {
             for setting in [0, 1] {
                 let asked = DoorChange {
-                    setting,
+                    query: under(setting),
                     given,
                     shut,
                     ..asked
                 };
-                for room in [12, 13, 11, 0] {
+                for room in [16, 17, 15, 0] {
                     assert_eq!(change_in(&plan, asked, room), 9);
                 }
             }
@@ -1938,18 +1950,18 @@ fn the_door_of_the_doorway_stays() {
                 shut,
                 ..asked
             };
-            assert_eq!(change_in(&plan, asked, 12), 12, "{door}");
-            assert_eq!(change_in(&plan, asked, 11), 11, "{door}");
+            assert_eq!(change_in(&plan, asked, 16), 12, "{door}");
+            assert_eq!(change_in(&plan, asked, 15), 11, "{door}");
         }
         let asked = DoorChange {
-            setting: 2,
+            query: under(2),
             shut,
             ..asked
         };
-        assert_eq!(change_in(&plan, asked, 12), 7);
+        assert_eq!(change_in(&plan, asked, 16), 7);
     }
     // From inside a cell it is changed as before.
-    assert_eq!(toggle(&plan, 0, Stand::Point(5.0, 4.0), 0).len(), 9);
+    assert_eq!(toggle(&plan, 0, Stand::Point(5.0, 4.0), 0).len(), 3 * ROW);
 }
 
 /// Every line of the hall with its midpoint, and its door.
@@ -1982,13 +1994,12 @@ fn other_doors_from_a_side() {
                 if Some(door) == own {
                     for shut in [false, true] {
                         let asked = DoorChange {
-                            setting,
-                            stand,
+                            query: Query::without_reach(setting, stand),
                             given: &given,
                             door,
                             shut,
                         };
-                        assert_eq!(change_in(&plan, asked, 18), 9, "({x}, {y})");
+                        assert_eq!(change_in(&plan, asked, 24), 9, "({x}, {y})");
                     }
                 } else {
                     toggle(&plan, setting, stand, door);
@@ -2000,7 +2011,7 @@ fn other_doors_from_a_side() {
     assert_eq!(changed, 3 * 4 * 2 + 2 * 8 * 3);
     // On the far door, with a corner of the plan straight ahead: the wall behind it
     // is seen on its right and on its left.
-    let (reply, table) = list(&plan, 0, Stand::Point(0.0, 20.0), 18);
+    let (reply, table) = list(&plan, 0, Stand::Point(0.0, 20.0), 24);
     assert_eq!(reply, Reply::done([6, 4]));
     let expected = [
         [8, 4, 0],
@@ -2010,7 +2021,7 @@ fn other_doors_from_a_side() {
         [13, 3, 5],
         [14, 5, 4],
     ];
-    assert_eq!(table, *expected.as_flattened());
+    assert_eq!(table, in_reach(&expected));
 }
 
 /// From the line between a triangle and a cell of four corners, through all the
@@ -2019,7 +2030,7 @@ fn other_doors_from_a_side() {
 fn a_line_between_larger_cells() {
     let plan = row_of_cells();
     let stand = Stand::Point(10.0, 0.0);
-    let (reply, table) = list(&plan, 0, stand, 42);
+    let (reply, table) = list(&plan, 0, stand, 56);
     assert_eq!(reply, Reply::done([12, 2]));
     let expected = [
         [2, 2, 0],
@@ -2035,16 +2046,16 @@ fn a_line_between_larger_cells() {
         [12, 9, 4],
         [5, 4, 2],
     ];
-    assert_eq!(table[..36], *expected.as_flattened());
+    assert_eq!(table[..48], in_reach(&expected));
     // With every other door shut: the sides of the two cells, and nothing more.
-    let (reply, table) = list(&plan, 0b110, stand, 42);
+    let (reply, table) = list(&plan, 0b110, stand, 56);
     assert_eq!(reply, Reply::done([5, 0]));
     let expected = [[2, 2, 0], [0, 0, 1], [3, 1, 3], [4, 3, 4], [5, 4, 2]];
-    assert_eq!(table[..15], *expected.as_flattened());
+    assert_eq!(table[..20], in_reach(&expected));
     // From the line between the octagon, found first, and the cell of five.
     let stand = Stand::Point(50.0, 0.0);
     assert_eq!(find(&plan, stand), Reply::done([2, 1, 3]));
-    let (reply, table) = list(&plan, 0b010, stand, 42);
+    let (reply, table) = list(&plan, 0b010, stand, 56);
     assert_eq!(reply, Reply::done([11, 0]));
     let octagon = [
         [11, 8, 9],
@@ -2056,8 +2067,8 @@ fn a_line_between_larger_cells() {
         [9, 6, 7],
     ];
     let behind = [[15, 7, 11], [16, 11, 12], [17, 12, 13], [18, 13, 8]];
-    let expected = [octagon.as_flattened(), behind.as_flattened()].concat();
-    assert_eq!(table[..33], expected);
+    let expected = [in_reach(&octagon), in_reach(&behind)].concat();
+    assert_eq!(table[..44], expected);
     // Every door but the line's own, under every setting.
     for (x, own) in [(10, 0), (20, 1), (50, 2)] {
         for y in [-9, -1, 0, 4, 9] {
@@ -2084,23 +2095,22 @@ fn plan_q_below(spots: [[i32; 2]; 3]) -> Plan {
 #[test]
 fn a_cell_on_top_of_a_doorway() {
     let plan = plan_q_below([[-5, -5], [20, -5], [-5, 20]]);
-    let seen = [6, 4, 5, 7, 5, 6, 8, 6, 4];
+    let seen = in_reach(&[[6, 4, 5], [7, 5, 6], [8, 6, 4]]);
     for setting in [0, 1] {
         let found = find_under(&plan, setting, IN_DOORWAY);
         assert_eq!(found, Reply::done([2, 0, 0]));
-        let (reply, table) = list(&plan, setting, IN_DOORWAY, 21);
-        assert_eq!((reply, &table[..9]), (Reply::done([3, 0]), &seen[..]));
+        let (reply, table) = list(&plan, setting, IN_DOORWAY, 28);
+        assert_eq!((reply, &table[..12]), (Reply::done([3, 0]), &seen[..]));
         // The door's line holds the stand, and it is changed all the same.
         assert_eq!(toggle(&plan, setting, IN_DOORWAY, 0), seen);
         let asked = DoorChange {
-            setting,
-            stand: IN_DOORWAY,
+            query: Query::without_reach(setting, IN_DOORWAY),
             given: &seen,
             door: 0,
             shut: setting == 1,
         };
-        assert_eq!(change_in(&plan, asked, 21), 12);
-        assert_eq!(change_in(&plan, asked, 20), 11);
+        assert_eq!(change_in(&plan, asked, 28), 12);
+        assert_eq!(change_in(&plan, asked, 27), 11);
     }
     // (8, 8) is outside of it, and on the side of plan Q.
     assert_eq!(find(&plan, Stand::Point(8.0, 8.0)), Reply::done([0, 1, 2]));
@@ -2122,22 +2132,22 @@ fn doorways_on_top_of_each_other() {
         .extend([0, 1, 2, WALL, WALL, 3, 0, 2, 3, 2, WALL, WALL]);
     plan.doors = vec![2, 9];
     assert_eq!(check(&plan), Reply::done([4, 4, 2]));
-    let second = [6, 0, 1, 7, 1, 2, 10, 2, 3, 11, 3, 0];
-    for (setting, cell, seen) in [(0, 0, SEEN), (1, 2, second), (2, 0, SEEN)] {
+    let first = SEEN.to_vec();
+    let second = in_reach(&[[6, 0, 1], [7, 1, 2], [10, 2, 3], [11, 3, 0]]);
+    for (setting, cell, seen) in [(0, 0, &first), (1, 2, &second), (2, 0, &first)] {
         let found = find_under(&plan, setting, IN_DOORWAY);
         assert_eq!(found, Reply::done([cell, 1, 2]), "{setting}");
-        let listed = list(&plan, setting, IN_DOORWAY, 12);
-        assert_eq!(listed, (Reply::done([4, 0]), seen.to_vec()), "{setting}");
+        let listed = list(&plan, setting, IN_DOORWAY, 16);
+        assert_eq!(listed, (Reply::done([4, 0]), seen.clone()), "{setting}");
         for door in [0, 1] {
             for shut in [false, true] {
                 let asked = DoorChange {
-                    setting,
-                    stand: IN_DOORWAY,
-                    given: &seen,
+                    query: Query::without_reach(setting, IN_DOORWAY),
+                    given: seen,
                     door,
                     shut,
                 };
-                assert_eq!(change_in(&plan, asked, 12), 9, "{setting}, {door}");
+                assert_eq!(change_in(&plan, asked, 16), 9, "{setting}, {door}");
             }
         }
     }
@@ -2163,7 +2173,7 @@ fn a_morning_with_stands_on_a_side() {
     let stands: Vec<f64> = asked.iter().flat_map(|(numbers, _)| *numbers).collect();
     let own: Vec<[u64; 3]> = asked.iter().map(|(_, own)| *own).collect();
     let room = enough(&plan, &stands).map(|length| length + 2);
-    let expected = Morning::new(Reply::done([20, 1]), room, &SEEN.repeat(5), &own);
+    let expected = Left::new(Reply::done([20, 1]), room, &SEEN.repeat(5), &own);
     assert_eq!(list_stands(&plan, 0, &stands, room), expected);
     // With the door shut they are refused, and the one inside is not.
     let own: Vec<[u64; 3]> = own
@@ -2174,18 +2184,18 @@ fn a_morning_with_stands_on_a_side() {
             _ => [number, 0, 0],
         })
         .collect();
-    let shut = [0, 0, 1, 1, 1, 2, 2, 2, 0];
-    let expected = Morning::new(Reply::done([3, 0]), room, &shut, &own);
+    let shut = in_reach(&[[0, 0, 1], [1, 1, 2], [2, 2, 0]]);
+    let expected = Left::new(Reply::done([3, 0]), room, &shut, &own);
     assert_eq!(list_stands(&plan, 1, &stands, room), expected);
     // Room is asked for each, and a wrong setting refuses them all.
     let short = [room[0] - 3, room[1]];
     assert_eq!(
         list_stands(&plan, 0, &stands, short),
-        Morning::refused(11, 0, short)
+        Left::refused(11, 0, short)
     );
     assert_eq!(
         list_stands(&plan, 2, &stands, room),
-        Morning::refused(7, 0, room)
+        Left::refused(7, 0, room)
     );
 }
 
@@ -2196,7 +2206,7 @@ fn a_doorway_from_end_to_end_of_the_coordinates() {
     for at in [0, 1, LIMIT - 1, 1 - LIMIT, 12_345_678] {
         let stand = Stand::Point(at.into(), at.into());
         assert_eq!(find(&plan, stand), Reply::done([0, 1, 2]), "{at}");
-        let listed = list(&plan, 0, stand, 12);
+        let listed = list(&plan, 0, stand, 16);
         assert_eq!(listed, (Reply::done([4, 0]), SEEN.to_vec()), "{at}");
         assert_eq!(find_under(&plan, 1, stand), Reply::refused(9, 0), "{at}");
     }
@@ -2220,7 +2230,7 @@ fn every_line_of_a_strip() {
         let stand = Stand::Point(x.into(), 50.0);
         let found = find(&plan, stand);
         assert_eq!(found, Reply::done([line as u64, 1, 1]), "line {line}");
-        let (reply, _) = list(&plan, 0, stand, 306);
+        let (reply, _) = list(&plan, 0, stand, 408);
         assert_eq!(reply, Reply::done([102, 98]), "line {line}");
         for door in (0..64).filter(|&door| door != line as usize).step_by(9) {
             toggle(&plan, 0, stand, door);
@@ -2228,6 +2238,6 @@ fn every_line_of_a_strip() {
         }
     }
     let stand = Stand::Point(15.0, 50.0);
-    let (reply, _) = list(&strip(2_046, 64), 0, stand, 3 * 2_048);
+    let (reply, _) = list(&strip(2_046, 64), 0, stand, 4 * 2_048);
     assert_eq!(reply, Reply::done([2_048, 2_044, 0]));
 }

@@ -1,9 +1,9 @@
 //! Seeded runs of the paper program against itself and the demands.
 
-use manopluea_compare::calls::{Stand, TRIANGLES};
-use manopluea_compare::compare::{compare, Tally};
+use manopluea_compare::calls::{Query, Stand, TRIANGLES};
+use manopluea_compare::compare::{compare, Tally, NUMBERS};
 use manopluea_compare::generate::{self, Dice, Merged};
-use manopluea_compare::paper::{change_by_runs, Floor, Paper, Place, View, WALL};
+use manopluea_compare::paper::{change_by_runs, Floor, Line, Paper, Place, Row, View, WALL};
 
 fn run(seed: u64, count: u64) -> Tally {
     compare(&Paper, &Paper, seed, count).unwrap_or_else(|mismatch| panic!("{mismatch}"))
@@ -12,25 +12,26 @@ fn run(seed: u64, count: u64) -> Tally {
 #[test]
 fn every_reply_number_comes_up_in_every_call_that_has_it() {
     let tally = run(1, 6_000);
+    let came_up = |replies: [u64; NUMBERS]| -> Vec<usize> {
+        let numbers = 0..NUMBERS;
+        numbers.filter(|&number| replies[number] > 0).collect()
+    };
     for kind in [0, 1] {
-        let numbers = |call: usize| -> Vec<usize> {
-            let replies = tally.replies[kind][call];
-            (0..14).filter(|&number| replies[number] > 0).collect()
-        };
+        let numbers = |call: usize| came_up(tally.replies[kind][call]);
+        let up_to = |last: usize| (0..=last).chain([15]).collect::<Vec<_>>();
         assert_eq!(numbers(0), [0, 1, 2, 3, 4, 5, 6], "check");
         assert_eq!(numbers(1), [0, 1, 2, 3, 4, 5, 6, 11], "read");
         assert_eq!(numbers(2), [0, 1, 2, 3, 4, 5, 6, 11], "write");
         assert_eq!(numbers(3), (0..=10).collect::<Vec<_>>(), "find");
-        assert_eq!(numbers(4), (0..=11).collect::<Vec<_>>(), "list");
+        assert_eq!(numbers(4), up_to(11), "list");
         assert_eq!(numbers(5), [0, 1, 2, 3, 4, 5, 6, 7, 11], "stands");
-        assert_eq!(numbers(6), (0..=13).collect::<Vec<_>>(), "change");
+        assert_eq!(numbers(6), up_to(13), "change");
         assert_eq!(numbers(7), (0..=10).collect::<Vec<_>>(), "print");
     }
     // Any other kind is a fault of the frame, in every call that takes lists.
-    for (call, replies) in tally.replies[2].iter().enumerate() {
-        let numbers: Vec<usize> = (0..14).filter(|&number| replies[number] > 0).collect();
+    for (call, &replies) in tally.replies[2].iter().enumerate() {
         let expected: &[usize] = if call == 7 { &[1, 2] } else { &[1] };
-        assert_eq!(numbers, expected, "call {call}");
+        assert_eq!(came_up(replies), expected, "call {call}");
     }
     assert!(tally.directions > 8_000 && tally.changes > 1_000 && tally.either > 2_000);
     let sides = tally.sides;
@@ -39,14 +40,27 @@ fn every_reply_number_comes_up_in_every_call_that_has_it() {
         "{sides:?}"
     );
     assert!(sides.own_doors > 100, "{sides:?}");
+    let reaches = tally.reaches;
+    assert!(
+        reaches.stated > 10_000 && reaches.rows > 5_000 && reaches.changes > 100,
+        "{reaches:?}"
+    );
+    assert!(
+        reaches.longer > 1_000 && reaches.further > 500,
+        "{reaches:?}"
+    );
 }
 
 /// At the first place of a morning, at those between, and at the last.
 #[test]
 fn every_reply_of_a_stand_comes_up_at_every_place() {
     for replies in run(1, 4_000).stands {
-        let numbers: Vec<usize> = (0..14).filter(|&number| replies[number] > 20).collect();
-        assert_eq!(numbers, [0, 8, 9, 10], "{replies:?}");
+        let numbers = (0..NUMBERS).filter(|&number| replies[number] > 20);
+        assert_eq!(
+            numbers.collect::<Vec<usize>>(),
+            [0, 8, 9, 10, 15],
+            "{replies:?}"
+        );
     }
 }
 
@@ -61,7 +75,7 @@ fn each_view(seed: u64, count: u64, mut look: impl FnMut(&generate::Scene, &Floo
     for number in 0..count {
         let scene = generate::case(seed, number).scene;
         if let Ok(floor) = Floor::check(scene.plan.lists()) {
-            if let Ok(view) = View::new(&floor, scene.setting, scene.stand) {
+            if let Ok(view) = View::new(&floor, scene.query()) {
                 look(&scene, &floor, &view);
             }
         }
@@ -72,7 +86,7 @@ fn each_view(seed: u64, count: u64, mut look: impl FnMut(&generate::Scene, &Floo
 fn rows_and_crossings_keep_their_bounds() {
     // Of stands inside a cell, and on a side.
     let (mut most_rows, mut all_corners_seen) = ([0; 2], [0; 2]);
-    each_view(2, 6_000, |_, floor, view| {
+    each_view(2, 9_000, |_, floor, view| {
         let listing = view.list();
         let (rows, corners) = (listing.rows.len(), floor.corners().len());
         let on_side = usize::from(matches!(view.place(), Place::Within(_)));
@@ -96,9 +110,12 @@ fn the_change_by_runs_is_the_fresh_listing() {
         let rows = before.list().rows;
         let doors = 0..scene.plan.doors.len();
         for door in doors.filter(|&door| !before.is_in_doorway(door)).take(4) {
-            let setting = scene.setting ^ 1 << door;
-            let shuts = setting >> door & 1 == 1;
-            let after = View::new(floor, setting, scene.stand).unwrap();
+            let query = Query {
+                setting: scene.setting ^ 1 << door,
+                ..scene.query()
+            };
+            let shuts = query.setting >> door & 1 == 1;
+            let after = View::new(floor, query).unwrap();
             assert_eq!(after.place(), before.place());
             let fresh = after.list();
             let faces = floor.door_faces(door);
@@ -107,7 +124,7 @@ fn the_change_by_runs_is_the_fresh_listing() {
                 fresh,
                 "{scene:?} door {door}"
             );
-            let on_door = |row: &[u16; 3]| faces.contains(&row[0]);
+            let on_door = |row: &Row| faces.contains(&row[0]);
             let in_two_rows = fresh
                 .rows
                 .windows(2)
@@ -141,7 +158,10 @@ fn two_routes_to_one_door_stay_two_rows() {
         kind: TRIANGLES,
     };
     let floor = Floor::check(plan.lists()).unwrap();
-    let view = |setting| View::new(&floor, setting, Stand::Point(3.0, 1.0)).unwrap();
+    let view = |setting| {
+        let query = Query::without_reach(setting, Stand::Point(3.0, 1.0));
+        View::new(&floor, query).unwrap()
+    };
     let shut = view(1).list();
     assert_eq!(shut.rows.iter().filter(|row| row[0] == 2).count(), 2);
     let by_runs = change_by_runs(&view(0), &view(1), &view(0).list().rows, [2, 8], true);
@@ -167,7 +187,8 @@ fn merged_cells_list_the_walls_of_their_triangles() {
         for _ in 0..3 {
             let setting = dice.word() & dice.word() & known;
             let [x, y] = generate::inside(&mesh, dice).map(|number| number as f64);
-            let view = |floor| View::new(floor, setting, Stand::Point(x, y));
+            let query = Query::without_reach(setting, Stand::Point(x, y));
+            let view = |floor| View::new(floor, query);
             let (Ok(through_small), Ok(through_large)) = (view(&small), view(&large)) else {
                 continue;
             };
@@ -181,9 +202,9 @@ fn merged_cells_list_the_walls_of_their_triangles() {
                 continue;
             }
             let (of_small, of_large) = (through_small.list(), through_large.list());
-            let row = |[face, right, left]: [u16; 3]| (faces[usize::from(face)], right, left);
+            let row = |[face, right, left, _]: Row| (faces[usize::from(face)], right, left);
             let rows: Vec<_> = of_large.rows.into_iter().map(row).collect();
-            let row = |[face, right, left]: [u16; 3]| (usize::from(face), right, left);
+            let row = |[face, right, left, _]: Row| (usize::from(face), right, left);
             let mut expected: Vec<_> = of_small.rows.into_iter().map(row).collect();
             let first = expected.iter().position(|row| *row == rows[0]);
             expected.rotate_left(first.expect("the first wall is among them"));
@@ -220,10 +241,10 @@ impl Ties {
             let [right, left] = floor.ends(face);
             [face, right, left]
         };
-        let mut waiting: Vec<[u16; 3]> = view.around().into_iter().map(row).collect();
+        let mut waiting: Vec<Line> = view.around().into_iter().map(row).collect();
         while let Some([face, mut right, left]) = waiting.pop() {
             let entered = across[usize::from(face)];
-            if entered == WALL {
+            if entered == WALL || !view.is_in_reach(face) {
                 continue;
             }
             let others: Vec<u16> = floor.others(entered).collect();
@@ -254,7 +275,7 @@ impl Ties {
 #[test]
 fn every_tie_comes_up_in_larger_cells() {
     let mut ties = Ties::default();
-    each_view(4, 9_000, |scene, floor, view| {
+    each_view(4, 15_000, |scene, floor, view| {
         let across = floor.across_under(scene.setting).unwrap();
         ties.count(floor, &across, view);
     });

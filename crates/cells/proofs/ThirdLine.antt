@@ -15,12 +15,12 @@ use Rattle.exact.proofs.Certificate.{prove, _≺_, _≈_, _⊞_, _⊠_}
 use Rattle.exact.proofs.Certificate.Cert.{given, square, number, by, one-less}
 use Rattle.exact.proofs.Certificate.Proof.{only}
 use Rattle.plane.specs.Side.{Point, side}
-use Rattle.plane.specs.Cone.{minus, cross, dot, Opposite}
-use Rattle.plane.proofs.Quote.{Pointᵉ, coordinates, pt, 𝟘ᵉ, minusᵉ, crossᵉ, dotᵉ, sideᵉ}
+use Rattle.plane.specs.Cone.{minus, scaled, cross, dot, Opposite}
+use Rattle.plane.proofs.Quote.{Pointᵉ, coordinates, pt, 𝟘ᵉ, minusᵉ, scaledᵉ, crossᵉ, dotᵉ, sideᵉ}
 use Rattle.plane.proofs.Found.{right-turned-is-left, along-is-ahead-or-behind, opposite-turns, the-way-to-the-left-is-left-of-the-first, the-way-to-the-left-is-left-of-the-second, a-line-against-goes-along-when-turned}
 use Rattle.limits.specs.Limits.{wall}
 use Rattle.cells.specs.Lists.{Cells, cell-count, face-count, home, next, start, neighbour, back}
-use Rattle.cells.specs.Overlap.{scaled, StrictlyIn, Overlap}
+use Rattle.cells.specs.Overlap.{StrictlyIn, Overlap}
 use Rattle.cells.specs.Sound.{Numbered, Sound}
 use Rattle.cells.proofs.Faces.{SideOf, side-exists, home-exists, side-of-home}
 use Rattle.cells.proofs.Cells.{at}
@@ -124,12 +124,9 @@ module _ (n : ℤ) (a b q d : Point) where
   abbrev nᵉ : Expr
   nᵉ = var 8
 
-  abbrev scaledᵉ : Pointᵉ → Pointᵉ
-  scaledᵉ p = record { x = nᵉ ⊗ p .x; y = nᵉ ⊗ p .y }
-
   abbrev left-of-the-step : Expr
   left-of-the-step =
-      sideᵉ (scaledᵉ (pt 0)) (scaledᵉ (pt 1)) (record { x = nᵉ ⊗ var 4 ⊕ var 6; y = nᵉ ⊗ var 5 ⊕ var 7 })
+      sideᵉ (scaledᵉ nᵉ (pt 0)) (scaledᵉ nᵉ (pt 1)) (record { x = nᵉ ⊗ var 4 ⊕ var 6; y = nᵉ ⊗ var 5 ⊕ var 7 })
 
   -- a line through q that has d on its left has the step on its left
   steps-from-the-line : 𝟘 <ℤ n → cross (minus a q) (minus b q) ≡ 𝟘 → 𝟘 <ℤ cross (minus b a) d → 𝟘 <ℤ side (scaled n a) (scaled n b) (stepped n q d)

@@ -2,14 +2,11 @@
 use mathlib.Core.List.{List}
 use mathlib.Core.Path.{_≡_}
 use Prim.Native.Nat.{ℕ, suc, _<_, _≤_}
-use lib.IntN.{ℤ, pos, _*ℤ_}
+use lib.IntN.{ℤ, pos}
 use lib.Signed.{_<ℤ_}
-use Rattle.plane.specs.Side.{Point, side}
+use Rattle.plane.specs.Side.{side}
+use Rattle.plane.specs.Cone.{scaled}
 use Rattle.cells.specs.Lists.{Cells, corner-at, cell-count, first, next, start}
-
--- w times p
-unfoldable pub scaled : ℤ → Point → Point
-scaled w p = record { x = w *ℤ p .x; y = w *ℤ p .y }
 
 -- (x/w, y/w) lies strictly inside cell c: it is strictly left of every side
 pub record StrictlyIn (cs : List ℤ) (T : Cells) (c : ℕ) (x y w : ℤ) : Type 0 where

@@ -11,6 +11,7 @@ use Rattle.cells.specs.Cut.{cell-of, cut-triangles, cut, pairs, faces-of, first
 use Rattle.cells.specs.PlanQ.{corners-of-Q, cells-of-Q, doors-of-Q}
 use Rattle.cells.specs.Check.{names}
 use Rattle.setting.specs.Setting.{shut, bars, ends}
+use Rattle.reach.specs.Reach.{out-of-reach, far}
 use Rattle.stand.specs.declared.locate.Footing.the-variants.{Inside}
 use Rattle.fan.specs.Sight.{fan, follow, sides, lines-around, unentered, lines-seen, seen-from}
 use Rattle.runs.specs.Route.{Routed, routed}
@@ -24,14 +25,14 @@ abbrev q : Point
 q = record { x = pos 6; y = pos 3 }
 
 abbrev seen : ℕ → List Routed
-seen w = routed (sight-from corners-of-Q (cells-of triangles cells-of-Q) doors-of-Q w q (Inside 0))
+seen w = routed (sight-from corners-of-Q (cells-of triangles cells-of-Q) doors-of-Q w 0 q (Inside 0))
 
 pub plan-Q-open : seen 0 ≡ listed 0 0 1 [] ∷ listed 1 1 2 [] ∷ listed 4 2 3 (2 ∷ []) ∷ listed 5 3 0 (2 ∷ []) ∷ []
-unfolding routed seen-from lines-around unentered lines-seen sides follow fan ends bars names shut least back answers home neighbour start next placed side cells-of cut cut-triangles cell-of pairs faces-of firsts-from tables
+unfolding routed seen-from lines-around unentered lines-seen sides follow fan ends out-of-reach far bars names shut least back answers home neighbour start next placed side cells-of cut cut-triangles cell-of pairs faces-of firsts-from tables
 plan-Q-open = refl
 
 pub plan-Q-shut : seen 1 ≡ listed 0 0 1 [] ∷ listed 1 1 2 [] ∷ listed 2 2 0 [] ∷ []
-unfolding routed seen-from lines-around unentered lines-seen sides follow fan ends bars names shut least back answers home neighbour start next placed side cells-of cut cut-triangles cell-of pairs faces-of firsts-from tables
+unfolding routed seen-from lines-around unentered lines-seen sides follow fan ends out-of-reach far bars names shut least back answers home neighbour start next placed side cells-of cut cut-triangles cell-of pairs faces-of firsts-from tables
 plan-Q-shut = refl
 
 pub shutting-the-door-of-plan-Q : shut-rows 2 3 (listed 0 0 1 [] ∷ listed 1 1 2 [] ∷ listed 4 2 3 (2 ∷ []) ∷ listed 5 3 0 (2 ∷ []) ∷ []) ≡ listed 0 0 1 [] ∷ listed 1 1 2 [] ∷ listed 2 2 0 [] ∷ []

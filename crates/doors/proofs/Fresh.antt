@@ -9,15 +9,15 @@ use Rattle.stand.specs.declared.locate.Footing.{Footing}
 use Rattle.fan.specs.Sight.{rows, numbers, crossings}
 use Rattle.sight.specs.Listing.{listing-rows, listing-numbers, listing-crossings, sight-from}
 
-module _ (cs : List ℤ) (T : Cells) (ds : List ℕ) (w : ℕ) (q : Point) (p : Footing) where
-  pub rows-are : listing-rows cs T ds w q p ≡ rows (sight-from cs T ds w q p)
+module _ (cs : List ℤ) (T : Cells) (ds : List ℕ) (w R : ℕ) (q : Point) (p : Footing) where
+  pub rows-are : listing-rows cs T ds w R q p ≡ rows (sight-from cs T ds w R q p)
   unfolding listing-rows rows
   rows-are = refl
 
-  pub numbers-are : listing-numbers cs T ds w q p ≡ numbers (sight-from cs T ds w q p)
+  pub numbers-are : listing-numbers cs T ds w R q p ≡ numbers (sight-from cs T ds w R q p)
   unfolding listing-numbers numbers
   numbers-are = refl
 
-  pub crossings-are : listing-crossings cs T ds w q p ≡ crossings (sight-from cs T ds w q p)
+  pub crossings-are : listing-crossings cs T ds w R q p ≡ crossings (sight-from cs T ds w R q p)
   unfolding listing-crossings crossings
   crossings-are = refl

@@ -4,7 +4,7 @@ ghost use mathlib.Core.Bool.{true, false};
 ghost use mathlib.Core.Path.{_≡_};
 ghost use lib.ListN.{length, take};
 ghost use Rattle.plane.specs.Side.{point, Near};
-ghost use Rattle.limits.specs.Limits.{most-corners, most-cells, sized};
+ghost use Rattle.limits.specs.Limits.{most-corners, most-cells, most-reach, sized};
 ghost use Rattle.cells.specs.Lists.{tabled, corner-count, cell-count, face-count};
 ghost use Rattle.cells.specs.Cut.{cells-of};
 ghost use Rattle.cells.specs.Check.{framed};
@@ -23,10 +23,10 @@ use limits::Plan;
 use limits::Refusal;
 use sight::list::Listed;
 use sight::list::list_from;
+use sight::view::Query;
 use sight::view::View;
 use sight::view::view_in;
 use stand::locate::Footing;
-use stand::spot::Stand;
 
 // Is the given list the same as the first n numbers of the table, in length and every number?
 fn is_same_list(given: &[u16], table: &[u16], n: usize) -> bool
@@ -54,6 +54,7 @@ fn is_true_list_with_room(
     backs: &[u16],
     doors: &[u16],
     setting: u64,
+    reach: u64,
     q: [i64; 2],
     given: &[u16],
     p: Footing,
@@ -63,9 +64,9 @@ fn is_true_list_with_room(
 ) -> bool
     requires { ⌜ Sound (now corners) (tabled (now faces) (now firsts)) (now doors) × Backed (tabled (now faces) (now firsts)) (now backs) ⌝ }
     requires { ⌜ Near (point q) × (located (now corners) (tabled (now faces) (now firsts)) (now doors) setting (point q) ≡ At p) ⌝ }
-    requires { ⌜ 3 * corner-count (now corners) ≤ length (now table) ⌝ }
+    requires { ⌜ (4 * corner-count (now corners) ≤ length (now table)) × (reach ≤ most-reach) ⌝ }
     requires { ⌜ (length (now lines) ≡ 4 * face-count (tabled (now faces) (now firsts))) × (length (now seen) ≡ length (now corners)) ⌝ }
-    ensures { λ r. ⌜ r ≡ same-list (now (given .entry)) (listing-numbers (now (corners .entry)) (tabled (now (faces .entry)) (now (firsts .entry))) (now (doors .entry)) setting (point q) p) ⌝ }
+    ensures { λ r. ⌜ r ≡ same-list (now (given .entry)) (listing-numbers (now (corners .entry)) (tabled (now (faces .entry)) (now (firsts .entry))) (now (doors .entry)) setting reach (point q) p) ⌝ }
 {
     let counts = list_from(
         corners,
@@ -74,13 +75,14 @@ fn is_true_list_with_room(
         backs,
         doors,
         setting,
+        reach,
         q,
         table,
         p,
         lines,
         seen,
     );
-    let n = 3 * counts.rows;
+    let n = 4 * counts.rows;
     is_same_list(given, table, n)
 }
 
@@ -115,6 +117,7 @@ fn is_true_list(
     backs: &[u16],
     doors: &[u16],
     setting: u64,
+    reach: u64,
     q: [i64; 2],
     given: &[u16],
     p: Footing,
@@ -123,10 +126,11 @@ fn is_true_list(
 ) -> bool
     requires { ⌜ Sound (now corners) (tabled (now faces) (now firsts)) (now doors) × Backed (tabled (now faces) (now firsts)) (now backs) ⌝ }
     requires { ⌜ Near (point q) × (located (now corners) (tabled (now faces) (now firsts)) (now doors) setting (point q) ≡ At p) ⌝ }
+    requires { ⌜ reach ≤ most-reach ⌝ }
     requires { ⌜ (length (now lines) ≡ 4 * face-count (tabled (now faces) (now firsts))) × (length (now seen) ≡ length (now corners)) ⌝ }
-    ensures { λ r. ⌜ r ≡ same-list (now (given .entry)) (listing-numbers (now (corners .entry)) (tabled (now (faces .entry)) (now (firsts .entry))) (now (doors .entry)) setting (point q) p) ⌝ }
+    ensures { λ r. ⌜ r ≡ same-list (now (given .entry)) (listing-numbers (now (corners .entry)) (tabled (now (faces .entry)) (now (firsts .entry))) (now (doors .entry)) setting reach (point q) p) ⌝ }
 {
-    let mut scratch = [0u16; 3 * Plan::MOST_CORNERS];
+    let mut scratch = [0u16; 4 * Plan::MOST_CORNERS];
     is_true_list_with_room(
         corners,
         faces,
@@ -134,6 +138,7 @@ fn is_true_list(
         backs,
         doors,
         setting,
+        reach,
         q,
         given,
         p,
@@ -181,6 +186,7 @@ fn change_from(
     backs: &[u16],
     doors: &[u16],
     setting: u64,
+    reach: u64,
     q: [i64; 2],
     given: &[u16],
     door: usize,
@@ -193,9 +199,9 @@ fn change_from(
     requires { ⌜ Sound (now corners) (tabled (now faces) (now firsts)) (now doors) × Backed (tabled (now faces) (now firsts)) (now backs) ⌝ }
     requires { ⌜ Near (point q) × (located (now corners) (tabled (now faces) (now firsts)) (now doors) setting (point q) ≡ At p) ⌝ }
     requires { ⌜ underfoot (now corners) (tabled (now faces) (now firsts)) (now doors) door (point q) p ≡ false ⌝ }
-    requires { ⌜ 3 * corner-count (now corners) ≤ length (now table) ⌝ }
+    requires { ⌜ (4 * corner-count (now corners) ≤ length (now table)) × (reach ≤ most-reach) ⌝ }
     requires { ⌜ (length (now lines) ≡ 4 * face-count (tabled (now faces) (now firsts))) × (length (now seen) ≡ length (now corners)) ⌝ }
-    ensures { λ r. ⌜ (r, now (table .exit)) ≡ changed-at (now (corners .entry)) (tabled (now (faces .entry)) (now (firsts .entry))) (now (doors .entry)) setting (now (given .entry)) door shut (now (table .entry)) (point q) p ⌝ }
+    ensures { λ r. ⌜ (r, now (table .exit)) ≡ changed-at (now (corners .entry)) (tabled (now (faces .entry)) (now (firsts .entry))) (now (doors .entry)) setting reach (now (given .entry)) door shut (now (table .entry)) (point q) p ⌝ }
 {
     if doors.len() <= door {
         return Listed::Refused(Refusal::Change);
@@ -210,6 +216,7 @@ fn change_from(
         backs,
         doors,
         setting,
+        reach,
         q,
         given,
         p,
@@ -225,6 +232,7 @@ fn change_from(
         backs,
         doors,
         wished(setting, door, shut),
+        reach,
         q,
         table,
         p,
@@ -240,8 +248,7 @@ fn change_in(
     cells: &[u16],
     doors: &[u16],
     kind: u16,
-    setting: u64,
-    stand: Stand,
+    query: Query,
     given: &[u16],
     door: usize,
     shut: bool,
@@ -257,27 +264,20 @@ fn change_in(
     requires { ⌜ length (now firsts) ≡ suc (cell-count (cells-of kind (now cells))) ⌝ }
     requires { ⌜ length (now backs) ≡ face-count (cells-of kind (now cells)) ⌝ }
     requires { ⌜ (length (now lines) ≡ 4 * face-count (cells-of kind (now cells))) × (length (now seen) ≡ length (now corners)) ⌝ }
-    ensures { λ r. ⌜ (r, now (table .exit)) ≡ changed kind (now (corners .entry)) (now (cells .entry)) (now (doors .entry)) setting stand (now (given .entry)) door shut (now (table .entry)) ⌝ }
+    ensures { λ r. ⌜ (r, now (table .exit)) ≡ changed kind (now (corners .entry)) (now (cells .entry)) (now (doors .entry)) query (now (given .entry)) door shut (now (table .entry)) ⌝ }
 {
-    match view_in(
-        corners,
-        cells,
-        doors,
-        kind,
-        setting,
-        stand,
-        faces,
-        firsts,
-        backs,
-    ) {
+    match view_in(corners, cells, doors, kind, query, faces, firsts, backs) {
         View::Refused(r) => Listed::Refused(r),
         View::From(x, y, p) => {
             if is_underfoot(corners, faces, firsts, backs, doors, [x, y], door, p) {
                 return Listed::Refused(Refusal::Line);
             }
-            if table.len() < 3 * (corners.len() / 2) {
+            if table.len() < 4 * (corners.len() / 2) {
                 return Listed::Refused(Refusal::Room);
             }
+            let setting = query.setting;
+            let reach = query.reach;
+            let range = reach::range(reach);
             change_from(
                 corners,
                 faces,
@@ -285,6 +285,7 @@ fn change_in(
                 backs,
                 doors,
                 setting,
+                range,
                 [x, y],
                 given,
                 door,
@@ -304,8 +305,7 @@ fn change_cut(
     cells: &[u16],
     doors: &[u16],
     kind: u16,
-    setting: u64,
-    stand: Stand,
+    query: Query,
     given: &[u16],
     door: usize,
     shut: bool,
@@ -321,7 +321,7 @@ fn change_cut(
     requires { ⌜ sizes-of kind (now corners) (now cells) (now doors) ≡ Of m n ⌝ }
     requires { ⌜ (2 * n ≤ length (now faces)) × (m < length (now firsts)) × (n ≤ length (now backs)) × (4 * n ≤ length (now lines)) ⌝ }
     requires { ⌜ 2 * most-corners ≤ length (now seen) ⌝ }
-    ensures { λ r. ⌜ (r, now (table .exit)) ≡ changed kind (now (corners .entry)) (now (cells .entry)) (now (doors .entry)) setting stand (now (given .entry)) door shut (now (table .entry)) ⌝ }
+    ensures { λ r. ⌜ (r, now (table .exit)) ≡ changed kind (now (corners .entry)) (now (cells .entry)) (now (doors .entry)) query (now (given .entry)) door shut (now (table .entry)) ⌝ }
 {
     let twice = 2 * n;
     let after = m + 1;
@@ -332,8 +332,7 @@ fn change_cut(
         cells,
         doors,
         kind,
-        setting,
-        stand,
+        query,
         given,
         door,
         shut,
@@ -352,8 +351,7 @@ fn change_few(
     cells: &[u16],
     doors: &[u16],
     kind: u16,
-    setting: u64,
-    stand: Stand,
+    query: Query,
     given: &[u16],
     door: usize,
     shut: bool,
@@ -363,7 +361,7 @@ fn change_few(
 ) -> Listed
     requires { ⌜ sizes-of kind (now corners) (now cells) (now doors) ≡ Of m n ⌝ }
     requires { ⌜ n ≤ 3 * most-cells ⌝ }
-    ensures { λ r. ⌜ (r, now (table .exit)) ≡ changed kind (now (corners .entry)) (now (cells .entry)) (now (doors .entry)) setting stand (now (given .entry)) door shut (now (table .entry)) ⌝ }
+    ensures { λ r. ⌜ (r, now (table .exit)) ≡ changed kind (now (corners .entry)) (now (cells .entry)) (now (doors .entry)) query (now (given .entry)) door shut (now (table .entry)) ⌝ }
 {
     let mut faces = [0u16; 6 * Plan::MOST_CELLS];
     let mut firsts = [0u16; 1 + Plan::MOST_CELLS];
@@ -375,8 +373,7 @@ fn change_few(
         cells,
         doors,
         kind,
-        setting,
-        stand,
+        query,
         given,
         door,
         shut,
@@ -397,8 +394,7 @@ fn change_many(
     cells: &[u16],
     doors: &[u16],
     kind: u16,
-    setting: u64,
-    stand: Stand,
+    query: Query,
     given: &[u16],
     door: usize,
     shut: bool,
@@ -407,7 +403,7 @@ fn change_many(
     n: usize,
 ) -> Listed
     requires { ⌜ sizes-of kind (now corners) (now cells) (now doors) ≡ Of m n ⌝ }
-    ensures { λ r. ⌜ (r, now (table .exit)) ≡ changed kind (now (corners .entry)) (now (cells .entry)) (now (doors .entry)) setting stand (now (given .entry)) door shut (now (table .entry)) ⌝ }
+    ensures { λ r. ⌜ (r, now (table .exit)) ≡ changed kind (now (corners .entry)) (now (cells .entry)) (now (doors .entry)) query (now (given .entry)) door shut (now (table .entry)) ⌝ }
 {
     let mut faces = [0u16; 16 * Plan::MOST_CELLS];
     let mut firsts = [0u16; 1 + Plan::MOST_CELLS];
@@ -419,8 +415,7 @@ fn change_many(
         cells,
         doors,
         kind,
-        setting,
-        stand,
+        query,
         given,
         door,
         shut,
@@ -435,20 +430,19 @@ fn change_many(
     )
 }
 
-// The door change: plan, the kind of its list of cells, old setting, stand, the list true under the old setting, a door, the wished state and the table.
+// The door change: plan, the kind of its list of cells, query under the old setting, the list true for it, a door, the wished state and the table.
 pub fn change(
     corners: &[i32],
     cells: &[u16],
     doors: &[u16],
     kind: u16,
-    setting: u64,
-    stand: Stand,
+    query: Query,
     given: &[u16],
     door: usize,
     shut: bool,
     table: &mut [u16],
 ) -> Listed
-    ensures { λ r. ⌜ (r, now (table .exit)) ≡ changed kind (now (corners .entry)) (now (cells .entry)) (now (doors .entry)) setting stand (now (given .entry)) door shut (now (table .entry)) ⌝ }
+    ensures { λ r. ⌜ (r, now (table .exit)) ≡ changed kind (now (corners .entry)) (now (cells .entry)) (now (doors .entry)) query (now (given .entry)) door shut (now (table .entry)) ⌝ }
 {
     match measure(corners, cells, doors, kind) {
         Sizes::Refused(r) => Listed::Refused(r),
@@ -459,8 +453,7 @@ pub fn change(
                     cells,
                     doors,
                     kind,
-                    setting,
-                    stand,
+                    query,
                     given,
                     door,
                     shut,
@@ -474,8 +467,7 @@ pub fn change(
                 cells,
                 doors,
                 kind,
-                setting,
-                stand,
+                query,
                 given,
                 door,
                 shut,

@@ -1,16 +1,23 @@
 -- The expansion step by step: what a line or a cell hands on, how much of the table that takes, and what is written there.
-use mathlib.Core.Bool.{true, false}
+use mathlib.Core.Bool.{Bool, true, false, _||_}
 use mathlib.Core.List.{List}
 use mathlib.Core.Path.{_≡_, refl, ap, ap₂, sym, subst, _∙_}
 use Prim.Native.Nat.{ℕ, zero, suc, _+_, _*_, _-_, _^_, _<_, _≤_}
 use native.Mathlib.Numerals.{add-one, sub-one}
 use native.Mathlib.Omega.{arith}
+use borrow.Author.Tests.{eqb-false}
+use lib.Dec.{eqb}
 use lib.ListN.{length, set}
 use lib.Seq.{sets}
 use lib.IntN.{ℤ}
 use lib.Signed.{leZ}
 use Rattle.exact.proofs.Order.{𝟘}
+use Rattle.exact.proofs.Truth.{neither-true}
+use Rattle.plane.specs.Side.{Point}
 use Rattle.plane.specs.Cone.{cross}
+use Rattle.limits.specs.Limits.{wall}
+use Rattle.reach.specs.Reach.{out-of-reach, far}
+use Rattle.reach.proofs.Reaching.{in-reach-is-0, out-of-reach-is-1}
 use Rattle.exact.proofs.Lent.{sets-append}
 use Rattle.fan.specs.Sight.{Floor, Sight, fan, follow, hand-on, numbers, row-count, crossings, Whole}
 use Rattle.fan.specs.Sight.Place.{between, right-of-r, left-of-l}
@@ -19,9 +26,31 @@ use Rattle.fan.specs.Sight.Whole.{whole-row, whole-pass, whole-both}
 use Rattle.expand.specs.Floor.{seen-at, placed}
 use Rattle.expand.specs.Narrows.{Narrows}
 use Rattle.expand.specs.Remains.{Remains}
-use Rattle.fan.proofs.Trees.{follow-too-far, follow-across, fan-last, fan-both, fan-skips, fan-ends, three-numbers-a-row}
+use Rattle.fan.proofs.Trees.{follow-a-wall, follow-too-far, follow-across, fan-last, fan-both, fan-skips, fan-ends, four-numbers-a-row}
+
+-- ---- where sight ends
+
+-- a line is out of reach where its number is 1
+pub told-by-its-number : (R : ℕ) (a b : Point) → eqb (far R a b) 1 ≡ out-of-reach R a b
+told-by-its-number R a b = by-test (out-of-reach R a b) refl
+  where
+    by-test : (t : Bool) → out-of-reach R a b ≡ t → eqb (far R a b) 1 ≡ t
+    by-test true e = ap (λ (k : ℕ). eqb k 1) (out-of-reach-is-1 R a b e)
+    by-test false e = ap (λ (k : ℕ). eqb k 1) (in-reach-is-0 R a b e)
+
+-- what is across a line, its number, and the test of both
+pub ends-as-tested : (across R : ℕ) (a b : Point) {k : ℕ} {t : Bool} → k ≡ far R a b → t ≡ (eqb across wall || eqb k 1) → (eqb across wall || out-of-reach R a b) ≡ t
+ends-as-tested across R a b h e =
+    sym (e ∙ ap (λ (k : ℕ). eqb across wall || eqb k 1) h ∙ ap (λ (b : Bool). eqb across wall || b) (told-by-its-number R a b))
+
+pub no-wall-where-passed : (across : ℕ) (b : Bool) → (eqb across wall || b) ≡ false → across ≡ wall → ⊥
+no-wall-where-passed across b e = eqb-false _ _ (neither-true (eqb across wall) b e .0)
 
 -- ---- what a line is followed to
+
+-- where sight ends, to a row with the number told
+pub gives-a-row : (F : Floor) (n f r l : ℕ) {k : ℕ} → F .ends f ≡ true → k ≡ F .far f → follow F n f r l ≡ row f r l k
+gives-a-row F n f r l e h = follow-a-wall F n f r l e ∙ ap (row f r l) (sym h)
 
 not-cut : {t : Sight} → Whole t → t ≡ cut → ⊥
 not-cut whole-row e = let z : _≡_ {A = ℕ} 0 1 = cc in omega arith
@@ -94,7 +123,7 @@ module _ (F : Floor) (n e r l : ℕ) where
 -- ---- the room that a tree's rows take in a table of n numbers, from `at` on
 
 abbrev pub Room : ℕ → ℕ → Sight → Type 0
-Room at n t = Whole t × ((at + 3 * row-count t ≤ n) × (crossings t < 2 ^ 63))
+Room at n t = Whole t × ((at + 4 * row-count t ≤ n) × (crossings t < 2 ^ 63))
 
 whole-beyond : {f r l : ℕ} {t : Sight} → Whole (pass f r l t) → Whole t
 whole-beyond (whole-pass w) = w
@@ -103,14 +132,14 @@ whole-halves : {t u : Sight} → Whole (both t u) → Whole t × Whole u
 whole-halves (whole-both w x) = (w, x)
 
 module _ (at n : ℕ) {s : Sight} where
-  pub room-for-a-row : {f r l : ℕ} → s ≡ row f r l → Room at n s → at + 3 ≤ n
+  pub room-for-a-row : {f r l k : ℕ} → s ≡ row f r l k → Room at n s → at + 4 ≤ n
   unfolding row-count
   room-for-a-row e h = subst (Room at n) e h .1 .0
 
   pub room-for-the-first : {t u : Sight} → s ≡ both t u → Room at n s → Room at n t
   unfolding row-count crossings
   room-for-the-first {t} {u} e h =
-      let j : Whole (both t u) × ((at + 3 * (row-count t + row-count u) ≤ n) × (crossings t + crossings u < 2 ^ 63)) = subst (Room at n) e h in
+      let j : Whole (both t u) × ((at + 4 * (row-count t + row-count u) ≤ n) × (crossings t + crossings u < 2 ^ 63)) = subst (Room at n) e h in
       (whole-halves (j .0) .0, (omega (arith, j .1 .0), omega (arith, j .1 .1)))
 
 -- ---- what is written
@@ -119,11 +148,12 @@ module _ (at n : ℕ) {s : Sight} where
 abbrev pub Written : List ℕ → List ℕ → ℕ → ℕ → ℕ → Sight → Type 0
 Written old new at k m t = (k ≡ row-count t) × ((m ≡ crossings t) × (new ≡ sets old at (numbers t)))
 
-pub row-written : (old : List ℕ) (at : ℕ) {f r l : ℕ} {s : Sight} → s ≡ row f r l → Written old (set (set (set old at f) (at + 1) r) (at + 2) l) at 1 0 s
+pub row-written : (old : List ℕ) (at : ℕ) {f r l k : ℕ} {s : Sight} → s ≡ row f r l k → Written old (set (set (set (set old at f) (at + 1) r) (at + 2) l) (at + 3) k) at 1 0 s
 unfolding numbers row-count crossings
-row-written old at {f} {r} {l} e =
-    let d : at + 2 ≡ suc (suc at) = omega arith in
-    subst (Written old (set (set (set old at f) (at + 1) r) (at + 2) l) at 1 0) (sym e) (refl, (refl, rw (add-one, d)))
+row-written old at {f} {r} {l} {k} e =
+    let d₂ : at + 2 ≡ suc (suc at) = omega arith in
+    let d₃ : at + 3 ≡ suc (suc (suc at)) = omega arith in
+    subst (Written old (set (set (set (set old at f) (at + 1) r) (at + 2) l) (at + 3) k) at 1 0) (sym e) (refl, (refl, rw (add-one, d₂, d₃)))
 
 -- ---- what remains to be followed
 
@@ -147,7 +177,7 @@ module _ (old : List ℕ) (at : ℕ) (t : Sight) (new : List ℕ) (p k m : ℕ) 
       }
 
   -- of what remains, some is followed
-  pub less-remains : {newer : List ℕ} {o i j q x y : ℕ} {s : Sight} → Remains new p u newer o i j s → x ≡ k + i → y ≡ m + j → q ≡ at + 3 * x → Remains old at t newer q x y s
+  pub less-remains : {newer : List ℕ} {o i j q x y : ℕ} {s : Sight} → Remains new p u newer o i j s → x ≡ k + i → y ≡ m + j → q ≡ at + 4 * x → Remains old at t newer q x y s
   less-remains {newer} {o} {q = q} {s = s} g c d f =
       let from-there : q ≡ o = omega (arith, c, f, g .from, h .from) in
       record {
@@ -161,11 +191,11 @@ module _ (old : List ℕ) (at : ℕ) (t : Sight) (new : List ℕ) (p k m : ℕ) 
 
   -- the first of two lines is followed to its rows
   pub second-remains :
-      {a b : Sight} {newer : List ℕ} {i j q x y : ℕ} → u ≡ both a b → Written new newer p i j a → length newer ≡ length new → x ≡ k + i → y ≡ m + j → q ≡ at + 3 * x → Remains old at t newer q x y b
+      {a b : Sight} {newer : List ℕ} {i j q x y : ℕ} → u ≡ both a b → Written new newer p i j a → length newer ≡ length new → x ≡ k + i → y ≡ m + j → q ≡ at + 4 * x → Remains old at t newer q x y b
   unfolding numbers row-count crossings
   second-remains {a} {b} {newer} {i} {j} {q} e w n c d f =
       let g = subst (Remains old at t new p k m) e h in
-      let behind : q ≡ p + length (numbers a) = omega (arith, c, f, g .from, w .0, three-numbers-a-row a) in
+      let behind : q ≡ p + length (numbers a) = omega (arith, c, f, g .from, w .0, four-numbers-a-row a) in
       record {
         whole = whole-halves (g .whole) .1;
         same-length = n ∙ g .same-length;

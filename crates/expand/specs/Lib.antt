@@ -1,4 +1,4 @@
--- the floor of the code's tables: corners seen from the stand, and four numbers a face
+-- the floor of the code's tables: corners seen from the stand, four numbers a face, and where each face starts
 pub mod Floor
 -- where handing on begins
 pub mod Narrows

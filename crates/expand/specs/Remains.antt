@@ -11,7 +11,7 @@ use Rattle.fan.specs.Sight.{Sight, numbers, row-count, crossings, Whole}
 pub record Remains (old : List ℕ) (at : ℕ) (t : Sight) (new : List ℕ) (p k m : ℕ) (u : Sight) : Type 0 where
   pub whole : Whole u
   pub same-length : length new ≡ length old
-  pub from : p ≡ at + 3 * k
+  pub from : p ≡ at + 4 * k
   pub rows : row-count t ≡ k + row-count u
   pub passages : crossings t ≡ m + crossings u
   pub same : sets new p (numbers u) ≡ sets old at (numbers t)

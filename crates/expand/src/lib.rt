@@ -1,17 +1,25 @@
 // The pair: crossing a line enters a cell, and a cell hands on lines; each line handed on is followed to its rows before the next is taken. The last line of
-// a cell is gone on with in a loop, so that the stack grows only by the others.
+// a cell is gone on with in a loop, so that the stack grows only by the others. A line out of reach is not crossed (document 02, A5).
 // `seen` has two numbers a corner: x and y, less the stand's. `lines` has four numbers a face: the corner at which it ends; the face on its other side, or
-// wall where sight ends; how many sides of its cell follow the next one before it comes round again; and the next side of its cell.
-ghost use Prim.Native.Nat.{_+_, _*_, _/_, _^_, _<_, _≤_};
+// wall; how many sides of its cell follow the next one before it comes round again; and the next side of its cell. `faces` has two numbers a face, first the
+// corner at which it starts. `reach` is in millimetres, 0 where it is unlimited.
+ghost use Prim.Native.Nat.{ℕ, _+_, _*_, _/_, _^_, _<_, _≤_};
+ghost use mathlib.Core.Bool.{_||_};
+ghost use mathlib.Core.List.{List};
 ghost use mathlib.Core.Path.{_≡_};
-ghost use lib.ListN.{length};
+ghost use lib.Dec.{eqb};
+ghost use lib.ListN.{length, getD};
 ghost use lib.Seq.{sets};
 ghost use Rattle.plane.specs.Cone.{cross as Cone·cross};
+ghost use Rattle.limits.specs.Limits.{most-reach, wall};
+ghost use Rattle.reach.specs.Reach.{far as Reach·far};
 ghost use Rattle.fan.specs.Sight.{fan, follow, numbers, row-count, crossings, Whole};
-ghost use Rattle.expand.specs.Floor.{seen-at, Near, floor-of, Lines};
+ghost use Rattle.expand.specs.Floor.{seen-at, placed, Near, floor-of, Lines, Starts};
 ghost use Rattle.expand.specs.Narrows.{Narrows, Splits};
 ghost use Rattle.expand.specs.Remains.{Remains};
+use cells::corner;
 use limits::Plan;
+use reach::is_in_reach;
 
 // How many rows were written and how many free lines were passed.
 pub struct Counts {
@@ -47,8 +55,8 @@ struct Sides {
 fn narrow(seen: &[i32], lines: &[u16], e: usize, more: usize, r: u16, l: u16) -> Sides
     requires { ⌜ Lines (now seen) (now lines) ⌝ }
     requires { ⌜ (4 * e + 3 < length (now lines)) × (r < length (now seen) / 2) × (l < length (now seen) / 2) ⌝ }
-    ensures { λ s. ⌜ Narrows (floor-of (now (seen .entry)) (now (lines .entry))) r l more e (s .more) (s .side) × (4 * s .side + 3 < length (now (lines .entry))) ⌝ }
-    ensures { λ s. ⌜ Splits (floor-of (now (seen .entry)) (now (lines .entry))) r l (s .more) (s .side) ⌝ }
+    ensures { λ s. ⌜ ((fs : List ℕ) (R : ℕ) → Narrows (floor-of (now (seen .entry)) (now (lines .entry)) fs R) r l more e (s .more) (s .side)) × (4 * s .side + 3 < length (now (lines .entry))) ⌝ }
+    ensures { λ s. ⌜ Splits (placed (now (seen .entry))) (getD (now (lines .entry)) (4 * s .side) 0) r l (s .more) ⌝ }
 {
     let mut side = e;
     let mut after = more;
@@ -66,10 +74,39 @@ fn narrow(seen: &[i32], lines: &[u16], e: usize, more: usize, r: u16, l: u16) ->
     Sides { side, more: after }
 }
 
+// Whether a line is in reach, by the corners at which it starts and ends: 0 where it is, 1 where it is not.
+fn far(seen: &[i32], start: u16, end: u16, reach: u64) -> u16
+    requires { ⌜ Near (now seen) × (reach ≤ most-reach) ⌝ }
+    requires { ⌜ (start < length (now seen) / 2) × (end < length (now seen) / 2) ⌝ }
+    ensures { λ k. ⌜ k ≡ Reach·far reach (seen-at (now (seen .entry)) start) (seen-at (now (seen .entry)) end) ⌝ }
+{
+    if reach == 0 {
+        return 0;
+    }
+    let right = corner::at(seen, start as usize);
+    let left = corner::at(seen, end as usize);
+    if is_in_reach([right, left], reach) {
+        return 0;
+    }
+    1
+}
+
+// Does sight end at a line that has this across it and is so far?
+fn is_end(across: u16, mark: u16) -> bool
+    ensures { λ r. ⌜ r ≡ (eqb across wall || eqb mark 1) ⌝ }
+{
+    if across == Plan::WALL {
+        return true;
+    }
+    mark == 1
+}
+
 // Follows the line of face f with limits r and l to its rows, which go to the table from `at` on; `unentered` is how many cells are not yet entered.
 pub fn cross(
     seen: &[i32],
     lines: &[u16],
+    faces: &[u16],
+    reach: u64,
     table: &mut [u16],
     f: usize,
     r: u16,
@@ -77,14 +114,14 @@ pub fn cross(
     at: usize,
     unentered: usize,
 ) -> Counts
-    requires { ⌜ Lines (now seen) (now lines) ⌝ }
+    requires { ⌜ Lines (now seen) (now lines) × Starts (now seen) (now lines) (now faces) × (reach ≤ most-reach) ⌝ }
     requires { ⌜ (4 * f + 3 < length (now lines)) × (r < length (now seen) / 2) × (l < length (now seen) / 2) ⌝ }
-    requires { ⌜ Whole (follow (floor-of (now seen) (now lines)) unentered f r l) ⌝ }
-    requires { ⌜ at + 3 * row-count (follow (floor-of (now seen) (now lines)) unentered f r l) ≤ length (now table) ⌝ }
-    requires { ⌜ crossings (follow (floor-of (now seen) (now lines)) unentered f r l) < 2 ^ 63 ⌝ }
-    ensures { λ c. ⌜ c .rows ≡ row-count (follow (floor-of (now (seen .entry)) (now (lines .entry))) unentered f r l) ⌝ }
-    ensures { λ c. ⌜ c .crossings ≡ crossings (follow (floor-of (now (seen .entry)) (now (lines .entry))) unentered f r l) ⌝ }
-    ensures { λ c. ⌜ now (table .exit) ≡ sets (now (table .entry)) at (numbers (follow (floor-of (now (seen .entry)) (now (lines .entry))) unentered f r l)) ⌝ }
+    requires { ⌜ Whole (follow (floor-of (now seen) (now lines) (now faces) reach) unentered f r l) ⌝ }
+    requires { ⌜ at + 4 * row-count (follow (floor-of (now seen) (now lines) (now faces) reach) unentered f r l) ≤ length (now table) ⌝ }
+    requires { ⌜ crossings (follow (floor-of (now seen) (now lines) (now faces) reach) unentered f r l) < 2 ^ 63 ⌝ }
+    ensures { λ c. ⌜ c .rows ≡ row-count (follow (floor-of (now (seen .entry)) (now (lines .entry)) (now (faces .entry)) reach) unentered f r l) ⌝ }
+    ensures { λ c. ⌜ c .crossings ≡ crossings (follow (floor-of (now (seen .entry)) (now (lines .entry)) (now (faces .entry)) reach) unentered f r l) ⌝ }
+    ensures { λ c. ⌜ now (table .exit) ≡ sets (now (table .entry)) at (numbers (follow (floor-of (now (seen .entry)) (now (lines .entry)) (now (faces .entry)) reach) unentered f r l)) ⌝ }
 {
     let mut face = f;
     let mut right = r;
@@ -92,12 +129,16 @@ pub fn cross(
     let mut rows = 0;
     let mut crossings = 0;
     loop {
-        let end = at + 3 * rows;
+        let end = at + 4 * rows;
         let across = lines[4 * face + 1];
-        if across == Plan::WALL {
+        let start = faces[2 * face];
+        let finish = lines[4 * face];
+        let mark = far(seen, start, finish, reach);
+        if is_end(across, mark) {
             table[end] = face as u16;
             table[end + 1] = right;
             table[end + 2] = l;
+            table[end + 3] = mark;
             return Counts {
                 rows: rows + 1,
                 crossings,
@@ -108,7 +149,19 @@ pub fn cross(
         let g = 4 * (across as usize);
         let more = lines[g + 2] as usize;
         let e = lines[g + 3] as usize;
-        let handed = hand_on(seen, lines, table, e, more, right, l, end, cells);
+        let handed = hand_on(
+            seen,
+            lines,
+            faces,
+            reach,
+            table,
+            e,
+            more,
+            right,
+            l,
+            end,
+            cells,
+        );
         rows += handed.rows;
         crossings += handed.crossings;
         face = handed.last;
@@ -129,6 +182,8 @@ struct Handed {
 fn hand_on(
     seen: &[i32],
     lines: &[u16],
+    faces: &[u16],
+    reach: u64,
     table: &mut [u16],
     e: usize,
     more: usize,
@@ -137,12 +192,12 @@ fn hand_on(
     at: usize,
     unentered: usize,
 ) -> Handed
-    requires { ⌜ Lines (now seen) (now lines) ⌝ }
+    requires { ⌜ Lines (now seen) (now lines) × Starts (now seen) (now lines) (now faces) × (reach ≤ most-reach) ⌝ }
     requires { ⌜ (4 * e + 3 < length (now lines)) × (r < length (now seen) / 2) × (l < length (now seen) / 2) ⌝ }
-    requires { ⌜ Whole (fan (floor-of (now seen) (now lines)) (follow (floor-of (now seen) (now lines)) unentered) more e r l) ⌝ }
-    requires { ⌜ at + 3 * row-count (fan (floor-of (now seen) (now lines)) (follow (floor-of (now seen) (now lines)) unentered) more e r l) ≤ length (now table) ⌝ }
-    requires { ⌜ crossings (fan (floor-of (now seen) (now lines)) (follow (floor-of (now seen) (now lines)) unentered) more e r l) < 2 ^ 63 ⌝ }
-    ensures { λ h. ⌜ Remains (now (table .entry)) at (fan (floor-of (now (seen .entry)) (now (lines .entry))) (follow (floor-of (now (seen .entry)) (now (lines .entry))) unentered) more e r l) (now (table .exit)) (at + 3 * h .rows) (h .rows) (h .crossings) (follow (floor-of (now (seen .entry)) (now (lines .entry))) unentered (h .last) (h .right) l) ⌝ }
+    requires { ⌜ Whole (fan (floor-of (now seen) (now lines) (now faces) reach) (follow (floor-of (now seen) (now lines) (now faces) reach) unentered) more e r l) ⌝ }
+    requires { ⌜ at + 4 * row-count (fan (floor-of (now seen) (now lines) (now faces) reach) (follow (floor-of (now seen) (now lines) (now faces) reach) unentered) more e r l) ≤ length (now table) ⌝ }
+    requires { ⌜ crossings (fan (floor-of (now seen) (now lines) (now faces) reach) (follow (floor-of (now seen) (now lines) (now faces) reach) unentered) more e r l) < 2 ^ 63 ⌝ }
+    ensures { λ h. ⌜ Remains (now (table .entry)) at (fan (floor-of (now (seen .entry)) (now (lines .entry)) (now (faces .entry)) reach) (follow (floor-of (now (seen .entry)) (now (lines .entry)) (now (faces .entry)) reach) unentered) more e r l) (now (table .exit)) (at + 4 * h .rows) (h .rows) (h .crossings) (follow (floor-of (now (seen .entry)) (now (lines .entry)) (now (faces .entry)) reach) unentered (h .last) (h .right) l) ⌝ }
     ensures { λ h. ⌜ (4 * h .last + 3 < length (now (lines .entry))) × (h .right < length (now (seen .entry)) / 2) ⌝ }
 {
     let mut side = e;
@@ -162,7 +217,18 @@ fn hand_on(
             };
         }
         let v = lines[4 * here];
-        let one = cross(seen, lines, table, here, right, v, at + 3 * rows, unentered);
+        let one = cross(
+            seen,
+            lines,
+            faces,
+            reach,
+            table,
+            here,
+            right,
+            v,
+            at + 4 * rows,
+            unentered,
+        );
         rows += one.rows;
         crossings += one.crossings;
         side = lines[4 * here + 3] as usize;

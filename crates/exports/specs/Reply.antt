@@ -1,4 +1,4 @@
--- The seven numbers of a reply, and what each call leaves in the lent memory (document 01, "Reply numbers").
+-- The seven numbers of a reply, and what each call leaves in the lent memory (document 01, "Reply numbers"; document 02).
 use mathlib.Core.Bool.{Bool, true, false}
 use mathlib.Core.List.{List, [], _∷_}
 use Prim.Native.Nat.{ℕ, _/_, _%_}
@@ -9,7 +9,10 @@ use lib.IntN.{ℤ}
 use lib.Ieee.{Float}
 use Rattle.limits.specs.Reply.{Reply, refused}
 use Rattle.limits.specs.declared.Refusal.the-variants.{Frame}
+use Rattle.reach.specs.declared.Reach.{Reach}
+use Rattle.reach.specs.declared.Reach.the-variants.{NotStated, Stated}
 use Rattle.stand.specs.declared.spot.Stand.{Stand}
+use Rattle.sight.specs.declared.view.Query.{Query}
 use Rattle.stands.specs.Numbered.{stands-of}
 use Rattle.manopluea.specs.Calls.{check-replies, read-replies, write-replies, find-replies, list-replies, change-replies, list-stands-replies}
 use Rattle.printing.specs.Reply.{print-replies}
@@ -56,26 +59,36 @@ read-left file corners cells doors reply = (
 unfoldable pub find-left : ℕ → List ℤ → List ℕ → List ℕ → ℕ → Stand → List ℕ → List ℕ
 find-left kind cs ts ds w s reply = replied (has-seven reply) reply (numbers-of (find-replies kind cs ts ds w s))
 
-unfoldable pub list-left : ℕ → List ℤ → List ℕ → List ℕ → ℕ → Stand → List ℕ → List ℕ → List ℕ × List ℕ
-list-left kind cs ts ds w s table reply = (
-  left (has-seven reply) table (list-replies kind cs ts ds w s table .1),
-  replied (has-seven reply) reply (numbers-of (list-replies kind cs ts ds w s table .0)),
+-- whether a reach is stated, and which
+abbrev pub reach-of : Bool → ℕ → Reach
+reach-of true n = Stated n
+reach-of false n = NotStated
+
+-- what is asked: setting, stand, whether a reach is stated, and which
+abbrev pub query : ℕ → Stand → Bool → ℕ → Query
+query w s stated n = record { setting = w; stand = s; reach = reach-of stated n }
+
+unfoldable pub list-left : ℕ → List ℤ → List ℕ → List ℕ → ℕ → Stand → Bool → ℕ → List ℕ → List ℕ → List ℕ × List ℕ
+list-left kind cs ts ds w s stated n table reply = (
+  left (has-seven reply) table (list-replies kind cs ts ds (query w s stated n) table .1),
+  replied (has-seven reply) reply (numbers-of (list-replies kind cs ts ds (query w s stated n) table .0)),
 )
 
-unfoldable pub change-left : ℕ → List ℤ → List ℕ → List ℕ → ℕ → Stand → List ℕ → ℕ → Bool → List ℕ → List ℕ → List ℕ × List ℕ
-change-left kind cs ts ds w s given i b table reply = (
-  left (has-seven reply) table (change-replies kind cs ts ds w s given i b table .1),
-  replied (has-seven reply) reply (numbers-of (change-replies kind cs ts ds w s given i b table .0)),
+unfoldable pub change-left : ℕ → List ℤ → List ℕ → List ℕ → ℕ → Stand → Bool → ℕ → List ℕ → ℕ → Bool → List ℕ → List ℕ → List ℕ × List ℕ
+change-left kind cs ts ds w s stated n given i b table reply = (
+  left (has-seven reply) table (change-replies kind cs ts ds (query w s stated n) given i b table .1),
+  replied (has-seven reply) reply (numbers-of (change-replies kind cs ts ds (query w s stated n) given i b table .0)),
 )
 
 -- several stands as a list of numbers, three a stand; a list that is not of three numbers each is FRAME
-abbrev pub numbered-replies : Bool → ℕ → List ℤ → List ℕ → List ℕ → ℕ → List Float → List ℕ → List ℕ → Reply × (List ℕ × List ℕ)
-numbered-replies true kind cs ts ds w ns table replies = list-stands-replies kind cs ts ds w (stands-of ns) (length ns / 3) table replies
-numbered-replies false kind cs ts ds w ns table replies = (refused Frame, (table, replies))
+abbrev pub numbered-replies : Bool → ℕ → List ℤ → List ℕ → List ℕ → ℕ → List Float → Reach → List ℕ → List ℕ → Reply × (List ℕ × List ℕ)
+numbered-replies true kind cs ts ds w ns reach table replies =
+    list-stands-replies kind cs ts ds (record { setting = w; count = length ns / 3; reach = reach }) (stands-of ns) table replies
+numbered-replies false kind cs ts ds w ns reach table replies = (refused Frame, (table, replies))
 
-unfoldable pub list-stands-left : ℕ → List ℤ → List ℕ → List ℕ → ℕ → List Float → List ℕ → List ℕ → List ℕ → (List ℕ × List ℕ) × List ℕ
-list-stands-left kind cs ts ds w ns table replies reply =
-    let said = numbered-replies (eqb (length ns % 3) 0) kind cs ts ds w ns table replies in
+unfoldable pub list-stands-left : ℕ → List ℤ → List ℕ → List ℕ → ℕ → List Float → Bool → ℕ → List ℕ → List ℕ → List ℕ → (List ℕ × List ℕ) × List ℕ
+list-stands-left kind cs ts ds w ns stated n table replies reply =
+    let said = numbered-replies (eqb (length ns % 3) 0) kind cs ts ds w ns (reach-of stated n) table replies in
     (left (has-seven reply) (table, replies) (said .1), replied (has-seven reply) reply (numbers-of (said .0)))
 
 unfoldable pub print-left : List ℕ → List ℕ → List ℕ → List ℕ × List ℕ

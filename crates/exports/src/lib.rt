@@ -3,8 +3,11 @@
 // include/manopluea.h has the promise of each function in words, specs/Reply.antt what each leaves as a function of the input.
 ghost use mathlib.Core.Path.{_≡_};
 ghost use Rattle.stand.specs.declared.spot.Stand.the-variants.{Point, Offset};
-ghost use Rattle.exports.specs.Reply.{check-left, read-left, write-left, find-left, list-left, change-left, list-stands-left, print-left};
+ghost use Rattle.exports.specs.Reply.{reach-of, check-left, read-left, write-left, find-left, list-left, change-left, list-stands-left, print-left};
 use manopluea::Listed;
+use manopluea::Morning;
+use manopluea::Query;
+use manopluea::Reach;
 use manopluea::Refusal;
 use manopluea::Stand;
 use manopluea::Terms;
@@ -123,6 +126,16 @@ pub extern "C" fn manopluea_find_offset(
     reply::put_found(reply, answer);
 }
 
+// A reach for a caller that has no enums: whether one is stated, and which; where none is, the number means nothing.
+fn reach_of(stated: bool, reach: u64) -> Reach
+    ensures { λ r. ⌜ r ≡ reach-of stated reach ⌝ }
+{
+    if stated {
+        return Reach::Stated(reach);
+    }
+    Reach::NotStated
+}
+
 // The listing from a point; the values are row count and crossings.
 #[no_mangle]
 pub extern "C" fn manopluea_list_point(
@@ -133,10 +146,12 @@ pub extern "C" fn manopluea_list_point(
     setting: u64,
     x: f64,
     y: f64,
+    stated: bool,
+    reach: u64,
     table: &mut [u16],
     reply: &mut [u64],
 )
-    ensures { λ _. ⌜ (now (table .exit), now (reply .exit)) ≡ list-left kind (now (corners .entry)) (now (cells .entry)) (now (doors .entry)) setting (Point x y) (now (table .entry)) (now (reply .entry)) ⌝ }
+    ensures { λ _. ⌜ (now (table .exit), now (reply .exit)) ≡ list-left kind (now (corners .entry)) (now (cells .entry)) (now (doors .entry)) setting (Point x y) stated reach (now (table .entry)) (now (reply .entry)) ⌝ }
 {
     if reply.len() < 7 {
         return;
@@ -146,8 +161,11 @@ pub extern "C" fn manopluea_list_point(
         cells,
         doors,
         Terms { kind },
-        setting,
-        Stand::Point(x, y),
+        Query {
+            setting,
+            stand: Stand::Point(x, y),
+            reach: reach_of(stated, reach),
+        },
         table,
     );
     reply::put_listed(reply, answer);
@@ -164,10 +182,12 @@ pub extern "C" fn manopluea_list_offset(
     corner: u16,
     dx: f64,
     dy: f64,
+    stated: bool,
+    reach: u64,
     table: &mut [u16],
     reply: &mut [u64],
 )
-    ensures { λ _. ⌜ (now (table .exit), now (reply .exit)) ≡ list-left kind (now (corners .entry)) (now (cells .entry)) (now (doors .entry)) setting (Offset corner dx dy) (now (table .entry)) (now (reply .entry)) ⌝ }
+    ensures { λ _. ⌜ (now (table .exit), now (reply .exit)) ≡ list-left kind (now (corners .entry)) (now (cells .entry)) (now (doors .entry)) setting (Offset corner dx dy) stated reach (now (table .entry)) (now (reply .entry)) ⌝ }
 {
     if reply.len() < 7 {
         return;
@@ -177,8 +197,11 @@ pub extern "C" fn manopluea_list_offset(
         cells,
         doors,
         Terms { kind },
-        setting,
-        Stand::Offset(corner, dx, dy),
+        Query {
+            setting,
+            stand: Stand::Offset(corner, dx, dy),
+            reach: reach_of(stated, reach),
+        },
         table,
     );
     reply::put_listed(reply, answer);
@@ -194,13 +217,15 @@ pub extern "C" fn manopluea_change_point(
     setting: u64,
     x: f64,
     y: f64,
+    stated: bool,
+    reach: u64,
     given: &[u16],
     door: usize,
     shut: bool,
     table: &mut [u16],
     reply: &mut [u64],
 )
-    ensures { λ _. ⌜ (now (table .exit), now (reply .exit)) ≡ change-left kind (now (corners .entry)) (now (cells .entry)) (now (doors .entry)) setting (Point x y) (now (given .entry)) door shut (now (table .entry)) (now (reply .entry)) ⌝ }
+    ensures { λ _. ⌜ (now (table .exit), now (reply .exit)) ≡ change-left kind (now (corners .entry)) (now (cells .entry)) (now (doors .entry)) setting (Point x y) stated reach (now (given .entry)) door shut (now (table .entry)) (now (reply .entry)) ⌝ }
 {
     if reply.len() < 7 {
         return;
@@ -210,8 +235,11 @@ pub extern "C" fn manopluea_change_point(
         cells,
         doors,
         Terms { kind },
-        setting,
-        Stand::Point(x, y),
+        Query {
+            setting,
+            stand: Stand::Point(x, y),
+            reach: reach_of(stated, reach),
+        },
         given,
         door,
         shut,
@@ -231,13 +259,15 @@ pub extern "C" fn manopluea_change_offset(
     corner: u16,
     dx: f64,
     dy: f64,
+    stated: bool,
+    reach: u64,
     given: &[u16],
     door: usize,
     shut: bool,
     table: &mut [u16],
     reply: &mut [u64],
 )
-    ensures { λ _. ⌜ (now (table .exit), now (reply .exit)) ≡ change-left kind (now (corners .entry)) (now (cells .entry)) (now (doors .entry)) setting (Offset corner dx dy) (now (given .entry)) door shut (now (table .entry)) (now (reply .entry)) ⌝ }
+    ensures { λ _. ⌜ (now (table .exit), now (reply .exit)) ≡ change-left kind (now (corners .entry)) (now (cells .entry)) (now (doors .entry)) setting (Offset corner dx dy) stated reach (now (given .entry)) door shut (now (table .entry)) (now (reply .entry)) ⌝ }
 {
     if reply.len() < 7 {
         return;
@@ -247,8 +277,11 @@ pub extern "C" fn manopluea_change_offset(
         cells,
         doors,
         Terms { kind },
-        setting,
-        Stand::Offset(corner, dx, dy),
+        Query {
+            setting,
+            stand: Stand::Offset(corner, dx, dy),
+            reach: reach_of(stated, reach),
+        },
         given,
         door,
         shut,
@@ -266,11 +299,13 @@ pub extern "C" fn manopluea_list_stands(
     kind: u16,
     setting: u64,
     stands: &[f64],
+    stated: bool,
+    reach: u64,
     table: &mut [u16],
     replies: &mut [u64],
     reply: &mut [u64],
 )
-    ensures { λ _. ⌜ ((now (table .exit), now (replies .exit)), now (reply .exit)) ≡ list-stands-left kind (now (corners .entry)) (now (cells .entry)) (now (doors .entry)) setting (now (stands .entry)) (now (table .entry)) (now (replies .entry)) (now (reply .entry)) ⌝ }
+    ensures { λ _. ⌜ ((now (table .exit), now (replies .exit)), now (reply .exit)) ≡ list-stands-left kind (now (corners .entry)) (now (cells .entry)) (now (doors .entry)) setting (now (stands .entry)) stated reach (now (table .entry)) (now (replies .entry)) (now (reply .entry)) ⌝ }
 {
     if reply.len() < 7 {
         return;
@@ -286,9 +321,12 @@ pub extern "C" fn manopluea_list_stands(
         cells,
         doors,
         Terms { kind },
-        setting,
+        Morning {
+            setting,
+            count,
+            reach: reach_of(stated, reach),
+        },
         given,
-        count,
         table,
         replies,
     );

@@ -4,12 +4,13 @@ use mathlib.Core.Path.{_≡_, refl, sym, ap, ap₂, _∙_}
 use Prim.Native.Nat.{ℕ, zero, suc, _<_}
 use Rattle.fan.specs.Sight.{Floor, Place, Sight, fan, follow, hand-on}
 use Rattle.fan.specs.Sight.Place.{between, right-of-r, left-of-l}
-use Rattle.fan.specs.Sight.Sight.{pass, both}
+use Rattle.fan.specs.Sight.Sight.{row, pass, both}
 use Rattle.fan.proofs.Trees.{follow-a-wall, follow-too-far, follow-across, fan-last, fan-both, fan-skips, fan-ends, hand-on-is-a-fan}
 
 -- F is as P is; where a face starts is not asked
 pub record Agree (F P : Floor) (N K : ℕ) : Type 0 where
   pub ends-agree : (f : ℕ) → f < N → F .ends f ≡ P .ends f
+  pub far-agrees : (f : ℕ) → f < N → F .far f ≡ P .far f
   pub back-agrees : (f : ℕ) → f < N → P .ends f ≡ false → F .back f ≡ P .back f
   pub back-below : (f : ℕ) → f < N → P .ends f ≡ false → P .back f < N
   pub next-agrees : (f : ℕ) → f < N → F .next f ≡ P .next f
@@ -47,11 +48,15 @@ module _ {F P : Floor} {N K : ℕ} (A : Agree F P N K) where
         by-place rest right-of-r p = fan-skips F on m e r l (alike ∙ p) ∙ after rest r l i j ∙ sym (fan-skips P on′ m e r l p)
         by-place rest left-of-l p = fan-ends F on m e r l (alike ∙ p) ∙ same e r l h i j ∙ sym (fan-ends P on′ m e r l p)
 
+  at-an-end : (n f r l : ℕ) → f < N → P .ends f ≡ true → follow F n f r l ≡ follow P n f r l
+  at-an-end n f r l h e =
+      follow-a-wall F n f r l (A .ends-agree f h ∙ e) ∙ ap (row f r l) (A .far-agrees f h) ∙ sym (follow-a-wall P n f r l e)
+
   pub follow-agrees : (n f r l : ℕ) → f < N → r < K → l < K → follow F n f r l ≡ follow P n f r l
   follow-agrees zero f r l h i j = by-end (P .ends f) refl
     where
       by-end : (b : Bool) → P .ends f ≡ b → follow F zero f r l ≡ follow P zero f r l
-      by-end true e = follow-a-wall F zero f r l (A .ends-agree f h ∙ e) ∙ sym (follow-a-wall P zero f r l e)
+      by-end true e = at-an-end zero f r l h e
       by-end false e = follow-too-far F f r l (A .ends-agree f h ∙ e) ∙ sym (follow-too-far P f r l e)
   follow-agrees (suc n) f r l h i j = by-end (follow-agrees n) (P .ends f) refl
     where
@@ -63,7 +68,7 @@ module _ {F P : Floor} {N K : ℕ} (A : Agree F P N K) where
           ∙ sym (hand-on-is-a-fan P n g r l)
 
       by-end : Alike (follow F n) (follow P n) → (b : Bool) → P .ends f ≡ b → follow F (suc n) f r l ≡ follow P (suc n) f r l
-      by-end same true e = follow-a-wall F (suc n) f r l (A .ends-agree f h ∙ e) ∙ sym (follow-a-wall P (suc n) f r l e)
+      by-end same true e = at-an-end (suc n) f r l h e
       by-end same false e =
           follow-across F n f r l (A .ends-agree f h ∙ e)
           ∙ ap (λ (g : ℕ). pass f r l (hand-on F n g r l)) (A .back-agrees f h e)

@@ -103,7 +103,7 @@ module _ {F : Floor} {N M : ℕ} {see : ℕ → Point} {cell : ℕ → ℕ} (G :
     some-row-holds (crosses s free t₁) (whole-pass w) h = some-row-holds t₁ w h
     some-row-holds (keeps i t₁) w h = some-row-holds t₁ w h
     some-row-holds (splits {e = e} {r = r} {l = l} {t = t} {u = u} i c t₁ t₂) (whole-both w₁ w₂) h =
-        by-half (some-row-holds t₁ w₁) (some-row-holds t₂ w₂)
+        by-half (λ k. some-row-holds t₁ w₁ k) (λ k. some-row-holds t₂ w₂ k)
         (split-at-a-corner _ _ _ d (c .at-v) h (clear _ (left-end-exists G corners (in-sight G t₁ .is-a-face))))
       where
         v : ℕ

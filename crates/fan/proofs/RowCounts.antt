@@ -36,13 +36,13 @@ module _ (F : Floor) where
     over-lines n (e ∷ x ∷ es) h each = over-a-split _ _ (each e 0 first) (over-lines n (x ∷ es) (omega arith) (λ y i p. each y (suc i) (later p)))
 
   -- what rows and a crossing too many have, and what passages and splits keep, every expansion has
-  module _ (P : ℕ → Sight → Type 0) (at-a-row : (n f r l : ℕ) → P n (row f r l)) (at-a-cut : P zero cut)
+  module _ (P : ℕ → Sight → Type 0) (at-a-row : (n f r l k : ℕ) → P n (row f r l k)) (at-a-cut : P zero cut)
       (over-a-passage : (n f r l : ℕ) (t : Sight) → P n t → P (suc n) (pass f r l t)) (over-a-split : (n : ℕ) (t u : Sight) → P n t → P n u → P n (both t u)) where
     pub every-expansion : (n f r l : ℕ) → P n (follow F n f r l)
     every-expansion zero f r l = by-end (F .ends f) refl
       where
         by-end : (b : Bool) → F .ends f ≡ b → P zero (follow F zero f r l)
-        by-end true e = rw (follow-a-wall F zero f r l e) (at-a-row zero f r l)
+        by-end true e = rw (follow-a-wall F zero f r l e) (at-a-row zero f r l (F .far f))
         by-end false e = rw (follow-too-far F f r l e) at-a-cut
     every-expansion (suc n) f r l = by-end (every-expansion n) (F .ends f) refl
       where
@@ -50,14 +50,14 @@ module _ (F : Floor) where
         handed-on ih g = rw (hand-on-is-a-fan F n g r l) (every-fan (P n) (over-a-split n) (follow F n) ih (F .more g) (F .next g) r l)
 
         by-end : ((f r l : ℕ) → P n (follow F n f r l)) → (b : Bool) → F .ends f ≡ b → P (suc n) (follow F (suc n) f r l)
-        by-end ih true e = rw (follow-a-wall F (suc n) f r l e) (at-a-row (suc n) f r l)
+        by-end ih true e = rw (follow-a-wall F (suc n) f r l e) (at-a-row (suc n) f r l (F .far f))
         by-end ih false e = rw (follow-across F n f r l e) (over-a-passage n f r l _ (handed-on ih (F .back f)))
 
 -- ---- counts
 
 pub row-count-counts-the-rows : (t : Sight) → row-count t ≡ length (rows t)
 unfolding rows row-count
-row-count-counts-the-rows (row f r l) = refl
+row-count-counts-the-rows (row f r l k) = refl
 row-count-counts-the-rows (pass f r l t) = row-count-counts-the-rows t
 row-count-counts-the-rows (both t u) =
     let h = row-count-counts-the-rows t in
@@ -85,8 +85,8 @@ module _ (F : Floor) where
   unfolding crossings row-count
   crossings-at-most-rows-times-fuel = every-expansion F Few at-a-row at-a-cut over-a-passage few-over-a-split
     where
-      at-a-row : (n f r l : ℕ) → Few n (row f r l)
-      at-a-row n f r l w = omega arith
+      at-a-row : (n f r l k : ℕ) → Few n (row f r l k)
+      at-a-row n f r l k w = omega arith
 
       at-a-cut : Few zero cut
       at-a-cut w = omega arith

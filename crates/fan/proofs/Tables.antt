@@ -9,8 +9,8 @@ use Rattle.fan.specs.Once.{At, Only}
 use Rattle.fan.specs.Once.At.{first, later}
 use Rattle.fan.specs.Written.{written, row-at, OneRow}
 
--- three numbers a row
-pub length-of-rows : (rs : List Row) → length (written rs) ≡ 3 * length rs
+-- four numbers a row
+pub length-of-rows : (rs : List Row) → length (written rs) ≡ 4 * length rs
 unfolding written
 length-of-rows [] = refl
 length-of-rows (r ∷ rs) = let e = length-of-rows rs in omega arith
@@ -21,10 +21,11 @@ unfolding written
 row-stands-there [] rest i h = absurd (omega arith)
 row-stands-there (r ∷ rs) rest zero h = first
 row-stands-there (r ∷ rs) rest (suc i) h =
-    let e₀ : 3 * suc i ≡ suc (suc (suc (3 * i))) = omega arith in
-    let e₁ : 3 * suc i + 1 ≡ suc (suc (suc (3 * i + 1))) = omega arith in
-    let e₂ : 3 * suc i + 2 ≡ suc (suc (suc (3 * i + 2))) = omega arith in
-    rw (e₁, e₂, e₀) (later (row-stands-there rs rest i (omega arith)))
+    let e₀ : 4 * suc i ≡ suc (suc (suc (suc (4 * i)))) = omega arith in
+    let e₁ : 4 * suc i + 1 ≡ suc (suc (suc (suc (4 * i + 1)))) = omega arith in
+    let e₂ : 4 * suc i + 2 ≡ suc (suc (suc (suc (4 * i + 2)))) = omega arith in
+    let e₃ : 4 * suc i + 3 ≡ suc (suc (suc (suc (4 * i + 3)))) = omega arith in
+    rw (e₁, e₂, e₃, e₀) (later (row-stands-there rs rest i (omega arith)))
 
 module _ {A : Type 0} where
   pub place-is-within : {x : A} {xs : List A} {i : ℕ} → At x xs i → i < length xs

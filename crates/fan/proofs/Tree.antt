@@ -23,7 +23,7 @@ pub data Source : Type 0 where
 module _ {F : Floor} {N M : ℕ} {see : ℕ → Point} {cell : ℕ → ℕ} (G : Geometry F N M see cell) where
   -- t is a tree seen between the limits r and l
   pub data Grown : Source → ℕ → ℕ → Sight → Type 0 where
-    ends : {f r l : ℕ} → InSight G f r l → F .ends f ≡ true → Grown (a-line f) r l (row f r l)
+    ends : {f r l : ℕ} → InSight G f r l → F .ends f ≡ true → Grown (a-line f) r l (row f r l (F .far f))
     too-many : {f r l : ℕ} → InSight G f r l → Grown (a-line f) r l cut
     crosses : {f r l : ℕ} {t : Sight} → InSight G f r l → F .ends f ≡ false → Grown (a-cell (F .back f)) r l t → Grown (a-line f) r l (pass f r l t)
     -- one side takes both limits
@@ -60,14 +60,15 @@ module _ {F : Floor} {N M : ℕ} {see : ℕ → Point} {cell : ℕ → ℕ} (G :
       by-end below true e = rw (follow-a-wall F (suc k) f r l e) (ends s e)
       by-end below false e = rw (follow-across F k f r l e) (crosses s e (grown-from-parts below (hands G s e k)))
 
-  -- a row's face is seen with the row's limits, and ends the sight
+  -- a row's face is seen with the row's limits, ends the sight, and is in reach as the row says
   pub record RowSeen (w : Row) : Type 0 where
     pub in-sight : InSight G (w .face) (w .right) (w .left)
     pub ends : F .ends (w .face) ≡ true
+    pub reached : w .far ≡ F .far (w .face)
 
   tree-row-is-seen : {s : Source} {r l i : ℕ} {t : Sight} {w : Row} → Grown s r l t → At w (rows t) i → RowSeen w
   unfolding rows
-  tree-row-is-seen (ends s e) p = rw (at-the-only-place p) (record { in-sight = s; ends = e })
+  tree-row-is-seen (ends s e) p = rw (at-the-only-place p) (record { in-sight = s; ends = e; reached = refl })
   tree-row-is-seen (too-many s) p = absurd (at-no-place p)
   tree-row-is-seen (crosses s free t₁) p = tree-row-is-seen t₁ p
   tree-row-is-seen (keeps i t₁) p = tree-row-is-seen t₁ p

@@ -11,7 +11,7 @@ use Rattle.fan.specs.Sight.Sight.{row, pass, both, cut}
 -- ---- the equations of the expansion
 
 module _ (F : Floor) where
-  pub follow-a-wall : (n f r l : ℕ) → F .ends f ≡ true → follow F n f r l ≡ row f r l
+  pub follow-a-wall : (n f r l : ℕ) → F .ends f ≡ true → follow F n f r l ≡ row f r l (F .far f)
   unfolding follow
   follow-a-wall zero f r l e = rw (e, follow)
   follow-a-wall (suc n) f r l e = rw (e, follow)
@@ -49,13 +49,13 @@ module _ (F : Floor) where
 
 -- ---- counts
 
--- three numbers a row
-pub three-numbers-a-row : (t : Sight) → length (numbers t) ≡ 3 * row-count t
+-- four numbers a row
+pub four-numbers-a-row : (t : Sight) → length (numbers t) ≡ 4 * row-count t
 unfolding numbers row-count
-three-numbers-a-row (row f r l) = refl
-three-numbers-a-row (pass f r l t) = three-numbers-a-row t
-three-numbers-a-row (both t u) =
-    let h = three-numbers-a-row t in
-    let k = three-numbers-a-row u in
+four-numbers-a-row (row f r l k) = refl
+four-numbers-a-row (pass f r l t) = four-numbers-a-row t
+four-numbers-a-row (both t u) =
+    let h = four-numbers-a-row t in
+    let k = four-numbers-a-row u in
     omega (arith, length-append (numbers t) (numbers u))
-three-numbers-a-row cut = refl
+four-numbers-a-row cut = refl

@@ -73,7 +73,7 @@ module _ {F : Floor} {N M : ℕ} {see : ℕ → Point} {cell : ℕ → ℕ} (G :
 
 -- a way down the tree to a row: the first face, and the faces after it
 pub data WayDown : Sight → ℕ → List ℕ → Type 0 where
-  at-a-row : {f r l : ℕ} → WayDown (row f r l) f []
+  at-a-row : {f r l k : ℕ} → WayDown (row f r l k) f []
   across : {f r l e : ℕ} {t : Sight} {p : List ℕ} → WayDown t e p → WayDown (pass f r l t) f (e ∷ p)
   right-of-the-split : {e : ℕ} {t u : Sight} {p : List ℕ} → WayDown t e p → WayDown (both t u) e p
   left-of-the-split : {e : ℕ} {t u : Sight} {p : List ℕ} → WayDown u e p → WayDown (both t u) e p
@@ -87,7 +87,7 @@ module _ {F : Floor} {N M : ℕ} {see : ℕ → Point} {cell : ℕ → ℕ} (G :
   abbrev AllTaken : ℕ → Type 0
   AllTaken n = (f r l : ℕ) → InSight G f r l → (e : ℕ) (p : List ℕ) → WayDown (follow F n f r l) e p → (e ≡ f) × Taken f r l p
 
-  from-a-row : {f r l e : ℕ} {p : List ℕ} → Seen G f r l → WayDown (row f r l) e p → (e ≡ f) × Taken f r l p
+  from-a-row : {f r l e k : ℕ} {p : List ℕ} → Seen G f r l → WayDown (row f r l k) e p → (e ≡ f) × Taken f r l p
   from-a-row s at-a-row = let (d, k) = cone-is-never-empty _ _ _ _ s in (refl, (d, k, no-more))
 
   without-crossing : AllTaken zero

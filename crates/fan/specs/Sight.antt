@@ -1,4 +1,4 @@
--- The expansion over an abstract floor (document 01, "Expansion"; document 02, A4 and A14): a tree of rows, passages and splits. Faces and corners are numbers.
+-- The expansion over an abstract floor (document 01, "Expansion"; document 02, A4, A5 and A14): a tree of rows, passages and splits. Faces and corners are numbers.
 use mathlib.Core.Bool.{Bool, true, false}
 use mathlib.Core.List.{List, [], _∷_, _++_}
 use Prim.Native.Nat.{ℕ, zero, suc, _+_, _-_}
@@ -10,8 +10,10 @@ pub data Place : Type 0 where
   left-of-l : Place
 
 pub record Floor : Type 0 where
-  -- sight ends at this face
+  -- sight ends at this face: it is wall or out of reach
   pub ends : ℕ → Bool
+  -- whether this face is in reach: 0 where it is, 1 where it is not
+  pub far : ℕ → ℕ
   -- the neighbour's side through which a free face is crossed
   pub back : ℕ → ℕ
   -- the next side of the same cell, counter-clockwise
@@ -25,8 +27,8 @@ pub record Floor : Type 0 where
   pub place : ℕ → ℕ → ℕ → Place
 
 pub data Sight : Type 0 where
-  -- a wall face gives a row: face, right limit, left limit
-  row : ℕ → ℕ → ℕ → Sight
+  -- a face at which sight ends gives a row: face, right limit, left limit, and 0 in reach or 1 out of reach
+  row : ℕ → ℕ → ℕ → ℕ → Sight
   -- a free line is crossed: face, right limit, left limit, and what is seen beyond
   pass : ℕ → ℕ → ℕ → Sight → Sight
   -- two parts handed on, the right one first
@@ -48,9 +50,9 @@ fan F on (suc m) e r l =
 
 -- the line of face f with limits r and l, followed to its rows through at most n crossings
 unfoldable pub follow : Floor → ℕ → ℕ → ℕ → ℕ → Sight
-follow F zero f r l = elim (F .ends f) [ true ↦ row f r l | false ↦ cut ]
+follow F zero f r l = elim (F .ends f) [ true ↦ row f r l (F .far f) | false ↦ cut ]
 follow F (suc n) f r l =
-    elim (F .ends f) [ true ↦ row f r l | false ↦ pass f r l (fan F (follow F n) (F .more (F .back f)) (F .next (F .back f)) r l) ]
+    elim (F .ends f) [ true ↦ row f r l (F .far f) | false ↦ pass f r l (fan F (follow F n) (F .more (F .back f)) (F .next (F .back f)) r l) ]
 
 -- the sides that a cell entered through its face g hands on, as `follow` has them
 unfoldable pub hand-on : Floor → ℕ → ℕ → ℕ → ℕ → Sight
@@ -98,40 +100,41 @@ lines-seen F n (e ∷ x ∷ es) = both (follow F n e (F .right-end e) (F .left-e
 unfoldable pub seen-from : Floor → ℕ → Standing → Sight
 seen-from F M p = lines-seen F (unentered M p) (lines-around F p)
 
--- the rows' numbers, three a row, in order
+-- the rows' numbers, four a row, in order
 unfoldable pub numbers : Sight → List ℕ
-numbers (row f r l) = f ∷ r ∷ l ∷ []
+numbers (row f r l k) = f ∷ r ∷ l ∷ k ∷ []
 numbers (pass f r l t) = numbers t
 numbers (both t u) = numbers t ++ numbers u
 numbers cut = []
 
 unfoldable pub row-count : Sight → ℕ
-row-count (row f r l) = 1
+row-count (row f r l k) = 1
 row-count (pass f r l t) = row-count t
 row-count (both t u) = row-count t + row-count u
 row-count cut = 0
 
 -- the number of times a free line is passed, each passage by each cone counted
 unfoldable pub crossings : Sight → ℕ
-crossings (row f r l) = 0
+crossings (row f r l k) = 0
 crossings (pass f r l t) = crossings t + 1
 crossings (both t u) = crossings t + crossings u
 crossings cut = 0
 
 -- no crossing was too many
 pub data Whole : Sight → Type 0 where
-  whole-row : {f r l : ℕ} → Whole (row f r l)
+  whole-row : {f r l k : ℕ} → Whole (row f r l k)
   whole-pass : {f r l : ℕ} {t : Sight} → Whole t → Whole (pass f r l t)
   whole-both : {t u : Sight} → Whole t → Whole u → Whole (both t u)
 
--- a row: face on the side seen, right limit, left limit
+-- a row: face on the side seen, right limit, left limit, and 0 in reach or 1 out of reach
 pub record Row : Type 0 where
   pub face : ℕ
   pub right : ℕ
   pub left : ℕ
+  pub far : ℕ
 
 unfoldable pub rows : Sight → List Row
-rows (row f r l) = record { face = f; right = r; left = l } ∷ []
+rows (row f r l k) = record { face = f; right = r; left = l; far = k } ∷ []
 rows (pass f r l t) = rows t
 rows (both t u) = rows t ++ rows u
 rows cut = []

@@ -1,4 +1,4 @@
--- The walk (document 01, "Walk"; document 02, A4). It knows nothing of cones.
+-- The walk (document 01, "Walk"; document 02, A4 and A5). It knows nothing of cones.
 use mathlib.Core.Bool.{true, false}
 use mathlib.Core.Path.{_≡_}
 use Prim.Native.Nat.{ℕ, suc}
@@ -26,7 +26,7 @@ module _ (F : Floor) (see : ℕ → Point) (d : Point) where
 
   -- the walk that leaves a cell by face f ends at face w
   pub data Walks : ℕ → ℕ → Type 0 where
-    -- that line is wall
+    -- that line is wall or out of reach
     ended : {f : ℕ} → F .ends f ≡ true → Walks f f
     -- it is crossed, and the next cell is left by a line that is not the one it was entered by
     crossed : {f e w : ℕ} → F .ends f ≡ false → Other F (F .back f) e → Leaves e → Walks e w → Walks f w

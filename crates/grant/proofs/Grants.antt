@@ -53,8 +53,8 @@ module _ (k : ℕ) (cs : List ℤ) (ts ds : List ℕ) (w n room places : ℕ) wh
       by-accepted : {r : Checked} → r ≡ later p → r ≡ asked k cs ts ds w n room places
       by-accepted e = by-few (e ∙ ap (λ (a : Checked). then-asked a later) (sym accepted))
 
-      pub few-numbers : 3 * p .corners * n ≤ 3 * 2048 * 32
-      few-numbers = let f : 3 * p .corners ≤ 3 * 2048 = omega (arith, few-corners k cs ts ds accepted) in mul-le-mul f few
+      pub few-numbers : 4 * p .corners * n ≤ 4 * 2048 * 32
+      few-numbers = let f : 4 * p .corners ≤ 4 * 2048 = omega (arith, few-corners k cs ts ds accepted) in mul-le-mul f few
 
       module _ {b : Bool} (is-wrong : b ≡ wrong-setting w (p .doors)) where
         pub setting-refused : b ≡ true → C.Refused Setting ≡ asked k cs ts ds w n room places
@@ -66,15 +66,15 @@ module _ (k : ℕ) (cs : List ℤ) (ts ds : List ℕ) (w n room places : ℕ) wh
           by-room e =
               by-accepted (e ∙ ap (λ (t : Bool). refuse-if t Setting (refuse-if (no-room (corner-count cs) n room places) Room (C.Accepted p))) (sym (wrong-for-the-plan ds w (accepted-doors k cs ts ds accepted) is-wrong ∙ right)))
 
-          pub table-too-short : room < 3 * p .corners * n → C.Refused Room ≡ asked k cs ts ds w n room places
+          pub table-too-short : room < 4 * p .corners * n → C.Refused Room ≡ asked k cs ts ds w n room places
           table-too-short h =
-              let short : ltb room (3 * corner-count cs * n) ≡ true = lt-ltb _ _ (subst (λ (m : ℕ). room < 3 * m * n) (accepted-corners k cs ts ds accepted) h) in
+              let short : ltb room (4 * corner-count cs * n) ≡ true = lt-ltb _ _ (subst (λ (m : ℕ). room < 4 * m * n) (accepted-corners k cs ts ds accepted) h) in
               by-room (ap (λ (t : Bool). refuse-if (t || ltb places (3 * n)) Room (C.Accepted p)) (sym short))
 
-          module _ (long : 3 * p .corners * n ≤ room) where
+          module _ (long : 4 * p .corners * n ≤ room) where
             by-places : {r : Checked} → r ≡ refuse-if (ltb places (3 * n)) Room (C.Accepted p) → r ≡ asked k cs ts ds w n room places
             by-places e =
-                let enough : ltb room (3 * corner-count cs * n) ≡ false = le-ltb _ _ (subst (λ (m : ℕ). 3 * m * n ≤ room) (accepted-corners k cs ts ds accepted) long) in
+                let enough : ltb room (4 * corner-count cs * n) ≡ false = le-ltb _ _ (subst (λ (m : ℕ). 4 * m * n ≤ room) (accepted-corners k cs ts ds accepted) long) in
                 by-room (e ∙ ap (λ (t : Bool). refuse-if (t || ltb places (3 * n)) Room (C.Accepted p)) (sym enough))
 
             pub too-few-places : places < 3 * n → C.Refused Room ≡ asked k cs ts ds w n room places
@@ -168,7 +168,7 @@ pub record Grant (k : ℕ) (cs : List ℤ) (ts ds : List ℕ) (w n room places :
   pub sound : Sound cs (cells-of k ts) ds
   pub setting-right : wrong-setting w (length ds) ≡ false
   pub few-stands : n ≤ most-stands
-  pub table-long : 3 * corner-count cs * n ≤ room
+  pub table-long : 4 * corner-count cs * n ≤ room
   pub replies-long : 3 * n ≤ places
 
 module _ (k : ℕ) (cs : List ℤ) (ts ds : List ℕ) (w n room places : ℕ) where
@@ -182,7 +182,7 @@ module _ (k : ℕ) (cs : List ℤ) (ts ds : List ℕ) (w n room places : ℕ) wh
       by-tests few p h e =
           let t₂ = passed (wrong-setting w (length ds)) Setting _ e in
           let t₃ = passed (no-room (corner-count cs) n room places) Room _ (t₂ .1) in
-          let enough = neither-true (ltb room (3 * corner-count cs * n)) (ltb places (3 * n)) (t₃ .0) in
+          let enough = neither-true (ltb room (4 * corner-count cs * n)) (ltb places (3 * n)) (t₃ .0) in
           record {
             plan = p;
             plan-accepted = h;

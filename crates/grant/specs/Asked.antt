@@ -28,9 +28,9 @@ too-many false = Frame
 unfoldable pub sizes-asked : ℕ → List ℤ → List ℕ → List ℕ → ℕ → Sizes
 sizes-asked k cs ts ds n = elim (ltb most-stands n) [ true ↦ S.Refused (too-many (framed k cs ts)) | false ↦ sizes-of k cs ts ds ]
 
--- a table below 3·corners·stands numbers, or fewer than 3·stands places for the replies
+-- a table below 4·corners·stands numbers, or fewer than 3·stands places for the replies
 abbrev pub no-room : ℕ → ℕ → ℕ → ℕ → Bool
-no-room corners n room places = ltb room (3 * corners * n) || ltb places (3 * n)
+no-room corners n room places = ltb room (4 * corners * n) || ltb places (3 * n)
 
 -- an accepted plan is asked further
 abbrev pub then-asked : Checked → (Plan → Checked) → Checked

@@ -65,7 +65,7 @@ pub fn asked_in(
             if setting::is_wrong(setting, k) {
                 return Checked::Refused(Refusal::Setting);
             }
-            if room < 3 * n * count {
+            if room < 4 * n * count {
                 return Checked::Refused(Refusal::Room);
             }
             if places < 3 * count {

@@ -37,6 +37,13 @@ polygons = 12
 abbrev pub most-stands : ℕ
 most-stands = 32
 
+-- a stated reach, in millimetres (document 02, A5)
+abbrev pub least-reach : ℕ
+least-reach = 1
+
+abbrev pub most-reach : ℕ
+most-reach = 262144
+
 -- coordinates go from −coordinate-limit to coordinate-limit
 abbrev pub coordinate-limit : ℕ
 coordinate-limit = limit

@@ -1,8 +1,8 @@
--- Answers in document 01's numbers ("Reply numbers"): reply number, place, and the values that come with 0.
+-- Answers in numbers (document 01, "Reply numbers"; document 02): reply number, place, and the values that come with 0.
 use mathlib.Core.List.{List, [], _∷_}
 use Prim.Native.Nat.{ℕ}
 use Rattle.limits.specs.declared.Refusal.{Refusal}
-use Rattle.limits.specs.declared.Refusal.the-variants.{Frame, Size, Corner, Cell, Neighbour, Door, Setting, Stand, Line, Outside, Room, Change, Rows}
+use Rattle.limits.specs.declared.Refusal.the-variants.{Frame, Size, Corner, Cell, Neighbour, Door, Setting, Stand, Line, Outside, Room, Change, Rows, Reach}
 use Rattle.limits.specs.declared.Checked.{Checked}
 use Rattle.limits.specs.declared.Checked.the-variants.{Accepted, Refused}
 
@@ -20,6 +20,7 @@ number Outside = 10
 number Room = 11
 number Change = 12
 number Rows = 13
+number Reach = 15
 
 abbrev pub place : Refusal → ℕ
 place Frame = 0
@@ -35,6 +36,7 @@ place Outside = 0
 place Room = 0
 place Change = 0
 place Rows = 0
+place Reach = 0
 
 pub record Reply : Type 0 where
   pub number : ℕ

@@ -31,6 +31,10 @@ impl Plan {
     pub const POLYGONS: u16 = 12;
     // the stands of one call (document 02, A1)
     pub const MOST_STANDS: usize = 32;
+    // a stated reach, in millimetres (document 02, A5)
+    pub const LEAST_REACH: u64 = 1;
+
+    pub const MOST_REACH: u64 = 262144;
     // coordinates go from −COORDINATE to COORDINATE
     pub const COORDINATE: i32 = 536870912;
     // the neighbour of a side that is wall
@@ -71,6 +75,7 @@ pub enum Refusal {
     Room,
     Change,
     Rows,
+    Reach,
 }
 
 pub enum Checked {

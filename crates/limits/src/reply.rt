@@ -1,4 +1,4 @@
-// Document 01's number and place of each refusal ("Reply numbers").
+// The number and place of each refusal (document 01, "Reply numbers"; document 02).
 ghost use mathlib.Core.Path.{_≡_};
 ghost use Rattle.limits.specs.Reply.{number as Reply·number, place as Reply·place};
 use crate::Refusal;
@@ -20,6 +20,7 @@ pub fn number(r: Refusal) -> u64
         Refusal::Room => 11,
         Refusal::Change => 12,
         Refusal::Rows => 13,
+        Refusal::Reach => 15,
     }
 }
 
@@ -40,5 +41,6 @@ pub fn place(r: Refusal) -> u64
         Refusal::Room => 0,
         Refusal::Change => 0,
         Refusal::Rows => 0,
+        Refusal::Reach => 0,
     }
 }

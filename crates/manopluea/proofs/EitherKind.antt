@@ -19,12 +19,15 @@ use Rattle.cells.proofs.Cuts.{triangles-in-either-kind, same-tables-in-either-k
 use Rattle.stand.specs.Find.{with-plan, found}
 use Rattle.stand.specs.declared.spot.Stand.{Stand}
 use Rattle.sight.specs.Listing.{view-of-plan, viewed, listed-from, listed}
+use Rattle.reach.specs.Reach.{range}
+use Rattle.sight.specs.declared.view.Query.{Query}
 use Rattle.sight.specs.declared.view.View.{View}
 use Rattle.sight.specs.declared.list.Listed.{Listed}
 use Rattle.doors.specs.Change.{changed-from, changed}
 use Rattle.setting.specs.Setting.{wrong-setting}
 use Rattle.grant.specs.Asked.{too-many, no-room, then-asked, asked}
-use Rattle.morning.specs.Morning.{single, stands-from, listed-stands}
+use Rattle.morning.specs.declared.Morning.{Morning}
+use Rattle.morning.specs.Morning.{query-of, single, stands-from, listed-stands}
 
 -- two lists of cells, each in its kind, that are the same cells and are framed alike
 module _ (k l : ℕ) (ts us : List ℕ) (cells : cells-of k ts ≡ cells-of l us) (alike : (cs : List ℤ) → framed k cs ts ≡ framed l cs us) where
@@ -36,37 +39,37 @@ module _ (k l : ℕ) (ts us : List ℕ) (cells : cells-of k ts ≡ cells-of l us
   unfolding found
   same-finding cs ds w s = ap₂ (λ (T : Cells) (r : Checked). with-plan cs T ds w s r) cells (same-check cs ds)
 
-  same-view : (cs : List ℤ) (ds : List ℕ) (w : ℕ) (s : Stand) → viewed k cs ts ds w s ≡ viewed l cs us ds w s
+  same-view : (cs : List ℤ) (ds : List ℕ) (a : Query) → viewed k cs ts ds a ≡ viewed l cs us ds a
   unfolding viewed
-  same-view cs ds w s = ap₂ (λ (T : Cells) (r : Checked). view-of-plan cs T ds w s r) cells (same-check cs ds)
+  same-view cs ds a = ap₂ (λ (T : Cells) (r : Checked). view-of-plan cs T ds a r) cells (same-check cs ds)
 
-  same-listing : (cs : List ℤ) (ds : List ℕ) (w : ℕ) (s : Stand) (table : List ℕ) → listed k cs ts ds w s table ≡ listed l cs us ds w s table
+  same-listing : (cs : List ℤ) (ds : List ℕ) (a : Query) (table : List ℕ) → listed k cs ts ds a table ≡ listed l cs us ds a table
   unfolding listed
-  same-listing cs ds w s table = ap₂ (λ (T : Cells) (v : View). listed-from cs T ds w table v) cells (same-view cs ds w s)
+  same-listing cs ds a table = ap₂ (λ (T : Cells) (v : View). listed-from cs T ds (a .setting) (range (a .reach)) table v) cells (same-view cs ds a)
 
-  same-change : (cs : List ℤ) (ds : List ℕ) (w : ℕ) (s : Stand) (given : List ℕ) (i : ℕ) (b : Bool) (table : List ℕ) → changed k cs ts ds w s given i b table ≡ changed l cs us ds w s given i b table
+  same-change : (cs : List ℤ) (ds : List ℕ) (a : Query) (given : List ℕ) (i : ℕ) (b : Bool) (table : List ℕ) → changed k cs ts ds a given i b table ≡ changed l cs us ds a given i b table
   unfolding changed
-  same-change cs ds w s given i b table = ap₂ (λ (T : Cells) (v : View). changed-from cs T ds w given i b table v) cells (same-view cs ds w s)
+  same-change cs ds a given i b table = ap₂ (λ (T : Cells) (v : View). changed-from cs T ds (a .setting) (range (a .reach)) given i b table v) cells (same-view cs ds a)
 
   same-asking : (cs : List ℤ) (ds : List ℕ) (w n room places : ℕ) → asked k cs ts ds w n room places ≡ asked l cs us ds w n room places
   unfolding asked
   same-asking cs ds w n room places =
       ap₂ (λ (b : Bool) (r : Checked). refuse-if (ltb most-stands n) (too-many b) (then-asked r (λ p. refuse-if (wrong-setting w (length ds)) Setting (refuse-if (no-room (corner-count cs) n room places) Room (Accepted p))))) (alike cs) (same-check cs ds)
 
-  same-morning : (cs : List ℤ) (ds : List ℕ) (w : ℕ) (stands : List Stand) (n : ℕ) (table replies : List ℕ) → listed-stands k cs ts ds w stands n table replies ≡ listed-stands l cs us ds w stands n table replies
+  same-morning : (cs : List ℤ) (ds : List ℕ) (m : Morning) (stands : List Stand) (table replies : List ℕ) → listed-stands k cs ts ds m stands table replies ≡ listed-stands l cs us ds m stands table replies
   unfolding listed-stands single
-  same-morning cs ds w stands n table replies =
-      ap₂ (λ (listing : Stand → Listed × List ℕ) (r : Checked). stands-from listing (take n stands) table replies r)
-      (fun-ext (λ s. same-listing cs ds w s (replicate (3 * corner-count cs) 0)))
-      (same-asking cs ds w n (length table) (length replies))
+  same-morning cs ds m stands table replies =
+      ap₂ (λ (listing : Stand → Listed × List ℕ) (r : Checked). stands-from listing (take (m .count) stands) table replies r)
+      (fun-ext (λ s. same-listing cs ds (query-of m s) (replicate (4 * corner-count cs) 0)))
+      (same-asking cs ds (m .setting) (m .count) (length table) (length replies))
 
 -- the same answers to every call that takes the lists of a plan
 pub record SameAnswers (ts us : List ℕ) : Type 0 where
   pub check : (cs : List ℤ) (ds : List ℕ) → checked triangles cs ts ds ≡ checked polygons cs us ds
   pub find : (cs : List ℤ) (ds : List ℕ) (w : ℕ) (s : Stand) → found triangles cs ts ds w s ≡ found polygons cs us ds w s
-  pub list : (cs : List ℤ) (ds : List ℕ) (w : ℕ) (s : Stand) (table : List ℕ) → listed triangles cs ts ds w s table ≡ listed polygons cs us ds w s table
-  pub change : (cs : List ℤ) (ds : List ℕ) (w : ℕ) (s : Stand) (given : List ℕ) (i : ℕ) (b : Bool) (table : List ℕ) → changed triangles cs ts ds w s given i b table ≡ changed polygons cs us ds w s given i b table
-  pub list-stands : (cs : List ℤ) (ds : List ℕ) (w : ℕ) (stands : List Stand) (n : ℕ) (table replies : List ℕ) → listed-stands triangles cs ts ds w stands n table replies ≡ listed-stands polygons cs us ds w stands n table replies
+  pub list : (cs : List ℤ) (ds : List ℕ) (a : Query) (table : List ℕ) → listed triangles cs ts ds a table ≡ listed polygons cs us ds a table
+  pub change : (cs : List ℤ) (ds : List ℕ) (a : Query) (given : List ℕ) (i : ℕ) (b : Bool) (table : List ℕ) → changed triangles cs ts ds a given i b table ≡ changed polygons cs us ds a given i b table
+  pub list-stands : (cs : List ℤ) (ds : List ℕ) (m : Morning) (stands : List Stand) (table replies : List ℕ) → listed-stands triangles cs ts ds m stands table replies ≡ listed-stands polygons cs us ds m stands table replies
 
 -- the same frame
 framed-alike : (ts : List ℕ) (cells : List Cell) → cut triangles ts ≡ whole cells → (cs : List ℤ) → framed triangles cs ts ≡ framed polygons cs (as-polygons cells)

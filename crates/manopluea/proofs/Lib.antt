@@ -2,6 +2,8 @@
 pub mod Replies
 -- the three demands, of the calls' definitions and from the input alone
 pub mod Demands
+-- a longer reach only refines, and without one the rows are document 01's with 0 after each (document 02, A5)
+pub mod WithinReach
 -- several stands in one call are single calls, so demand 2 holds for each of them
 pub mod Together
 -- a promise said twice: of the answer, and in document 01's numbers
@@ -10,6 +12,8 @@ pub mod Numbered
 pub mod Cases
 -- the door change, computed on plan Q
 pub mod ChangesOfQ
+-- a stated reach, computed on plan Q
+pub mod ReachOfQ
 -- several stands in one call, computed on plan Q
 pub mod MorningOfQ
 -- wrong versions break the demand that document 01 names

@@ -15,7 +15,7 @@ use Rattle.cells.specs.Check.{framed, first-wrong-corner, first-wrong-cell, fir
 use Rattle.limits.specs.Reply.{Reply, number, place, checked-reply}
 use Rattle.limits.specs.declared.Plan.{Plan}
 use Rattle.limits.specs.declared.Refusal.{Refusal}
-use Rattle.limits.specs.declared.Refusal.the-variants.{Frame, Size, Corner, Cell, Neighbour, Door, Setting, Stand as NoStand, Line, Outside, Room, Change, Rows}
+use Rattle.limits.specs.declared.Refusal.the-variants.{Frame, Size, Corner, Cell, Neighbour, Door, Setting, Stand as NoStand, Line, Outside, Room, Change, Rows, Reach as NoReach}
 use Rattle.limits.specs.declared.Checked.{Checked}
 use Rattle.limits.specs.declared.Checked.the-variants as C
 use Rattle.setting.specs.Setting.{wrong-setting}
@@ -33,16 +33,20 @@ use Rattle.stand.specs.declared.locate.Footing.{Footing}
 use Rattle.stand.specs.declared.locate.Footing.the-variants.{Inside, Side}
 use Rattle.stand.specs.declared.locate.Found.{Found}
 use Rattle.stand.specs.declared.locate.Found.the-variants as F
+use Rattle.reach.specs.Reach.{range, wrong-reach}
+use Rattle.reach.specs.declared.Reach.{Reach}
 use Rattle.sight.specs.Listing.{unless, view-of-place, view-of-spot, view-of-plan, viewed, refuse, no-room, rows-from, listing-numbers, listing-row-count, listing-crossings, listed-from, listed}
 use Rattle.sight.specs.Reply.{listed-reply}
+use Rattle.sight.specs.declared.view.Query.{Query}
 use Rattle.sight.specs.declared.view.View.{View}
 use Rattle.sight.specs.declared.view.View.the-variants as O
 use Rattle.sight.specs.declared.list.Listed.{Listed}
 use Rattle.sight.specs.declared.list.Listed.the-variants as L
 use Rattle.doors.specs.Change.{same-list, no-change, wished, underfoot, changed-from, changed}
 use Rattle.grant.specs.Asked.{too-many, no-room as no-room-for-all, then-asked, asked}
+use Rattle.morning.specs.declared.Morning.{Morning}
 use Rattle.morning.specs.Morning.{single, stands-from, listed-stands}
-use Rattle.manopluea.specs.Conditions.{Condition, when, lowest, CheckAnswers, ReadAnswers, WriteAnswers, FindAnswers, ListAnswers, ChangeAnswers, ListStandsAnswers, plan-conditions, plan-conditions-with, read-conditions, inside-some, within-some, on-some-border, stand-conditions-with, stand-conditions, door-underfoot, place-of, true-numbers}
+use Rattle.manopluea.specs.Conditions.{Condition, when, lowest, CheckAnswers, ReadAnswers, WriteAnswers, FindAnswers, ListAnswers, ChangeAnswers, ListStandsAnswers, plan-conditions, plan-conditions-with, read-conditions, inside-some, within-some, on-some-border, place-conditions, stand-conditions, query-conditions-with, query-conditions, door-underfoot, place-of, true-numbers}
 
 -- what an answer tells in numbers
 abbrev pub told : Reply → ℕ × ℕ
@@ -53,7 +57,7 @@ told r = (r .number, r .place)
 -- the refusal with this number and place
 refusal-of : ℕ → ℕ → Refusal
 refusal-of n p =
-    getD (Frame ∷ Frame ∷ Size ∷ Corner p ∷ Cell p ∷ Neighbour p ∷ Door p ∷ Setting ∷ NoStand ∷ Line ∷ Outside ∷ Room ∷ Change ∷ Rows ∷ []) n Frame
+    getD (Frame ∷ Frame ∷ Size ∷ Corner p ∷ Cell p ∷ Neighbour p ∷ Door p ∷ Setting ∷ NoStand ∷ Line ∷ Outside ∷ Room ∷ Change ∷ Rows ∷ Frame ∷ NoReach ∷ []) n Frame
 
 number-tells : (r : Refusal) → refusal-of (number r) (place r) ≡ r
 unfolding refusal-of
@@ -70,6 +74,7 @@ number-tells Outside = refl
 number-tells Room = refl
 number-tells Change = refl
 number-tells Rows = refl
+number-tells NoReach = refl
 
 -- what has the same number and place is the same refusal
 pub numbers-tell-refusals-apart : (r s : Refusal) → number r ≡ number s → place r ≡ place s → r ≡ s
@@ -214,39 +219,53 @@ module _ (f : View → ℕ × ℕ) (as-refused : (r : Refusal) → f (O.Refused 
   refused-unless true r v more e = as-refused r
   refused-unless false r v more e = e
 
-  by-view : (kind : ℕ) (cs : List ℤ) (ts ds : List ℕ) (w : ℕ) (s : Stand) (more : List Condition) → f (view-of-spot cs (cells-of kind ts) ds w (stood cs s)) ≡ lowest more → f (viewed kind cs ts ds w s) ≡ lowest (plan-conditions kind cs ts ds ++ (when 7 (wrong-setting w (length ds)) 0 ∷ more))
+  by-view : (kind : ℕ) (cs : List ℤ) (ts ds : List ℕ) (a : Query) (more : List Condition) → f (view-of-spot cs (cells-of kind ts) ds (a .setting) (a .reach) (stood cs (a .stand))) ≡ lowest more → f (viewed kind cs ts ds a) ≡ lowest (plan-conditions kind cs ts ds ++ (when 7 (wrong-setting (a .setting) (length ds)) 0 ∷ more))
   unfolding viewed
-  by-view kind cs ts ds w s more e =
-      by-plan (λ k. f (view-of-plan cs (cells-of kind ts) ds w s k)) as-refused kind cs ts ds _
-      (refused-unless (wrong-setting w (length ds)) Setting (view-of-spot cs (cells-of kind ts) ds w (stood cs s)) more e)
+  by-view kind cs ts ds a more e =
+      by-plan (λ k. f (view-of-plan cs (cells-of kind ts) ds a k)) as-refused kind cs ts ds _
+      (refused-unless (wrong-setting (a .setting) (length ds)) Setting (view-of-spot cs (cells-of kind ts) ds (a .setting) (a .reach) (stood cs (a .stand))) more e)
 
 -- the listing of a stand on an accepted plan, under a right setting
-pub list-by-stand : (cs : List ℤ) (T : Cells) (ds : List ℕ) (w : ℕ) (table : List ℕ) (spot : Spot) → told (listed-reply (listed-from cs T ds w table (view-of-spot cs T ds w spot) .0)) ≡ lowest (stand-conditions cs T ds w spot ++ (when 11 (ltb (length table) (3 * corner-count cs)) 0 ∷ []))
+pub list-by-stand : (cs : List ℤ) (T : Cells) (ds : List ℕ) (w : ℕ) (reach : Reach) (table : List ℕ) (spot : Spot) → told (listed-reply (listed-from cs T ds w (range reach) table (view-of-spot cs T ds w reach spot) .0)) ≡ lowest (query-conditions cs T ds w reach spot ++ (when 11 (ltb (length table) (4 * corner-count cs)) 0 ∷ []))
 unfolding lowest located no-room
-list-by-stand cs T ds w table (S.At x y) =
-    let q : Point = record { x = x; y = y } in
-    let p = place-of (inside-some cs T q) (first-inside cs T q) (side-at T (first-within cs T ds w q)) in
-    by-place (λ g. told (listed-reply (listed-from cs T ds w table (view-of-place x y g) .0))) (λ r. refl) (inside-some cs T q) (within-some cs T ds w q) (on-some-border cs T q) (first-inside cs T q) (side-at T (first-within cs T ds w q)) (when 11 (ltb (length table) (3 * corner-count cs)) 0 ∷ [])
-    (by-room-of (ltb (length table) (3 * corner-count cs)) (listing-row-count cs T ds w q p) (listing-crossings cs T ds w q p) (sets table 0 (listing-numbers cs T ds w q p)))
+list-by-stand cs T ds w reach table (S.At x y) =
+    refused-unless (λ v. told (listed-reply (listed-from cs T ds w R table v .0))) (λ r. refl) (wrong-reach reach) NoReach (view-of-place x y (located cs T ds w q)) (place-conditions false cs T ds w (S.At x y) ++ (when 11 (ltb (length table) (4 * corner-count cs)) 0 ∷ []))
+    (by-place (λ g. told (listed-reply (listed-from cs T ds w R table (view-of-place x y g) .0))) (λ r. refl) (inside-some cs T q) (within-some cs T ds w q) (on-some-border cs T q) (first-inside cs T q) (side-at T (first-within cs T ds w q)) (when 11 (ltb (length table) (4 * corner-count cs)) 0 ∷ [])
+    (by-room-of (ltb (length table) (4 * corner-count cs)) (listing-row-count cs T ds w R q p) (listing-crossings cs T ds w R q p) (sets table 0 (listing-numbers cs T ds w R q p))))
   where
+    q : Point
+    q = record { x = x; y = y }
+
+    R : ℕ
+    R = range reach
+
+    p : Footing
+    p = place-of (inside-some cs T q) (first-inside cs T q) (side-at T (first-within cs T ds w q))
+
     by-room-of : (r : Bool) (n k : ℕ) (new : List ℕ) → told (listed-reply (refuse r Room table (L.Rows n k, new) .0)) ≡ lowest (when 11 r 0 ∷ [])
     by-room-of true n k new = refl
     by-room-of false n k new = refl
-list-by-stand cs T ds w table S.Refused = refl
+list-by-stand cs T ds w reach table S.Refused = refl
 
-pub list-answers : (kind : ℕ) (cs : List ℤ) (ts ds : List ℕ) (w : ℕ) (s : Stand) (table : List ℕ) → ListAnswers kind cs ts ds w s table
+pub list-answers : (kind : ℕ) (cs : List ℤ) (ts ds : List ℕ) (a : Query) (table : List ℕ) → ListAnswers kind cs ts ds a table
 unfolding listed lowest
-list-answers kind cs ts ds w s table =
+list-answers kind cs ts ds a table =
     record {
       of-the-paper = refl;
-      exact = by-view (λ v. told (listed-reply (listed-from cs (cells-of kind ts) ds w table v .0))) (λ r. refl) kind cs ts ds w s (stand-conditions cs (cells-of kind ts) ds w (stood cs s) ++ (when 11 (ltb (length table) (3 * corner-count cs)) 0 ∷ [])) (list-by-stand cs (cells-of kind ts) ds w table (stood cs s));
-      kept = alone (viewed kind cs ts ds w s);
+      exact = by-view (λ v. told (listed-reply (listed-from cs (cells-of kind ts) ds (a .setting) (range (a .reach)) table v .0))) (λ r. refl) kind cs ts ds a (query-conditions cs (cells-of kind ts) ds (a .setting) (a .reach) (stood cs (a .stand)) ++ (when 11 (ltb (length table) (4 * corner-count cs)) 0 ∷ [])) (list-by-stand cs (cells-of kind ts) ds (a .setting) (a .reach) table (stood cs (a .stand)));
+      kept = alone (viewed kind cs ts ds a);
     }
   where
-    alone : (v : View) → (listed-reply (listed-from cs (cells-of kind ts) ds w table v .0) .number ≡ 0 → ⊥) → listed-from cs (cells-of kind ts) ds w table v .1 ≡ table
+    from-view : View → Listed × List ℕ
+    from-view = listed-from cs (cells-of kind ts) ds (a .setting) (range (a .reach)) table
+
+    alone : (v : View) → (listed-reply (from-view v .0) .number ≡ 0 → ⊥) → from-view v .1 ≡ table
     alone (O.From x y p) = by-test (no-room cs table)
       where
-        by-test : (r : Bool) → (listed-reply (refuse r Room table (rows-from cs (cells-of kind ts) ds w table (record { x = x; y = y }) p) .0) .number ≡ 0 → ⊥) → refuse r Room table (rows-from cs (cells-of kind ts) ds w table (record { x = x; y = y }) p) .1 ≡ table
+        there : Listed × List ℕ
+        there = rows-from cs (cells-of kind ts) ds (a .setting) (range (a .reach)) table (record { x = x; y = y }) p
+
+        by-test : (r : Bool) → (listed-reply (refuse r Room table there .0) .number ≡ 0 → ⊥) → refuse r Room table there .1 ≡ table
         by-test true h = refl
         by-test false h = absurd (h refl)
     alone (O.Refused r) = λ h. refl
@@ -270,27 +289,34 @@ kept-by-tests table n k new false false true v h = refl
 kept-by-tests table n k new false false false true h = refl
 kept-by-tests table n k new false false false false h = absurd (h refl)
 
-pub change-answers : (kind : ℕ) (cs : List ℤ) (ts ds : List ℕ) (w : ℕ) (s : Stand) (given : List ℕ) (i : ℕ) (b : Bool) (table : List ℕ) → ChangeAnswers kind cs ts ds w s given i b table
+pub change-answers : (kind : ℕ) (cs : List ℤ) (ts ds : List ℕ) (a : Query) (given : List ℕ) (i : ℕ) (b : Bool) (table : List ℕ) → ChangeAnswers kind cs ts ds a given i b table
 unfolding changed lowest located no-room underfoot
-change-answers kind cs ts ds w s given i b table =
+change-answers kind cs ts ds a given i b table =
     record {
       of-the-paper = refl;
-      exact = by-view (λ v. told (listed-reply (changed-from cs (cells-of kind ts) ds w given i b table v .0))) (λ r. refl) kind cs ts ds w s (conditions (stood cs s)) (by-stand (stood cs s));
-      kept = alone (viewed kind cs ts ds w s);
+      exact = by-view (λ v. told (listed-reply (changed-from cs (cells-of kind ts) ds w R given i b table v .0))) (λ r. refl) kind cs ts ds a (conditions (stood cs (a .stand))) (by-stand (stood cs (a .stand)));
+      kept = alone (viewed kind cs ts ds a);
     }
   where
+    w : ℕ
+    w = a .setting
+
+    R : ℕ
+    R = range (a .reach)
+
     conditions : Spot → List Condition
     conditions spot =
-        stand-conditions-with (door-underfoot cs (cells-of kind ts) ds w i spot) cs (cells-of kind ts) ds w spot
-        ++ (when 11 (ltb (length table) (3 * corner-count cs)) 0 ∷ when 12 (no-change ds w i b) 0 ∷ when 13 (not (same-list given (true-numbers cs (cells-of kind ts) ds w spot))) 0 ∷ [])
+        query-conditions-with (door-underfoot cs (cells-of kind ts) ds w i spot) cs (cells-of kind ts) ds w (a .reach) spot
+        ++ (when 11 (ltb (length table) (4 * corner-count cs)) 0 ∷ when 12 (no-change ds w i b) 0 ∷ when 13 (not (same-list given (true-numbers cs (cells-of kind ts) ds w R spot))) 0 ∷ [])
 
-    by-stand : (spot : Spot) → told (listed-reply (changed-from cs (cells-of kind ts) ds w given i b table (view-of-spot cs (cells-of kind ts) ds w spot) .0)) ≡ lowest (conditions spot)
+    by-stand : (spot : Spot) → told (listed-reply (changed-from cs (cells-of kind ts) ds w R given i b table (view-of-spot cs (cells-of kind ts) ds w (a .reach) spot) .0)) ≡ lowest (conditions spot)
     by-stand (S.At x y) =
-        by-place-with (λ g. told (listed-reply (changed-from cs (cells-of kind ts) ds w given i b table (view-of-place x y g) .0))) (λ r. refl)
+        refused-unless (λ v. told (listed-reply (changed-from cs (cells-of kind ts) ds w R given i b table v .0))) (λ r. refl) (wrong-reach (a .reach)) NoReach (view-of-place x y (located cs (cells-of kind ts) ds w q)) (drop 2 (conditions (S.At x y)))
+        (by-place-with (λ g. told (listed-reply (changed-from cs (cells-of kind ts) ds w R given i b table (view-of-place x y g) .0))) (λ r. refl)
         (inside-some cs (cells-of kind ts) q) (within-some cs (cells-of kind ts) ds w q) (on-some-border cs (cells-of kind ts) q) (ltb i (length ds)) (strictly-within cs (cells-of kind ts) q (getD ds i 0))
         (first-inside cs (cells-of kind ts) q) (side-at (cells-of kind ts) (first-within cs (cells-of kind ts) ds w q)) (after (inside-some cs (cells-of kind ts) q))
         (λ h. subst (λ (t : Bool). said t ≡ lowest (after t)) (sym h) (said-by-tests true false))
-        (λ h. subst (λ (t : Bool). said t ≡ lowest (when 9 (ltb i (length ds) && strictly-within cs (cells-of kind ts) q (getD ds i 0)) 0 ∷ after t)) (sym h) (said-by-tests false (ltb i (length ds) && strictly-within cs (cells-of kind ts) q (getD ds i 0))))
+        (λ h. subst (λ (t : Bool). said t ≡ lowest (when 9 (ltb i (length ds) && strictly-within cs (cells-of kind ts) q (getD ds i 0)) 0 ∷ after t)) (sym h) (said-by-tests false (ltb i (length ds) && strictly-within cs (cells-of kind ts) q (getD ds i 0)))))
       where
         q : Point
         q = record { x = x; y = y }
@@ -299,46 +325,46 @@ change-answers kind cs ts ds w s given i b table =
         there t = place-of t (first-inside cs (cells-of kind ts) (record { x = x; y = y })) (side-at (cells-of kind ts) (first-within cs (cells-of kind ts) ds w (record { x = x; y = y })))
 
         said : Bool → ℕ × ℕ
-        said t = told (listed-reply (changed-from cs (cells-of kind ts) ds w given i b table (O.From x y (there t)) .0))
+        said t = told (listed-reply (changed-from cs (cells-of kind ts) ds w R given i b table (O.From x y (there t)) .0))
 
         after : Bool → List Condition
-        after t = when 11 (ltb (length table) (3 * corner-count cs)) 0 ∷ when 12 (no-change ds w i b) 0 ∷ when 13 (not (same-list given (listing-numbers cs (cells-of kind ts) ds w (record { x = x; y = y }) (there t)))) 0 ∷ []
+        after t = when 11 (ltb (length table) (4 * corner-count cs)) 0 ∷ when 12 (no-change ds w i b) 0 ∷ when 13 (not (same-list given (listing-numbers cs (cells-of kind ts) ds w R (record { x = x; y = y }) (there t)))) 0 ∷ []
 
         new : Bool → List ℕ
-        new t = sets table 0 (listing-numbers cs (cells-of kind ts) ds (wished b w i) (record { x = x; y = y }) (there t))
+        new t = sets table 0 (listing-numbers cs (cells-of kind ts) ds (wished b w i) R (record { x = x; y = y }) (there t))
 
-        said-by-tests : (t u : Bool) → told (listed-reply (tested table (listing-row-count cs (cells-of kind ts) ds (wished b w i) (record { x = x; y = y }) (there t)) (listing-crossings cs (cells-of kind ts) ds (wished b w i) (record { x = x; y = y }) (there t)) (new t) u (ltb (length table) (3 * corner-count cs)) (no-change ds w i b) (not (same-list given (listing-numbers cs (cells-of kind ts) ds w (record { x = x; y = y }) (there t)))) .0)) ≡ lowest (when 9 u 0 ∷ after t)
+        said-by-tests : (t u : Bool) → told (listed-reply (tested table (listing-row-count cs (cells-of kind ts) ds (wished b w i) R (record { x = x; y = y }) (there t)) (listing-crossings cs (cells-of kind ts) ds (wished b w i) R (record { x = x; y = y }) (there t)) (new t) u (ltb (length table) (4 * corner-count cs)) (no-change ds w i b) (not (same-list given (listing-numbers cs (cells-of kind ts) ds w R (record { x = x; y = y }) (there t)))) .0)) ≡ lowest (when 9 u 0 ∷ after t)
         said-by-tests t u =
-            told-by-tests table (listing-row-count cs (cells-of kind ts) ds (wished b w i) (record { x = x; y = y }) (there t)) (listing-crossings cs (cells-of kind ts) ds (wished b w i) (record { x = x; y = y }) (there t)) (new t) u
-            (ltb (length table) (3 * corner-count cs)) (no-change ds w i b) (not (same-list given (listing-numbers cs (cells-of kind ts) ds w (record { x = x; y = y }) (there t))))
+            told-by-tests table (listing-row-count cs (cells-of kind ts) ds (wished b w i) R (record { x = x; y = y }) (there t)) (listing-crossings cs (cells-of kind ts) ds (wished b w i) R (record { x = x; y = y }) (there t)) (new t) u
+            (ltb (length table) (4 * corner-count cs)) (no-change ds w i b) (not (same-list given (listing-numbers cs (cells-of kind ts) ds w R (record { x = x; y = y }) (there t))))
     by-stand S.Refused = refl
 
-    alone : (v : View) → (listed-reply (changed-from cs (cells-of kind ts) ds w given i b table v .0) .number ≡ 0 → ⊥) → changed-from cs (cells-of kind ts) ds w given i b table v .1 ≡ table
+    alone : (v : View) → (listed-reply (changed-from cs (cells-of kind ts) ds w R given i b table v .0) .number ≡ 0 → ⊥) → changed-from cs (cells-of kind ts) ds w R given i b table v .1 ≡ table
     alone (O.From x y p) =
-        kept-by-tests table (listing-row-count cs (cells-of kind ts) ds (wished b w i) (record { x = x; y = y }) p) (listing-crossings cs (cells-of kind ts) ds (wished b w i) (record { x = x; y = y }) p)
-        (sets table 0 (listing-numbers cs (cells-of kind ts) ds (wished b w i) (record { x = x; y = y }) p)) (underfoot cs (cells-of kind ts) ds i (record { x = x; y = y }) p) (no-room cs table) (no-change ds w i b)
-        (not (same-list given (listing-numbers cs (cells-of kind ts) ds w (record { x = x; y = y }) p)))
+        kept-by-tests table (listing-row-count cs (cells-of kind ts) ds (wished b w i) R (record { x = x; y = y }) p) (listing-crossings cs (cells-of kind ts) ds (wished b w i) R (record { x = x; y = y }) p)
+        (sets table 0 (listing-numbers cs (cells-of kind ts) ds (wished b w i) R (record { x = x; y = y }) p)) (underfoot cs (cells-of kind ts) ds i (record { x = x; y = y }) p) (no-room cs table) (no-change ds w i b)
+        (not (same-list given (listing-numbers cs (cells-of kind ts) ds w R (record { x = x; y = y }) p)))
     alone (O.Refused r) = λ h. refl
 
 -- ---- several stands
 
-pub list-stands-answers : (kind : ℕ) (cs : List ℤ) (ts ds : List ℕ) (w : ℕ) (stands : List Stand) (n : ℕ) (table replies : List ℕ) → ListStandsAnswers kind cs ts ds w stands n table replies
+pub list-stands-answers : (kind : ℕ) (cs : List ℤ) (ts ds : List ℕ) (m : Morning) (stands : List Stand) (table replies : List ℕ) → ListStandsAnswers kind cs ts ds m stands table replies
 unfolding asked listed-stands lowest
-list-stands-answers kind cs ts ds w stands n table replies =
+list-stands-answers kind cs ts ds m stands table replies =
     record {
       of-the-paper = refl;
-      exact = by-many (ltb most-stands n);
-      kept = alone (asked kind cs ts ds w n (length table) (length replies));
+      exact = by-many (ltb most-stands (m .count));
+      kept = alone (asked kind cs ts ds (m .setting) (m .count) (length table) (length replies));
     }
   where
     said : Checked → ℕ × ℕ
-    said k = told (listed-reply (stands-from (single kind cs ts ds w) (take n stands) table replies k .0))
+    said k = told (listed-reply (stands-from (single kind cs ts ds m) (take (m .count) stands) table replies k .0))
 
     more : List Condition
-    more = when 7 (wrong-setting w (length ds)) 0 ∷ when 11 (no-room-for-all (corner-count cs) n (length table) (length replies)) 0 ∷ []
+    more = when 7 (wrong-setting (m .setting) (length ds)) 0 ∷ when 11 (no-room-for-all (corner-count cs) (m .count) (length table) (length replies)) 0 ∷ []
 
     further : Plan → Checked
-    further p = refuse-if (wrong-setting w (length ds)) Setting (refuse-if (no-room-for-all (corner-count cs) n (length table) (length replies)) Room (C.Accepted p))
+    further p = refuse-if (wrong-setting (m .setting) (length ds)) Setting (refuse-if (no-room-for-all (corner-count cs) (m .count) (length table) (length replies)) Room (C.Accepted p))
 
     by-frame : (rest : List Condition) (f : Bool) → (number (too-many f), place (too-many f)) ≡ lowest (when 1 (not f) 0 ∷ when 2 true 0 ∷ rest)
     by-frame rest true = refl
@@ -348,11 +374,11 @@ list-stands-answers kind cs ts ds w stands n table replies =
     by-many true = by-frame (drop 2 (plan-conditions kind cs ts ds) ++ more) (framed kind cs ts)
     by-many false =
         let counted : Plan = record { corners = corner-count cs; cells = cell-count (cells-of kind ts); doors = length ds } in
-        let short = no-room-for-all (corner-count cs) n (length table) (length replies) in
+        let short = no-room-for-all (corner-count cs) (m .count) (length table) (length replies) in
         by-plan (λ k. said (then-asked k further)) (λ r. refl) kind cs ts ds more
-        (refused-or said (λ r. refl) (wrong-setting w (length ds)) Setting (refuse-if short Room (C.Accepted counted)) (when 11 short 0 ∷ [])
+        (refused-or said (λ r. refl) (wrong-setting (m .setting) (length ds)) Setting (refuse-if short Room (C.Accepted counted)) (when 11 short 0 ∷ [])
         (refused-or said (λ r. refl) short Room (C.Accepted counted) [] refl))
 
-    alone : (k : Checked) → (listed-reply (stands-from (single kind cs ts ds w) (take n stands) table replies k .0) .number ≡ 0 → ⊥) → stands-from (single kind cs ts ds w) (take n stands) table replies k .1 ≡ (table, replies)
+    alone : (k : Checked) → (listed-reply (stands-from (single kind cs ts ds m) (take (m .count) stands) table replies k .0) .number ≡ 0 → ⊥) → stands-from (single kind cs ts ds m) (take (m .count) stands) table replies k .1 ≡ (table, replies)
     alone (C.Accepted p) h = absurd (h refl)
     alone (C.Refused r) h = refl

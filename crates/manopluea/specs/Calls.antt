@@ -1,4 +1,4 @@
--- What each public call replies, in document 01's numbers ("Reply numbers"): number, place and values, with what stands in the lent memory at exit.
+-- What each public call replies, in numbers (document 01, "Reply numbers"; document 02): number, place and values, with what stands in the lent memory at exit.
 use mathlib.Core.Bool.{Bool}
 use mathlib.Core.List.{List}
 use Prim.Native.Nat.{ℕ}
@@ -10,9 +10,11 @@ use Rattle.planfile.specs.Reply.{read-numbers}
 use Rattle.stand.specs.Find.{found}
 use Rattle.stand.specs.Reply.{found-reply}
 use Rattle.stand.specs.declared.spot.Stand.{Stand}
+use Rattle.sight.specs.declared.view.Query.{Query}
 use Rattle.sight.specs.Listing.{listed}
 use Rattle.sight.specs.Reply.{listed-reply}
 use Rattle.doors.specs.Change.{changed}
+use Rattle.morning.specs.declared.Morning.{Morning}
 use Rattle.morning.specs.Morning.{listed-stands}
 
 -- an answer and lent memory, the answer in numbers. Where a call takes the three lists of a plan, the caller says first which kind the list of cells is in
@@ -31,11 +33,11 @@ write-replies kind cs ts ds file = in-numbers checked-reply (File.written kind c
 abbrev pub find-replies : ℕ → List ℤ → List ℕ → List ℕ → ℕ → Stand → Reply
 find-replies kind cs ts ds w s = found-reply (found kind cs ts ds w s)
 
-abbrev pub list-replies : ℕ → List ℤ → List ℕ → List ℕ → ℕ → Stand → List ℕ → Reply × List ℕ
-list-replies kind cs ts ds w s table = in-numbers listed-reply (listed kind cs ts ds w s table)
+abbrev pub list-replies : ℕ → List ℤ → List ℕ → List ℕ → Query → List ℕ → Reply × List ℕ
+list-replies kind cs ts ds a table = in-numbers listed-reply (listed kind cs ts ds a table)
 
-abbrev pub change-replies : ℕ → List ℤ → List ℕ → List ℕ → ℕ → Stand → List ℕ → ℕ → Bool → List ℕ → Reply × List ℕ
-change-replies kind cs ts ds w s given i b table = in-numbers listed-reply (changed kind cs ts ds w s given i b table)
+abbrev pub change-replies : ℕ → List ℤ → List ℕ → List ℕ → Query → List ℕ → ℕ → Bool → List ℕ → Reply × List ℕ
+change-replies kind cs ts ds a given i b table = in-numbers listed-reply (changed kind cs ts ds a given i b table)
 
-abbrev pub list-stands-replies : ℕ → List ℤ → List ℕ → List ℕ → ℕ → List Stand → ℕ → List ℕ → List ℕ → Reply × (List ℕ × List ℕ)
-list-stands-replies kind cs ts ds w stands n table replies = in-numbers listed-reply (listed-stands kind cs ts ds w stands n table replies)
+abbrev pub list-stands-replies : ℕ → List ℤ → List ℕ → List ℕ → Morning → List Stand → List ℕ → List ℕ → Reply × (List ℕ × List ℕ)
+list-stands-replies kind cs ts ds m stands table replies = in-numbers listed-reply (listed-stands kind cs ts ds m stands table replies)

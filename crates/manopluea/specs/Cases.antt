@@ -1,4 +1,5 @@
--- The twelve measured examples of document 01, cases a to l: plan, stand (as doubles), setting and reply.
+-- The twelve measured examples of document 01, cases a to l: plan, stand (as doubles), setting and reply. No reach is stated, so every row ends in 0 (document 02,
+-- A5).
 use mathlib.Core.List.{List, [], _∷_, _++_}
 use Prim.Native.Nat.{ℕ, _*_}
 use lib.Ieee.{Float, ofBits, binary64}
@@ -10,6 +11,7 @@ use Rattle.limits.specs.Limits.{triangles}
 use Rattle.limits.specs.declared.Refusal.the-variants.{Setting, Stand as NoStand, Line, Outside}
 use Rattle.stand.specs.declared.spot.Stand.{Stand}
 use Rattle.stand.specs.declared.spot.Stand.the-variants.{Point}
+use Rattle.reach.specs.declared.Reach.the-variants.{NotStated}
 use Rattle.sight.specs.Listing.{listed}
 use Rattle.sight.specs.declared.list.Listed.{Listed}
 use Rattle.sight.specs.declared.list.Listed.the-variants.{Rows, Refused}
@@ -66,21 +68,21 @@ on-Q w x y r t = record { corners = corners-of-Q; cells = cells-of-Q; setting = 
 abbrev pub on-Q+ : ℤ → ℤ → Listed → List ℕ → Case
 on-Q+ px py r t = record { corners = corners-of-Q+ px py; cells = cells-of-Q+; setting = 0; stand = Point six three; reply = r; table = t }
 
--- a table of 3·corners old values
+-- a table of 4·corners old values
 abbrev pub untouched : List ℕ
-untouched = replicate 12 old
+untouched = replicate 16 old
 
 -- cases a to l in their order; case h stands in the doorway (document 02, A4)
 abbrev pub cases : List Case
 cases =
-    on-Q 0 six three (Rows 4 1) (0 ∷ 0 ∷ 1 ∷ 1 ∷ 1 ∷ 2 ∷ 4 ∷ 2 ∷ 3 ∷ 5 ∷ 3 ∷ 0 ∷ [])
-    ∷ on-Q 1 six three (Rows 3 0) (0 ∷ 0 ∷ 1 ∷ 1 ∷ 1 ∷ 2 ∷ 2 ∷ 2 ∷ 0 ∷ old ∷ old ∷ old ∷ [])
-    ∷ on-Q 0 three six (Rows 4 1) (0 ∷ 0 ∷ 1 ∷ 1 ∷ 1 ∷ 2 ∷ 4 ∷ 2 ∷ 3 ∷ 5 ∷ 3 ∷ 0 ∷ [])
-    ∷ on-Q+ (pos 0) (pos 20) (Rows 5 2) (0 ∷ 0 ∷ 1 ∷ 1 ∷ 1 ∷ 2 ∷ 7 ∷ 2 ∷ 4 ∷ 8 ∷ 4 ∷ 3 ∷ 5 ∷ 3 ∷ 0 ∷ [])
-    ∷ on-Q+ (negsuc 5) (pos 17) (Rows 4 2) (0 ∷ 0 ∷ 1 ∷ 1 ∷ 1 ∷ 2 ∷ 7 ∷ 2 ∷ 3 ∷ 5 ∷ 3 ∷ 0 ∷ old ∷ old ∷ old ∷ [])
-    ∷ on-Q+ (pos 14) (pos 17) (Rows 4 2) (0 ∷ 0 ∷ 1 ∷ 1 ∷ 1 ∷ 2 ∷ 8 ∷ 2 ∷ 3 ∷ 5 ∷ 3 ∷ 0 ∷ old ∷ old ∷ old ∷ [])
-    ∷ on-Q+ (pos 30) (pos 11) (Rows 4 2) (0 ∷ 0 ∷ 1 ∷ 1 ∷ 1 ∷ 2 ∷ 8 ∷ 2 ∷ 3 ∷ 5 ∷ 3 ∷ 0 ∷ old ∷ old ∷ old ∷ [])
-    ∷ on-Q 0 five five (Rows 4 0) (0 ∷ 0 ∷ 1 ∷ 1 ∷ 1 ∷ 2 ∷ 4 ∷ 2 ∷ 3 ∷ 5 ∷ 3 ∷ 0 ∷ [])
+    on-Q 0 six three (Rows 4 1) (0 ∷ 0 ∷ 1 ∷ 0 ∷ 1 ∷ 1 ∷ 2 ∷ 0 ∷ 4 ∷ 2 ∷ 3 ∷ 0 ∷ 5 ∷ 3 ∷ 0 ∷ 0 ∷ [])
+    ∷ on-Q 1 six three (Rows 3 0) (0 ∷ 0 ∷ 1 ∷ 0 ∷ 1 ∷ 1 ∷ 2 ∷ 0 ∷ 2 ∷ 2 ∷ 0 ∷ 0 ∷ old ∷ old ∷ old ∷ old ∷ [])
+    ∷ on-Q 0 three six (Rows 4 1) (0 ∷ 0 ∷ 1 ∷ 0 ∷ 1 ∷ 1 ∷ 2 ∷ 0 ∷ 4 ∷ 2 ∷ 3 ∷ 0 ∷ 5 ∷ 3 ∷ 0 ∷ 0 ∷ [])
+    ∷ on-Q+ (pos 0) (pos 20) (Rows 5 2) (0 ∷ 0 ∷ 1 ∷ 0 ∷ 1 ∷ 1 ∷ 2 ∷ 0 ∷ 7 ∷ 2 ∷ 4 ∷ 0 ∷ 8 ∷ 4 ∷ 3 ∷ 0 ∷ 5 ∷ 3 ∷ 0 ∷ 0 ∷ [])
+    ∷ on-Q+ (negsuc 5) (pos 17) (Rows 4 2) (0 ∷ 0 ∷ 1 ∷ 0 ∷ 1 ∷ 1 ∷ 2 ∷ 0 ∷ 7 ∷ 2 ∷ 3 ∷ 0 ∷ 5 ∷ 3 ∷ 0 ∷ 0 ∷ old ∷ old ∷ old ∷ old ∷ [])
+    ∷ on-Q+ (pos 14) (pos 17) (Rows 4 2) (0 ∷ 0 ∷ 1 ∷ 0 ∷ 1 ∷ 1 ∷ 2 ∷ 0 ∷ 8 ∷ 2 ∷ 3 ∷ 0 ∷ 5 ∷ 3 ∷ 0 ∷ 0 ∷ old ∷ old ∷ old ∷ old ∷ [])
+    ∷ on-Q+ (pos 30) (pos 11) (Rows 4 2) (0 ∷ 0 ∷ 1 ∷ 0 ∷ 1 ∷ 1 ∷ 2 ∷ 0 ∷ 8 ∷ 2 ∷ 3 ∷ 0 ∷ 5 ∷ 3 ∷ 0 ∷ 0 ∷ old ∷ old ∷ old ∷ old ∷ [])
+    ∷ on-Q 0 five five (Rows 4 0) (0 ∷ 0 ∷ 1 ∷ 0 ∷ 1 ∷ 1 ∷ 2 ∷ 0 ∷ 4 ∷ 2 ∷ 3 ∷ 0 ∷ 5 ∷ 3 ∷ 0 ∷ 0 ∷ [])
     ∷ on-Q 0 eleven five (Refused Outside) untouched
     ∷ on-Q 0 six-and-a-half three (Refused NoStand) untouched
     ∷ on-Q 0 six minus-zero (Refused Line) untouched
@@ -93,7 +95,8 @@ in-the-shut-doorway = on-Q 1 five five (Refused Line) untouched
 
 -- what the listing's definition says of a case, and what document 01 says
 abbrev pub computed : Case → Listed × List ℕ
-computed k = listed triangles (k .corners) (k .cells) doors-of-Q (k .setting) (k .stand) (replicate (3 * corner-count (k .corners)) old)
+computed k =
+    listed triangles (k .corners) (k .cells) doors-of-Q (record { setting = k .setting; stand = k .stand; reach = NotStated }) (replicate (4 * corner-count (k .corners)) old)
 
 abbrev pub stated : Case → Listed × List ℕ
 stated k = (k .reply, k .table)

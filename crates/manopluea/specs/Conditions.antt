@@ -1,5 +1,6 @@
--- Document 01's table of replies ("Reply numbers"), call by call: each number that the paper gives the call, when it applies, and its place. They stand in
--- the order of the numbers, so the first that applies is the lowest. `CheckAnswers` and the like are demand 1 of that call.
+-- The table of replies (document 01, "Reply numbers"; document 02), call by call: each number that the paper gives the call, when it applies, and its place. They
+-- stand in the order in which they are asked: that of the numbers, where 15 goes after 8 and before 9. So the first that applies is the reply. `CheckAnswers` and
+-- the like are demand 1 of that call.
 use mathlib.Core.Bool.{Bool, true, false, not, _&&_, _||_}
 use mathlib.Core.List.{List, [], _∷_, _++_, map}
 use mathlib.Core.Path.{_≡_}
@@ -24,9 +25,13 @@ use Rattle.stand.specs.declared.locate.Footing.the-variants.{Inside}
 use Rattle.stand.specs.declared.spot.Stand.{Stand}
 use Rattle.stand.specs.declared.spot.Spot.{Spot}
 use Rattle.stand.specs.declared.spot.Spot.the-variants.{At, Refused}
+use Rattle.reach.specs.Reach.{range, wrong-reach}
+use Rattle.reach.specs.declared.Reach.{Reach}
+use Rattle.sight.specs.declared.view.Query.{Query}
 use Rattle.sight.specs.Listing.{listing-numbers}
 use Rattle.doors.specs.Change.{same-list, no-change}
 use Rattle.grant.specs.Asked.{no-room}
+use Rattle.morning.specs.declared.Morning.{Morning}
 use Rattle.manopluea.specs.Calls.{check-replies, read-replies, write-replies, find-replies, list-replies, change-replies, list-stands-replies}
 
 pub record Condition : Type 0 where
@@ -37,7 +42,7 @@ pub record Condition : Type 0 where
 abbrev pub when : ℕ → Bool → ℕ → Condition
 when n b p = record { number = n; applies = b; place = p }
 
--- the lowest number that applies, and its place; 0 and 0 where none does
+-- the first number that applies, and its place; 0 and 0 where none does
 unfoldable pub lowest : List Condition → ℕ × ℕ
 lowest [] = (0, 0)
 lowest (c ∷ cs) = elim (c .applies) [ true ↦ (c .number, c .place) | false ↦ lowest cs ]
@@ -121,12 +126,11 @@ off-every-cell cs T ds w (At x y) = nowhere cs T ds w (record { x = x; y = y }) 
 off-every-cell cs T ds w Refused = false
 
 -- with whatever else is LINE for the call
-abbrev pub stand-conditions-with : Bool → List ℤ → Cells → List ℕ → ℕ → Spot → List Condition
-stand-conditions-with on-its-door cs T ds w spot =
-    when 8 (not-accepted spot) 0 ∷ when 9 (on-its-door || on-a-line cs T ds w spot) 0 ∷ when 10 (off-every-cell cs T ds w spot) 0 ∷ []
+abbrev pub place-conditions : Bool → List ℤ → Cells → List ℕ → ℕ → Spot → List Condition
+place-conditions on-its-door cs T ds w spot = when 9 (on-its-door || on-a-line cs T ds w spot) 0 ∷ when 10 (off-every-cell cs T ds w spot) 0 ∷ []
 
 abbrev pub stand-conditions : List ℤ → Cells → List ℕ → ℕ → Spot → List Condition
-stand-conditions = stand-conditions-with false
+stand-conditions cs T ds w spot = when 8 (not-accepted spot) 0 ∷ place-conditions false cs T ds w spot
 
 -- a bit at or above the door count; the stand
 abbrev pub find-conditions : ℕ → List ℤ → List ℕ → List ℕ → ℕ → Stand → List Condition
@@ -139,19 +143,27 @@ FindAnswers kind cs ts ds w s =
 
 -- ---- listing and door change
 
--- a bit at or above the door count; the stand, with whatever else is LINE for the call; a table shorter than 3·corners numbers
-abbrev pub list-conditions-with : Bool → ℕ → List ℤ → List ℕ → List ℕ → ℕ → Stand → ℕ → List Condition
-list-conditions-with on-its-door kind cs ts ds w s room =
-    plan-conditions kind cs ts ds
-    ++ (when 7 (wrong-setting w (length ds)) 0 ∷ stand-conditions-with on-its-door cs (cells-of kind ts) ds w (stood cs s))
-    ++ (when 11 (ltb room (3 * corner-count cs)) 0 ∷ [])
+-- the stand, and a stated number that is no reach (document 02, A5), with whatever else is LINE for the call
+abbrev pub query-conditions-with : Bool → List ℤ → Cells → List ℕ → ℕ → Reach → Spot → List Condition
+query-conditions-with on-its-door cs T ds w reach spot =
+    when 8 (not-accepted spot) 0 ∷ when 15 (wrong-reach reach) 0 ∷ place-conditions on-its-door cs T ds w spot
 
-abbrev pub list-conditions : ℕ → List ℤ → List ℕ → List ℕ → ℕ → Stand → ℕ → List Condition
+abbrev pub query-conditions : List ℤ → Cells → List ℕ → ℕ → Reach → Spot → List Condition
+query-conditions = query-conditions-with false
+
+-- a bit at or above the door count; the stand and the reach; a table shorter than 4·corners numbers
+abbrev pub list-conditions-with : Bool → ℕ → List ℤ → List ℕ → List ℕ → Query → ℕ → List Condition
+list-conditions-with on-its-door kind cs ts ds a room =
+    plan-conditions kind cs ts ds
+    ++ (when 7 (wrong-setting (a .setting) (length ds)) 0 ∷ query-conditions-with on-its-door cs (cells-of kind ts) ds (a .setting) (a .reach) (stood cs (a .stand)))
+    ++ (when 11 (ltb room (4 * corner-count cs)) 0 ∷ [])
+
+abbrev pub list-conditions : ℕ → List ℤ → List ℕ → List ℕ → Query → ℕ → List Condition
 list-conditions = list-conditions-with false
 
-abbrev pub ListAnswers : ℕ → List ℤ → List ℕ → List ℕ → ℕ → Stand → List ℕ → Type 0
-ListAnswers kind cs ts ds w s table =
-    Answers (1 ∷ 2 ∷ 3 ∷ 4 ∷ 5 ∷ 6 ∷ 7 ∷ 8 ∷ 9 ∷ 10 ∷ 11 ∷ []) (list-conditions kind cs ts ds w s (length table)) (list-replies kind cs ts ds w s table .0) table (list-replies kind cs ts ds w s table .1)
+abbrev pub ListAnswers : ℕ → List ℤ → List ℕ → List ℕ → Query → List ℕ → Type 0
+ListAnswers kind cs ts ds a table =
+    Answers (1 ∷ 2 ∷ 3 ∷ 4 ∷ 5 ∷ 6 ∷ 7 ∷ 8 ∷ 15 ∷ 9 ∷ 10 ∷ 11 ∷ []) (list-conditions kind cs ts ds a (length table)) (list-replies kind cs ts ds a table .0) table (list-replies kind cs ts ds a table .1)
 
 -- the stand is on a side, and the door is there and its line holds the stand strictly within (document 02, A4)
 abbrev pub door-underfoot : List ℤ → Cells → List ℕ → ℕ → ℕ → Spot → Bool
@@ -165,31 +177,32 @@ abbrev pub place-of : Bool → ℕ → Footing → Footing
 place-of true c p = Inside c
 place-of false c p = p
 
--- the true list under the setting, from there
-abbrev pub true-numbers : List ℤ → Cells → List ℕ → ℕ → Spot → List ℕ
-true-numbers cs T ds w (At x y) =
-    listing-numbers cs T ds w (record { x = x; y = y })
+-- the true list under the setting and within the range, from there
+abbrev pub true-numbers : List ℤ → Cells → List ℕ → ℕ → ℕ → Spot → List ℕ
+true-numbers cs T ds w R (At x y) =
+    listing-numbers cs T ds w R (record { x = x; y = y })
     (place-of (inside-some cs T (record { x = x; y = y })) (first-inside cs T (record { x = x; y = y })) (side-at T (first-within cs T ds w (record { x = x; y = y }))))
-true-numbers cs T ds w Refused = []
+true-numbers cs T ds w R Refused = []
 
 -- LINE also for the door underfoot; no such door, or already in that state; the given list differs from the true one
-abbrev pub change-conditions : ℕ → List ℤ → List ℕ → List ℕ → ℕ → Stand → List ℕ → ℕ → Bool → ℕ → List Condition
-change-conditions kind cs ts ds w s given i b room =
-    list-conditions-with (door-underfoot cs (cells-of kind ts) ds w i (stood cs s)) kind cs ts ds w s room
-    ++ (when 12 (no-change ds w i b) 0 ∷ when 13 (not (same-list given (true-numbers cs (cells-of kind ts) ds w (stood cs s)))) 0 ∷ [])
+abbrev pub change-conditions : ℕ → List ℤ → List ℕ → List ℕ → Query → List ℕ → ℕ → Bool → ℕ → List Condition
+change-conditions kind cs ts ds a given i b room =
+    list-conditions-with (door-underfoot cs (cells-of kind ts) ds (a .setting) i (stood cs (a .stand))) kind cs ts ds a room
+    ++ (when 12 (no-change ds (a .setting) i b) 0
+    ∷ when 13 (not (same-list given (true-numbers cs (cells-of kind ts) ds (a .setting) (range (a .reach)) (stood cs (a .stand))))) 0 ∷ [])
 
-abbrev pub ChangeAnswers : ℕ → List ℤ → List ℕ → List ℕ → ℕ → Stand → List ℕ → ℕ → Bool → List ℕ → Type 0
-ChangeAnswers kind cs ts ds w s given i b table =
-    Answers (1 ∷ 2 ∷ 3 ∷ 4 ∷ 5 ∷ 6 ∷ 7 ∷ 8 ∷ 9 ∷ 10 ∷ 11 ∷ 12 ∷ 13 ∷ []) (change-conditions kind cs ts ds w s given i b (length table)) (change-replies kind cs ts ds w s given i b table .0) table (change-replies kind cs ts ds w s given i b table .1)
+abbrev pub ChangeAnswers : ℕ → List ℤ → List ℕ → List ℕ → Query → List ℕ → ℕ → Bool → List ℕ → Type 0
+ChangeAnswers kind cs ts ds a given i b table =
+    Answers (1 ∷ 2 ∷ 3 ∷ 4 ∷ 5 ∷ 6 ∷ 7 ∷ 8 ∷ 15 ∷ 9 ∷ 10 ∷ 11 ∷ 12 ∷ 13 ∷ []) (change-conditions kind cs ts ds a given i b (length table)) (change-replies kind cs ts ds a given i b table .0) table (change-replies kind cs ts ds a given i b table .1)
 
 -- ---- a morning's stands together (document 02, A1)
 
--- SIZE also for more than 32 stands; no stand is looked at; a table below 3·corners·stands numbers, or fewer than 3·stands places for the replies
-abbrev pub list-stands-conditions : ℕ → List ℤ → List ℕ → List ℕ → ℕ → ℕ → ℕ → ℕ → List Condition
-list-stands-conditions kind cs ts ds w n room places =
-    plan-conditions-with (ltb most-stands n) kind cs ts ds
-    ++ (when 7 (wrong-setting w (length ds)) 0 ∷ when 11 (no-room (corner-count cs) n room places) 0 ∷ [])
+-- SIZE also for more than 32 stands; no stand is looked at; a table below 4·corners·stands numbers, or fewer than 3·stands places for the replies
+abbrev pub list-stands-conditions : ℕ → List ℤ → List ℕ → List ℕ → Morning → ℕ → ℕ → List Condition
+list-stands-conditions kind cs ts ds m room places =
+    plan-conditions-with (ltb most-stands (m .count)) kind cs ts ds
+    ++ (when 7 (wrong-setting (m .setting) (length ds)) 0 ∷ when 11 (no-room (corner-count cs) (m .count) room places) 0 ∷ [])
 
-abbrev pub ListStandsAnswers : ℕ → List ℤ → List ℕ → List ℕ → ℕ → List Stand → ℕ → List ℕ → List ℕ → Type 0
-ListStandsAnswers kind cs ts ds w stands n table replies =
-    Answers (1 ∷ 2 ∷ 3 ∷ 4 ∷ 5 ∷ 6 ∷ 7 ∷ 11 ∷ []) (list-stands-conditions kind cs ts ds w n (length table) (length replies)) (list-stands-replies kind cs ts ds w stands n table replies .0) (table, replies) (list-stands-replies kind cs ts ds w stands n table replies .1)
+abbrev pub ListStandsAnswers : ℕ → List ℤ → List ℕ → List ℕ → Morning → List Stand → List ℕ → List ℕ → Type 0
+ListStandsAnswers kind cs ts ds m stands table replies =
+    Answers (1 ∷ 2 ∷ 3 ∷ 4 ∷ 5 ∷ 6 ∷ 7 ∷ 11 ∷ []) (list-stands-conditions kind cs ts ds m (length table) (length replies)) (list-stands-replies kind cs ts ds m stands table replies .0) (table, replies) (list-stands-replies kind cs ts ds m stands table replies .1)

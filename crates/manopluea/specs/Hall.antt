@@ -4,6 +4,8 @@ use mathlib.Core.List.{List, [], _∷_}
 use Prim.Native.Nat.{ℕ}
 use lib.IntN.{ℤ, pos, negsuc}
 use lib.ListN.{replicate}
+use Rattle.reach.specs.declared.Reach.the-variants.{NotStated}
+use Rattle.sight.specs.declared.view.Query.{Query}
 use Rattle.stand.specs.declared.spot.Stand.{Stand}
 use Rattle.stand.specs.declared.spot.Stand.the-variants.{Point}
 use Rattle.manopluea.specs.Cases.{double, five, old}
@@ -27,13 +29,17 @@ doors-of-hall = 10 ∷ []
 abbrev pub stand-in-hall : Stand
 stand-in-hall = Point (double 0) five
 
--- a table of 3·corners old values
+-- what is asked there while the door is open; no reach is stated
+abbrev pub query-in-hall : Query
+query-in-hall = record { setting = 0; stand = Point (double 0) five; reach = NotStated }
+
+-- a table of 4·corners old values
 abbrev pub hall-table : List ℕ
-hall-table = replicate 18 old
+hall-table = replicate 24 old
 
 -- the list with the door open, six crossings, and with it shut, four
 abbrev pub open-hall : List ℕ
-open-hall = 0 ∷ 0 ∷ 1 ∷ 3 ∷ 1 ∷ 3 ∷ 13 ∷ 3 ∷ 5 ∷ 14 ∷ 5 ∷ 2 ∷ 14 ∷ 2 ∷ 4 ∷ 8 ∷ 4 ∷ 0 ∷ []
+open-hall = 0 ∷ 0 ∷ 1 ∷ 0 ∷ 3 ∷ 1 ∷ 3 ∷ 0 ∷ 13 ∷ 3 ∷ 5 ∷ 0 ∷ 14 ∷ 5 ∷ 2 ∷ 0 ∷ 14 ∷ 2 ∷ 4 ∷ 0 ∷ 8 ∷ 4 ∷ 0 ∷ 0 ∷ []
 
 abbrev pub shut-hall : List ℕ
-shut-hall = 0 ∷ 0 ∷ 1 ∷ 3 ∷ 1 ∷ 3 ∷ 10 ∷ 3 ∷ 2 ∷ 10 ∷ 2 ∷ 4 ∷ 8 ∷ 4 ∷ 0 ∷ []
+shut-hall = 0 ∷ 0 ∷ 1 ∷ 0 ∷ 3 ∷ 1 ∷ 3 ∷ 0 ∷ 10 ∷ 3 ∷ 2 ∷ 0 ∷ 10 ∷ 2 ∷ 4 ∷ 0 ∷ 8 ∷ 4 ∷ 0 ∷ 0 ∷ []

@@ -4,6 +4,10 @@ pub mod Calls
 pub mod Conditions
 -- the three demands
 pub mod Demands
+-- a longer reach only refines
+pub mod Longer
+-- no reach stated: document 01's rows, with 0 after each
+pub mod Unlimited
 -- several stands in one call are single calls, one after another
 pub mod Together
 -- the twelve measured examples

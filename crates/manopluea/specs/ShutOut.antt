@@ -7,10 +7,11 @@ use lib.IntN.{ℤ}
 use Rattle.limits.specs.declared.Refusal.the-variants.{Room}
 use Rattle.cells.specs.Lists.{Cells, cell-count, next, start}
 use Rattle.cells.specs.Cut.{cells-of}
-use Rattle.stand.specs.declared.spot.Stand.{Stand}
+use Rattle.reach.specs.Reach.{range}
 use Rattle.fan.specs.Sight.{Floor, Sight, follow, lines-around, unentered, numbers, row-count, crossings}
 use Rattle.fan.specs.Sight.Sight.{row, both, cut}
 use Rattle.sight.specs.Listing.{plan-floor, standing, viewed, refuse, no-room}
+use Rattle.sight.specs.declared.view.Query.{Query}
 use Rattle.sight.specs.declared.view.View.{View}
 use Rattle.sight.specs.declared.view.View.the-variants.{From, Refused}
 use Rattle.sight.specs.declared.list.Listed.{Listed}
@@ -24,8 +25,8 @@ use Rattle.runs.specs.Shutting.{Piece, pieces, is-run, door-row, shut-rows}
 -- lines as walls, free or not: one row each, with the line's two ends as limits
 unfoldable pub as-walls : Cells → List ℕ → Sight
 as-walls T [] = cut
-as-walls T (f ∷ []) = row f (start T f) (start T (next T f))
-as-walls T (f ∷ g ∷ fs) = both (row f (start T f) (start T (next T f))) (as-walls T (g ∷ fs))
+as-walls T (f ∷ []) = row f (start T f) (start T (next T f)) 0
+as-walls T (f ∷ g ∷ fs) = both (row f (start T f) (start T (next T f)) 0) (as-walls T (g ∷ fs))
 
 -- the first line, and the others as walls
 unfoldable pub first-line-alone : Floor → ℕ → Cells → List ℕ → Sight
@@ -35,18 +36,19 @@ first-line-alone F n T (f ∷ fs) = both (follow F n f (start T f) (start T (nex
 abbrev pub sight-listed : Sight → List ℕ → Listed × List ℕ
 sight-listed t table = (L.Rows (row-count t) (crossings t), sets table 0 (numbers t))
 
-abbrev pub first-line-listed-from : List ℤ → Cells → List ℕ → ℕ → List ℕ → View → Listed × List ℕ
-first-line-listed-from cs T ds w table (From x y p) =
+abbrev pub first-line-listed-from : List ℤ → Cells → List ℕ → ℕ → ℕ → List ℕ → View → Listed × List ℕ
+first-line-listed-from cs T ds w R table (From x y p) =
     refuse (no-room cs table) Room table
     (sight-listed
-    (first-line-alone (plan-floor cs T ds w (record { x = x; y = y })) (unentered (cell-count T) (standing T p)) T
-    (lines-around (plan-floor cs T ds w (record { x = x; y = y })) (standing T p)))
+    (first-line-alone (plan-floor cs T ds w R (record { x = x; y = y })) (unentered (cell-count T) (standing T p)) T
+    (lines-around (plan-floor cs T ds w R (record { x = x; y = y })) (standing T p)))
     table)
-first-line-listed-from cs T ds w table (Refused r) = (L.Refused r, table)
+first-line-listed-from cs T ds w R table (Refused r) = (L.Refused r, table)
 
 -- it refuses as the listing does
-abbrev pub other-sides-as-walls : ℕ → List ℤ → List ℕ → List ℕ → ℕ → Stand → List ℕ → Listed × List ℕ
-other-sides-as-walls kind cs ts ds w s table = first-line-listed-from cs (cells-of kind ts) ds w table (viewed kind cs ts ds w s)
+abbrev pub other-sides-as-walls : ℕ → List ℤ → List ℕ → List ℕ → Query → List ℕ → Listed × List ℕ
+other-sides-as-walls kind cs ts ds a table =
+    first-line-listed-from cs (cells-of kind ts) ds (a .setting) (range (a .reach)) table (viewed kind cs ts ds a)
 
 -- ---- shutting a door, on rows with their routes
 
@@ -70,7 +72,7 @@ module _ (f₀ g₀ : ℕ) where
   in-front-of x [] = x ∷ []
   in-front-of x (y ∷ ys) =
       elim (on-door f₀ g₀ x && on-door f₀ g₀ y) [
-        | true ↦ record { row = record { face = x .row .face; right = x .row .right; left = y .row .left }; route = x .route } ∷ ys
+        | true ↦ record { row = record { face = x .row .face; right = x .row .right; left = y .row .left; far = x .row .far }; route = x .route } ∷ ys
         | false ↦ x ∷ y ∷ ys
       ]
 

@@ -1,15 +1,16 @@
-// Manopluea: the public calls, and all that a client needs to read (document 01).
+// Manopluea: the public calls, and all that a client needs to read (documents 01 and 02).
 //
 // A plan is three lists of whole numbers: corners x, y, x, y, .. in millimetres; cells; doors, a face number each. The list of cells is of kind 2, cells of
 // three corner numbers and three neighbours (65535 is wall), or of kind 12, in which each cell of 3 to 8 corners has its corner count before it (document
 // 02, A14): the caller says which. Faces are numbered in the order of the list: the sides of the first cell, then those of the second, and so on; for
-// kind 2 that is 3·cell + side. In a door setting bit i is one while door i is shut.
+// kind 2 that is 3·cell + side. In a door setting bit i is one while door i is shut. What is asked of a plan comes in one struct, `Query`: door setting, stand
+// and reach, which is stated or not; `Morning` has what several stands share.
 //
 // Every call takes every input and has no `requires`. Its promise is one equation, said twice: the answer, with what stands in the lent memory at exit,
-// is a definition of the input and of what stood there at entry; and so are document 01's reply number, place and values (`checked-reply`,
+// is a definition of the input and of what stood there at entry; and so are the paper's reply number, place and values (`checked-reply`,
 // `found-reply`, `listed-reply` give them for each case of an answer). Where a call is refused, every lent table, list and file keeps its contents; on
-// 0, what lies beyond what was written does. The lowest number that applies is the reply. docs/PROMISES.md says what determines each part,
-// docs/THEOREMS.md what is proved of the definitions, the three demands first (proofs/Demands.antt).
+// 0, what lies beyond what was written does. The lowest number that applies is the reply, where REACH goes after STAND and before LINE. docs/PROMISES.md says
+// what determines each part, docs/THEOREMS.md what is proved of the definitions, the three demands first (proofs/Demands.antt).
 ghost use mathlib.Core.Path.{_≡_};
 ghost use Rattle.cells.specs.Check.{checked};
 ghost use Rattle.planfile.specs.Calls.{written, read as Calls·read};
@@ -25,13 +26,16 @@ ghost use Rattle.manopluea.specs.Calls.{check-replies, read-replies, wri
 pub use limits::Checked;
 pub use limits::Plan;
 pub use limits::Refusal;
+pub use morning::Morning;
 pub use planfile::ReadPlan;
+pub use reach::Reach;
 pub use sight::list::Listed;
+pub use sight::view::Query;
 pub use stand::locate::Footing;
 pub use stand::locate::Found;
 pub use stand::spot::Stand;
 
-// What a call is told beside its lists: so far which kind the list of cells is in, 2 or 12; every other number is FRAME. Later requests add to it.
+// What a call is told of its lists: which kind the list of cells is in, 2 or 12; every other number is FRAME.
 pub struct Terms {
     pub kind: u16,
 }
@@ -90,85 +94,65 @@ pub fn find(
     find::find(corners, cells, doors, kind, setting, stand)
 }
 
-// The listing: the walls seen from a stand under a door setting, three numbers a row (face on the side seen, right limit, left limit), in the order of
-// the expansion. From a stand strictly within a free side, its cell's other sides are expanded in order after it, then the neighbour's; the line that it
-// stands on is not crossed. Replies row count and crossings; else 1 to 6, SETTING, STAND, LINE, OUTSIDE, or ROOM for a table below 3·corners numbers.
+// The listing: the walls seen from a stand under a door setting, four numbers a row (face on the side seen, right limit, left limit, and 0 in reach or 1
+// out of reach), in the order of the expansion. From a stand strictly within a free side, its cell's other sides are expanded in order after it, then the
+// neighbour's; the line that it stands on is not crossed. Where a reach is stated, a free line out of reach is not crossed and gives a row too (document
+// 02, A5): a line is in reach when some point of the whole of it is, seen or not. Replies row count and crossings; else 1 to 6, SETTING, STAND, REACH for a
+// stated number that is not 1 to 262,144, LINE, OUTSIDE, or ROOM for a table below 4·corners numbers.
 pub fn list(
     corners: &[i32],
     cells: &[u16],
     doors: &[u16],
     terms: Terms,
-    setting: u64,
-    stand: Stand,
+    query: Query,
     table: &mut [u16],
 ) -> Listed
-    ensures answer { λ r. ⌜ (r, now (table .exit)) ≡ listed (terms .kind) (now (corners .entry)) (now (cells .entry)) (now (doors .entry)) setting stand (now (table .entry)) ⌝ }
-    ensures numbers { λ r. ⌜ (listed-reply r, now (table .exit)) ≡ list-replies (terms .kind) (now (corners .entry)) (now (cells .entry)) (now (doors .entry)) setting stand (now (table .entry)) ⌝ }
+    ensures answer { λ r. ⌜ (r, now (table .exit)) ≡ listed (terms .kind) (now (corners .entry)) (now (cells .entry)) (now (doors .entry)) query (now (table .entry)) ⌝ }
+    ensures numbers { λ r. ⌜ (listed-reply r, now (table .exit)) ≡ list-replies (terms .kind) (now (corners .entry)) (now (cells .entry)) (now (doors .entry)) query (now (table .entry)) ⌝ }
 {
     let kind = terms.kind;
-    sight::list::list(corners, cells, doors, kind, setting, stand, table)
+    sight::list::list(corners, cells, doors, kind, query, table)
 }
 
-// The door change: from the true list under the old setting, the list and crossings with one door shut or opened. Refuses as the listing does, with LINE
-// also, for a stand on a side, where the door's line holds it strictly within; then CHANGE where there is no such door or it is already in that state, and ROWS where the given list is not the true one.
+// The door change: from the true list under the old setting, the list and crossings with one door shut or opened, within the same reach. A door out of reach
+// keeps its row, shut or open. Refuses as the listing does, with LINE also, for a stand on a side, where the door's line holds it strictly within; then
+// CHANGE where there is no such door or it is already in that state, and ROWS where the given list is not the true one.
 pub fn change(
     corners: &[i32],
     cells: &[u16],
     doors: &[u16],
     terms: Terms,
-    setting: u64,
-    stand: Stand,
+    query: Query,
     given: &[u16],
     door: usize,
     shut: bool,
     table: &mut [u16],
 ) -> Listed
-    ensures answer { λ r. ⌜ (r, now (table .exit)) ≡ changed (terms .kind) (now (corners .entry)) (now (cells .entry)) (now (doors .entry)) setting stand (now (given .entry)) door shut (now (table .entry)) ⌝ }
-    ensures numbers { λ r. ⌜ (listed-reply r, now (table .exit)) ≡ change-replies (terms .kind) (now (corners .entry)) (now (cells .entry)) (now (doors .entry)) setting stand (now (given .entry)) door shut (now (table .entry)) ⌝ }
+    ensures answer { λ r. ⌜ (r, now (table .exit)) ≡ changed (terms .kind) (now (corners .entry)) (now (cells .entry)) (now (doors .entry)) query (now (given .entry)) door shut (now (table .entry)) ⌝ }
+    ensures numbers { λ r. ⌜ (listed-reply r, now (table .exit)) ≡ change-replies (terms .kind) (now (corners .entry)) (now (cells .entry)) (now (doors .entry)) query (now (given .entry)) door shut (now (table .entry)) ⌝ }
 {
     let kind = terms.kind;
-    doors::change(
-        corners,
-        cells,
-        doors,
-        kind,
-        setting,
-        stand,
-        given,
-        door,
-        shut,
-        table,
-    )
+    doors::change(corners, cells, doors, kind, query, given, door, shut, table)
 }
 
-// A morning's stands together: the first `count` of the stands, listed one after another in the order given, as `list` lists each of them. The rows
-// stand one behind the other from the beginning of the table, and three numbers a stand (reply number, row count, crossings) from that of the replies;
-// a refused stand has counts 0, writes no row and stops no other. Replies the sums of rows and crossings. Else 1 to 6 (SIZE also for more than 32
-// stands), SETTING, or ROOM for a table below 3·corners·stands numbers or fewer than 3·stands places for the replies, before any stand is looked at.
+// A morning's stands together: as many of the stands as are asked for, listed one after another in the order given, as `list` lists each of them with the
+// one setting and the one reach. The rows stand one behind the other from the beginning of the table, and three numbers a stand (reply number, row count,
+// crossings) from that of the replies; a refused stand has counts 0, writes no row and stops no other. Replies the sums of rows and crossings. Else 1 to 6
+// (SIZE also for more than 32 stands), SETTING, or ROOM for a table below 4·corners·stands numbers or fewer than 3·stands places for the replies, before any
+// stand is looked at.
 pub fn list_stands(
     corners: &[i32],
     cells: &[u16],
     doors: &[u16],
     terms: Terms,
-    setting: u64,
+    morning: Morning,
     stands: [Stand; Plan::MOST_STANDS],
-    count: usize,
     table: &mut [u16],
     replies: &mut [u64],
 ) -> Listed
-    ensures answer { λ r. ⌜ (r, (now (table .exit), now (replies .exit))) ≡ listed-stands (terms .kind) (now (corners .entry)) (now (cells .entry)) (now (doors .entry)) setting stands count (now (table .entry)) (now (replies .entry)) ⌝ }
-    ensures numbers { λ r. ⌜ (listed-reply r, (now (table .exit), now (replies .exit))) ≡ list-stands-replies (terms .kind) (now (corners .entry)) (now (cells .entry)) (now (doors .entry)) setting stands count (now (table .entry)) (now (replies .entry)) ⌝ }
+    ensures answer { λ r. ⌜ (r, (now (table .exit), now (replies .exit))) ≡ listed-stands (terms .kind) (now (corners .entry)) (now (cells .entry)) (now (doors .entry)) morning stands (now (table .entry)) (now (replies .entry)) ⌝ }
+    ensures numbers { λ r. ⌜ (listed-reply r, (now (table .exit), now (replies .exit))) ≡ list-stands-replies (terms .kind) (now (corners .entry)) (now (cells .entry)) (now (doors .entry)) morning stands (now (table .entry)) (now (replies .entry)) ⌝ }
 {
     let kind = terms.kind;
-    morning::list_stands(
-        corners,
-        cells,
-        doors,
-        kind,
-        setting,
-        stands,
-        count,
-        table,
-        replies,
-    )
+    morning::list_stands(corners, cells, doors, kind, morning, stands, table, replies)
 }

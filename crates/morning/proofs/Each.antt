@@ -14,6 +14,7 @@ use Rattle.limits.specs.Limits.{most-corners, most-cells}
 use Rattle.cells.specs.Lists.{Cells, corner-count}
 use Rattle.cells.specs.Sound.{Sound}
 use Rattle.cells.proofs.Plans.{counts}
+use Rattle.reach.specs.declared.Reach.{Reach}
 use Rattle.stand.specs.declared.spot.Stand.{Stand}
 use Rattle.sight.specs.declared.list.Listed.{Listed}
 use Rattle.morning.specs.Morning.{rows-of, crossings-of, three-of, rows-in, one-after-another, in-all, rows-in-all, crossings-in-all, all-rows, all-replies}
@@ -73,8 +74,8 @@ module _ {cs : List ℤ} {listing : Stand → Listed × List ℕ} (small : (s : 
   pub few-crossings-in-all : (ss : List Stand) → crossings-in-all listing ss ≤ most-corners * most-cells * length ss
   few-crossings-in-all = at-most-each (λ s. crossings-of (listing s .0)) (most-corners * most-cells) (λ s. small s .few-crossings)
 
-  pub rows-are-three-numbers : (ss : List Stand) → length (all-rows listing ss) ≡ 3 * rows-in-all listing ss
-  rows-are-three-numbers = long-in-all (λ s. rows-in (listing s)) (λ s. rows-of (listing s .0)) 3 (λ s. small s .three-a-row)
+  pub rows-are-four-numbers : (ss : List Stand) → length (all-rows listing ss) ≡ 4 * rows-in-all listing ss
+  rows-are-four-numbers = long-in-all (λ s. rows-in (listing s)) (λ s. rows-of (listing s .0)) 4 (λ s. small s .four-a-row)
 
 pub replies-are-three-numbers : (listing : Stand → Listed × List ℕ) (ss : List Stand) → length (all-replies listing ss) ≡ 3 * length ss
 replies-are-three-numbers listing ss = long-in-all (λ s. three-of (listing s .0)) (λ s. 1) 3 (λ s. refl) ss ∙ ap (λ (n : ℕ). 3 * n) (one-each ss)
@@ -83,7 +84,7 @@ replies-are-three-numbers listing ss = long-in-all (λ s. three-of (listing s .0
 pub record Next (cs : List ℤ) (i rows crossings : ℕ) (table replies : List ℕ) : Type 0 where
   pub few-rows : rows ≤ most-corners * i
   pub few-crossings : crossings ≤ most-corners * most-cells * i
-  pub room-left : 3 * rows + 3 * corner-count cs ≤ length table
+  pub room-left : 4 * rows + 4 * corner-count cs ≤ length table
   pub places-left : 3 * i + 3 ≤ length replies
 
 module _ (listing : Stand → Listed × List ℕ) (stands : List Stand) where
@@ -116,12 +117,12 @@ module _ {listing : Stand → Listed × List ℕ} {stands : List Stand} {i rows 
 
 -- ---- on an accepted plan: room for n stands is room for stand i
 
-module _ {cs : List ℤ} {T : Cells} {ds : List ℕ} (sound : Sound cs T ds) (w : ℕ) where
+module _ {cs : List ℤ} {T : Cells} {ds : List ℕ} (sound : Sound cs T ds) (w : ℕ) (r : Reach) where
   abbrev listing : Stand → Listed × List ℕ
-  listing = single-on cs T ds w
+  listing = single-on cs T ds w r
 
   small : (s : Stand) → Small cs (listing s)
-  small = single-on-is-small sound w
+  small = single-on-is-small sound w r
 
   few-corners : corner-count cs ≤ most-corners
   few-corners = counts _ _ _ (sound .in-size) .corners-at-most
@@ -136,7 +137,7 @@ module _ {cs : List ℤ} {T : Cells} {ds : List ℕ} (sound : Sound cs T ds) (w 
         let all-crossings-fit = few-crossings-in-all small (take i stands) in
         let rows-so : rows ≤ corner-count cs * i = subst (λ (k : ℕ). rows ≤ corner-count cs * k) taken (omega (arith, so .rows-are)) in
         let stands-fit : corner-count cs * suc i ≤ corner-count cs * n = mul-le-mul (omega arith) below in
-        let room-for-all : 3 * (corner-count cs * n) ≤ length table₀ = subst (λ (k : ℕ). k ≤ length table₀) (mul-assoc 3 (corner-count cs) n) (enough .table-long) in
+        let room-for-all : 4 * (corner-count cs * n) ≤ length table₀ = subst (λ (k : ℕ). k ≤ length table₀) (mul-assoc 4 (corner-count cs) n) (enough .table-long) in
         record {
           few-rows = le-trans rows-so (mul-le-mul few-corners (le-refl i));
           few-crossings = subst (λ (k : ℕ). crossings ≤ most-corners * most-cells * k) taken (omega (arith, so .crossings-are));
@@ -146,10 +147,10 @@ module _ {cs : List ℤ} {T : Cells} {ds : List ℕ} (sound : Sound cs T ds) (w 
 
     -- the table that is left to it
     abbrev part : List ℕ
-    part = take (length table - 3 * rows) (drop (3 * rows) table)
+    part = take (length table - 4 * rows) (drop (4 * rows) table)
 
-    pub part-has-room : 3 * corner-count cs ≤ length part
-    part-has-room = omega (arith, ap length (part-to-end table (3 * rows)), length-drop (3 * rows) table, next .room-left)
+    pub part-has-room : 4 * corner-count cs ≤ length part
+    part-has-room = omega (arith, ap length (part-to-end table (4 * rows)), length-drop (4 * rows) table, next .room-left)
 
     -- after it
     module _ (d : Stand) where
@@ -157,10 +158,10 @@ module _ {cs : List ℤ} {T : Cells} {ds : List ℕ} (sound : Sound cs T ds) (w 
       stand = getD stands i d
 
       abbrev here : Listed × List ℕ
-      here = listed-on cs T ds w stand part
+      here = listed-on cs T ds w r stand part
 
       one : AsSingle cs part (listing stand) here
-      one = listed-on-as-single sound w stand part part-has-room
+      one = listed-on-as-single sound w r stand part part-has-room
 
       one-more-taken : take (i + 1) stands ≡ take i stands ++ (stand ∷ [])
       one-more-taken =
@@ -173,10 +174,10 @@ module _ {cs : List ℤ} {T : Cells} {ds : List ℕ} (sound : Sound cs T ds) (w 
           let k-is : k ≡ crossings-of (listing stand .0) = f ∙ ap crossings-of (one .same-answer) in
           (omega (arith, m-is, one .small .few-rows, few-corners), omega (arith, k-is, one .small .few-crossings))
 
-      pub one-more : {m k : ℕ} {new new-replies : List ℕ} → (m ≡ rows-of (here .0)) × ((k ≡ crossings-of (here .0)) × ((new ≡ here .1) × (new-replies ≡ sets replies (3 * i) (three-of (here .0))))) → SoFar listing stands (i + 1) (rows + m) (crossings + k) table₀ (putMid (3 * rows) (length table - 3 * rows) table new) replies₀ new-replies
+      pub one-more : {m k : ℕ} {new new-replies : List ℕ} → (m ≡ rows-of (here .0)) × ((k ≡ crossings-of (here .0)) × ((new ≡ here .1) × (new-replies ≡ sets replies (3 * i) (three-of (here .0))))) → SoFar listing stands (i + 1) (rows + m) (crossings + k) table₀ (putMid (4 * rows) (length table - 4 * rows) table new) replies₀ new-replies
       one-more {m} {k} {new} {new-replies} h =
           let ss = take i stands in
-          let rows-here : 0 + length (all-rows listing ss) ≡ 3 * rows = omega (arith, rows-are-three-numbers small ss, so .rows-are) in
+          let rows-here : 0 + length (all-rows listing ss) ≡ 4 * rows = omega (arith, rows-are-four-numbers small ss, so .rows-are) in
           let places-here : 0 + length (all-replies listing ss) ≡ 3 * i = omega (arith, replies-are-three-numbers listing ss, taken) in
           let m-is : m ≡ rows-of (listing stand .0) = h .0 ∙ ap rows-of (one .same-answer) in
           let k-is : k ≡ crossings-of (listing stand .0) = h .1 .0 ∙ ap crossings-of (one .same-answer) in
@@ -188,8 +189,8 @@ module _ {cs : List ℤ} {T : Cells} {ds : List ℕ} (sound : Sound cs T ds) (w 
                 omega (arith, so .crossings-are, k-is, with-the-last (λ s. crossings-of (listing s .0)) ss stand)
                 ∙ ap (crossings-in-all listing) (sym one-more-taken);
             table-is =
-                part-put-back table (rows-in (listing stand)) (3 * rows) (omega (arith, next .room-left)) (h .1 .1 .0 ∙ one .same-rows)
-                ∙ ap (λ (t : List ℕ). sets t (3 * rows) (rows-in (listing stand))) (so .table-is)
+                part-put-back table (rows-in (listing stand)) (4 * rows) (omega (arith, next .room-left)) (h .1 .1 .0 ∙ one .same-rows)
+                ∙ ap (λ (t : List ℕ). sets t (4 * rows) (rows-in (listing stand))) (so .table-is)
                 ∙ ap (λ (a : ℕ). sets (sets table₀ 0 (all-rows listing ss)) a (rows-in (listing stand))) (sym rows-here)
                 ∙ sets-append table₀ 0 (all-rows listing ss) (rows-in (listing stand))
                 ∙ ap (sets table₀ 0) (sym (and-the-last (λ s. rows-in (listing s)) ss stand) ∙ ap (all-rows listing) (sym one-more-taken));

@@ -1,7 +1,7 @@
 -- One stand over the lines drawn: what following the lines around it asks, and what is written.
 use mathlib.Core.Bool.{Bool}
 use mathlib.Core.List.{List, [], _∷_}
-use mathlib.Core.Path.{_≡_, refl, sym, ap, _∙_, subst}
+use mathlib.Core.Path.{_≡_, refl, sym, ap, ap₂, _∙_, subst}
 use Prim.Native.Nat.{ℕ, suc, _+_, _*_, _^_, _<_, _≤_}
 use native.Mathlib.Omega.{arith}
 use lib.ListN.{length, set}
@@ -10,20 +10,24 @@ use lib.IntN.{ℤ}
 use mir.Syntax.{w64}
 use mir.Val.{toZ, ofZ}
 use Rattle.plane.specs.Side.{Point, point, Near}
+use Rattle.limits.specs.Limits.{most-reach}
 use Rattle.limits.specs.Reply.{number}
 use Rattle.limits.specs.declared.Refusal.{Refusal}
 use Rattle.limits.specs.declared.Refusal.the-variants.{Room}
 use Rattle.cells.specs.Lists.{Cells, corner-count, face-count}
 use Rattle.cells.specs.Sound.{CornersNear, Numbered, Sound}
+use Rattle.reach.specs.Reach.{range}
+use Rattle.reach.specs.declared.Reach.{Reach}
+use Rattle.reach.proofs.Reaching.{right-reach}
 use Rattle.stand.specs.Spot.{stood}
 use Rattle.stand.specs.declared.spot.Stand.{Stand}
 use Rattle.stand.specs.declared.locate.Footing.{Footing}
 use Rattle.stand.proofs.Finds.{as-read, near-as-read}
 use Rattle.stand.proofs.Located.{Stands, found-place-holds-the-stand}
 use Rattle.fan.specs.Sight.{Sight, numbers, row-count, crossings, Whole}
-use Rattle.expand.specs.Floor.{Lines}
+use Rattle.expand.specs.Floor.{Lines, Starts}
 use Rattle.lines.specs.Lined.{Lined}
-use Rattle.sight.specs.CellTree.{stand-tree, Starts, StandsIn}
+use Rattle.sight.specs.CellTree.{stand-tree, StandsIn}
 use Rattle.sight.specs.Seen.{SeenFrom}
 use Rattle.sight.specs.Listing.{view-of-spot, listing-row-count, listing-crossings, listing-numbers, refuse, rows-from, listed-from}
 use Rattle.sight.specs.declared.view.View.{View}
@@ -51,22 +55,22 @@ abbrev Left : ℕ → List ℕ → ℕ → ℕ → List ℕ → List ℕ → Lis
 Left at old i j new new-replies l =
     (i ≡ rows-of (l .0)) × ((j ≡ crossings-of (l .0)) × ((new ≡ l .1) × (new-replies ≡ sets old at (three-of (l .0)))))
 
-module _ (cs : List ℤ) (T : Cells) (ds : List ℕ) (w : ℕ) (s : Stand) (table : List ℕ) (at : ℕ) (old : List ℕ) where
-  by-view : {i j : ℕ} {new new-replies : List ℕ} {v : View} → view-of-spot cs T ds w (stood cs s) ≡ v → Left at old i j new new-replies (listed-from cs T ds w table v) → Left at old i j new new-replies (listed-on cs T ds w s table)
+module _ (cs : List ℤ) (T : Cells) (ds : List ℕ) (w : ℕ) (r : Reach) (s : Stand) (table : List ℕ) (at : ℕ) (old : List ℕ) where
+  by-view : {i j : ℕ} {new new-replies : List ℕ} {v : View} → view-of-spot cs T ds w r (stood cs s) ≡ v → Left at old i j new new-replies (listed-from cs T ds w (range r) table v) → Left at old i j new new-replies (listed-on cs T ds w r s table)
   unfolding listed-on
-  by-view {i} {j} {new} {new-replies} e = subst (λ (v : View). Left at old i j new new-replies (listed-from cs T ds w table v)) (sym e)
+  by-view {i} {j} {new} {new-replies} e = subst (λ (v : View). Left at old i j new new-replies (listed-from cs T ds w (range r) table v)) (sym e)
 
-  pub stand-refused : {r : Refusal} {n : ℕ} {new : List ℕ} → view-of-spot cs T ds w (stood cs s) ≡ O.Refused r → n ≡ number r → new ≡ sets old at (n ∷ 0 ∷ 0 ∷ []) → Left at old 0 0 table new (listed-on cs T ds w s table)
+  pub stand-refused : {x : Refusal} {n : ℕ} {new : List ℕ} → view-of-spot cs T ds w r (stood cs s) ≡ O.Refused x → n ≡ number x → new ≡ sets old at (n ∷ 0 ∷ 0 ∷ []) → Left at old 0 0 table new (listed-on cs T ds w r s table)
   stand-refused view e h = by-view view (refl, (refl, (refl, h ∙ ap (λ (n : ℕ). sets old at (n ∷ 0 ∷ 0 ∷ [])) e)))
 
 -- ---- a stand that is found
 
-module _ {cs : List ℤ} {T : Cells} {ds : List ℕ} (sound : Sound cs T ds) (w : ℕ) (s : Stand) {x y : ℤ} {p : Footing} (view : view-of-spot cs T ds w (stood cs s) ≡ O.From x y p) where
+module _ {cs : List ℤ} {T : Cells} {ds : List ℕ} (sound : Sound cs T ds) (w : ℕ) (r : Reach) (s : Stand) {x y : ℤ} {p : Footing} (view : view-of-spot cs T ds w r (stood cs s) ≡ O.From x y p) where
   abbrev q : Point
   q = seen-from x y
 
-  spot : Spotted cs T ds w s x y p
-  spot = spot-says cs T ds w s view
+  spot : Spotted cs T ds w r s x y p
+  spot = spot-says cs T ds w r s view
 
   read : q ≡ record { x = x; y = y }
   read = as-read (spot .stand-near)
@@ -80,25 +84,26 @@ module _ {cs : List ℤ} {T : Cells} {ds : List ℕ} (sound : Sound cs T ds) (w 
   pub corners-seen-asked : CornersNear cs × Near q
   corners-seen-asked = (sound .corners, near)
 
-  module _ {ls : List ℕ} (lined : Lined T ds w ls) {zs : List ℤ} (seen : SeenFrom cs q zs) (table : List ℕ) (room : 3 * corner-count cs ≤ length table) where
+  -- R is the range as the code has it
+  module _ {R : ℕ} (in-range : R ≡ range r) {ls : List ℕ} (lined : Lined T ds w ls) {zs : List ℤ} (seen : SeenFrom cs q zs) (table : List ℕ) (room : 4 * corner-count cs ≤ length table) where
     abbrev tree : Sight
-    tree = stand-tree zs ls T p
+    tree = stand-tree zs ls T R p
 
-    pub lines-asked : (Lines zs ls × Starts zs ls (T .faces) × Numbered T) × ((StandsIn ls T p × (length ls ≡ 4 * face-count T)) × (Whole tree × ((3 * row-count tree ≤ length table) × (crossings tree < 2 ^ 63))))
+    pub lines-asked : (Lines zs ls × Starts zs ls (T .faces) × (R ≤ most-reach) × Numbered T) × ((StandsIn ls T p × (length ls ≡ 4 * face-count T)) × (Whole tree × ((4 * row-count tree ≤ length table) × (crossings tree < 2 ^ 63))))
     lines-asked = (
-      (lined-is-lines w sound near lined seen, starts-stand w sound near lined seen, sound .numbered),
+      (lined-is-lines w R sound near lined seen, starts-stand w R sound near lined seen, subst (λ (n : ℕ). n ≤ most-reach) (sym in-range) (right-reach r (spot .reach-right)), sound .numbered),
       (
-        (stands-in-the-tables sound w q near lined seen p stands, lined .whole),
-        (tree-is-whole sound w q near lined seen p stands, (tree-has-room sound w q near lined seen p stands (length table) room, few-crossings sound w q near lined seen p stands)),
+        (stands-in-the-tables sound w R q near lined seen p stands, lined .whole),
+        (tree-is-whole sound w R q near lined seen p stands, (tree-has-room sound w R q near lined seen p stands (length table) room, few-crossings sound w R q near lined seen p stands)),
       ),
     )
 
-    pub stand-listed : (at : ℕ) (old : List ℕ) {i j : ℕ} {new new-replies : List ℕ} → (i ≡ row-count tree) × ((j ≡ crossings tree) × (new ≡ sets table 0 (numbers tree))) → new-replies ≡ sets old at (0 ∷ i ∷ j ∷ []) → Left at old i j new new-replies (listed-on cs T ds w s table)
+    pub stand-listed : (at : ℕ) (old : List ℕ) {i j : ℕ} {new new-replies : List ℕ} → (i ≡ row-count tree) × ((j ≡ crossings tree) × (new ≡ sets table 0 (numbers tree))) → new-replies ≡ sets old at (0 ∷ i ∷ j ∷ []) → Left at old i j new new-replies (listed-on cs T ds w r s table)
     stand-listed at old {i} {j} {new} {new-replies} h e =
-        let says = listing-written sound w q near lined seen p stands table h in
-        let rows = says .0 ∙ ap (λ (q : Point). listing-row-count cs T ds w q p) read in
-        let passed = says .1 .0 ∙ ap (λ (q : Point). listing-crossings cs T ds w q p) read in
-        let written = says .1 .1 ∙ ap (λ (q : Point). sets table 0 (listing-numbers cs T ds w q p)) read in
-        by-view cs T ds w s table at old view
-        (subst (λ (b : Bool). Left at old i j new new-replies (refuse b Room table (rows-from cs T ds w table (record { x = x; y = y }) p))) (sym (is-long cs table room))
+        let says = listing-written sound w R q near lined seen p stands table h in
+        let rows = says .0 ∙ ap₂ (λ (R : ℕ) (q : Point). listing-row-count cs T ds w R q p) in-range read in
+        let passed = says .1 .0 ∙ ap₂ (λ (R : ℕ) (q : Point). listing-crossings cs T ds w R q p) in-range read in
+        let written = says .1 .1 ∙ ap₂ (λ (R : ℕ) (q : Point). sets table 0 (listing-numbers cs T ds w R q p)) in-range read in
+        by-view cs T ds w r s table at old view
+        (subst (λ (b : Bool). Left at old i j new new-replies (refuse b Room table (rows-from cs T ds w (range r) table (record { x = x; y = y }) p))) (sym (is-long cs table room))
         (rows, (passed, (written, e ∙ (λ k. sets old at (0 ∷ rows k ∷ passed k ∷ []))))))

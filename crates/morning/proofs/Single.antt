@@ -19,6 +19,8 @@ use Rattle.cells.specs.Check.{checked}
 use Rattle.cells.specs.Sound.{Sound}
 use Rattle.cells.proofs.Accepted.{accepted-is-sound, accepted-doors}
 use Rattle.setting.specs.Setting.{wrong-setting}
+use Rattle.reach.specs.Reach.{range}
+use Rattle.reach.specs.declared.Reach.{Reach}
 use Rattle.stand.specs.Spot.{stood}
 use Rattle.stand.specs.declared.spot.Stand.{Stand}
 use Rattle.stand.proofs.Located.{found-place-holds-the-stand}
@@ -28,15 +30,16 @@ use Rattle.sight.specs.declared.view.View.the-variants as O
 use Rattle.sight.specs.declared.list.Listed.{Listed}
 use Rattle.sight.proofs.Sightings.{rows-never-outnumber-corners, few-crossings}
 use Rattle.sight.proofs.Views.{setting-accepted, spot-says, is-long}
-use Rattle.sight.proofs.Written.{the-numbers-are-three-a-row}
-use Rattle.morning.specs.Morning.{rows-of, crossings-of, rows-in, single}
+use Rattle.sight.proofs.Written.{the-numbers-are-four-a-row}
+use Rattle.morning.specs.declared.Morning.{Morning}
+use Rattle.morning.specs.Morning.{rows-of, crossings-of, rows-in, query-of, single}
 use Rattle.morning.specs.OverLines.{listed-on, single-on}
 
--- a listing of few rows and crossings, that has three numbers a row
+-- a listing of few rows and crossings, that has four numbers a row
 pub record Small (cs : List ℤ) (one : Listed × List ℕ) : Type 0 where
   pub few-rows : rows-of (one .0) ≤ corner-count cs
   pub few-crossings : crossings-of (one .0) ≤ most-corners * most-cells
-  pub three-a-row : length (rows-in one) ≡ 3 * rows-of (one .0)
+  pub four-a-row : length (rows-in one) ≡ 4 * rows-of (one .0)
 
 -- the listing `one` is small, and `other`, written to t, has its answer and its rows
 pub record AsSingle (cs : List ℤ) (t : List ℕ) (one other : Listed × List ℕ) : Type 0 where
@@ -46,52 +49,55 @@ pub record AsSingle (cs : List ℤ) (t : List ℕ) (one other : Listed × List �
 
 -- ---- on a plan that is accepted
 
-module _ {cs : List ℤ} {T : Cells} {ds : List ℕ} (sound : Sound cs T ds) (w : ℕ) (s : Stand) where
-  module _ (t : List ℕ) (room : 3 * corner-count cs ≤ length t) where
+module _ {cs : List ℤ} {T : Cells} {ds : List ℕ} (sound : Sound cs T ds) (w : ℕ) (r : Reach) (s : Stand) where
+  module _ (t : List ℕ) (room : 4 * corner-count cs ≤ length t) where
+    abbrev R : ℕ
+    R = range r
+
     abbrev blank : List ℕ
-    blank = replicate (3 * corner-count cs) 0
+    blank = replicate (4 * corner-count cs) 0
 
-    blank-is-long : length blank ≡ 3 * corner-count cs
-    blank-is-long = length-replicate (3 * corner-count cs) 0
+    blank-is-long : length blank ≡ 4 * corner-count cs
+    blank-is-long = length-replicate (4 * corner-count cs) 0
 
-    by-view : (v : View) → view-of-spot cs T ds w (stood cs s) ≡ v → AsSingle cs t (listed-from cs T ds w blank v) (listed-from cs T ds w t v)
+    by-view : (v : View) → view-of-spot cs T ds w r (stood cs s) ≡ v → AsSingle cs t (listed-from cs T ds w R blank v) (listed-from cs T ds w R t v)
     by-view (O.From x y p) e =
         let q : Point = record { x = x; y = y } in
-        let stands = found-place-holds-the-stand cs (sound .numbered) ds w q (spot-says cs T ds w s e .stand-place) in
-        let few = rows-never-outnumber-corners sound w q p stands in
-        let three = the-numbers-are-three-a-row cs T ds w q p in
-        let new = first-is-new blank (listing-numbers cs T ds w q p) (3 * listing-row-count cs T ds w q p) three (omega (arith, few, blank-is-long)) in
-        subst₂ (λ (a b : Bool). AsSingle cs t (refuse a Room blank (rows-from cs T ds w blank q p)) (refuse b Room t (rows-from cs T ds w t q p))) (sym (is-long cs blank (omega (arith, blank-is-long)))) (sym (is-long cs t room))
+        let stands = found-place-holds-the-stand cs (sound .numbered) ds w q (spot-says cs T ds w r s e .stand-place) in
+        let few = rows-never-outnumber-corners sound w R q p stands in
+        let four = the-numbers-are-four-a-row cs T ds w R q p in
+        let new = first-is-new blank (listing-numbers cs T ds w R q p) (4 * listing-row-count cs T ds w R q p) four (omega (arith, few, blank-is-long)) in
+        subst₂ (λ (a b : Bool). AsSingle cs t (refuse a Room blank (rows-from cs T ds w R blank q p)) (refuse b Room t (rows-from cs T ds w R t q p))) (sym (is-long cs blank (omega (arith, blank-is-long)))) (sym (is-long cs t room))
         (record {
-          small = record { few-rows = few; few-crossings = few-crossings sound w q p stands; three-a-row = ap length new ∙ three };
+          small = record { few-rows = few; few-crossings = few-crossings sound w R q p stands; four-a-row = ap length new ∙ four };
           same-answer = refl;
           same-rows = ap (sets t 0) (sym new);
         })
-    by-view (O.Refused r) e = record { small = record { few-rows = omega arith; few-crossings = omega arith; three-a-row = refl }; same-answer = refl; same-rows = refl }
+    by-view (O.Refused x) e = record { small = record { few-rows = omega arith; few-crossings = omega arith; four-a-row = refl }; same-answer = refl; same-rows = refl }
 
-    pub listed-on-as-single : AsSingle cs t (single-on cs T ds w s) (listed-on cs T ds w s t)
+    pub listed-on-as-single : AsSingle cs t (single-on cs T ds w r s) (listed-on cs T ds w r s t)
     unfolding single-on listed-on
-    listed-on-as-single = by-view (view-of-spot cs T ds w (stood cs s)) refl
+    listed-on-as-single = by-view (view-of-spot cs T ds w r (stood cs s)) refl
 
-  pub single-on-is-small : Small cs (single-on cs T ds w s)
-  single-on-is-small = listed-on-as-single (replicate (3 * corner-count cs) 0) (omega (arith, length-replicate {A = ℕ} (3 * corner-count cs) 0)) .small
+  pub single-on-is-small : Small cs (single-on cs T ds w r s)
+  single-on-is-small = listed-on-as-single (replicate (4 * corner-count cs) 0) (omega (arith, length-replicate {A = ℕ} (4 * corner-count cs) 0)) .small
 
 -- ---- of lists that are accepted
 
-module _ (k : ℕ) (cs : List ℤ) (ts ds : List ℕ) (w : ℕ) {p : Plan} (accepted : checked k cs ts ds ≡ Accepted p) (right : wrong-setting w (length ds) ≡ false) (s : Stand) where
+module _ (k : ℕ) (cs : List ℤ) (ts ds : List ℕ) (m : Morning) {p : Plan} (accepted : checked k cs ts ds ≡ Accepted p) (right : wrong-setting (m .setting) (length ds) ≡ false) (s : Stand) where
   -- whatever table has room, the listing is by the view of the stand
-  pub listed-by-spot : (t : List ℕ) → listed k cs ts ds w s t ≡ listed-from cs (cells-of k ts) ds w t (view-of-spot cs (cells-of k ts) ds w (stood cs s))
+  pub listed-by-spot : (t : List ℕ) → listed k cs ts ds (query-of m s) t ≡ listed-from cs (cells-of k ts) ds (m .setting) (range (m .reach)) t (view-of-spot cs (cells-of k ts) ds (m .setting) (m .reach) (stood cs s))
   unfolding listed
   listed-by-spot t =
-      ap (listed-from cs (cells-of k ts) ds w t)
-      (sym (setting-accepted k cs ts ds w s accepted (ap (wrong-setting w) (sym (accepted-doors k cs ts ds accepted))) right refl))
+      ap (listed-from cs (cells-of k ts) ds (m .setting) (range (m .reach)) t)
+      (sym (setting-accepted k cs ts ds (query-of m s) accepted (ap (wrong-setting (m .setting)) (sym (accepted-doors k cs ts ds accepted))) right refl))
 
-  pub single-by-spot : single k cs ts ds w s ≡ single-on cs (cells-of k ts) ds w s
+  pub single-by-spot : single k cs ts ds m s ≡ single-on cs (cells-of k ts) ds (m .setting) (m .reach) s
   unfolding single single-on listed-on
-  single-by-spot = listed-by-spot (replicate (3 * corner-count cs) 0)
+  single-by-spot = listed-by-spot (replicate (4 * corner-count cs) 0)
 
   -- a listing with any table that has room has the single listing's answer, and writes its rows
-  pub listed-as-single : (t : List ℕ) → 3 * corner-count cs ≤ length t → AsSingle cs t (single k cs ts ds w s) (listed k cs ts ds w s t)
+  pub listed-as-single : (t : List ℕ) → 4 * corner-count cs ≤ length t → AsSingle cs t (single k cs ts ds m s) (listed k cs ts ds (query-of m s) t)
   unfolding listed-on
   listed-as-single t room =
-      subst₂ (AsSingle cs t) (sym single-by-spot) (sym (listed-by-spot t)) (listed-on-as-single (accepted-is-sound k cs ts ds p accepted .0) w s t room)
+      subst₂ (AsSingle cs t) (sym single-by-spot) (sym (listed-by-spot t)) (listed-on-as-single (accepted-is-sound k cs ts ds p accepted .0) (m .setting) (m .reach) s t room)

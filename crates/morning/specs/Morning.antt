@@ -1,4 +1,4 @@
--- A morning's stands together (document 02, A1): the rows of each stand's own listing, one after another, and three numbers a stand.
+-- A morning's stands together (document 02, A1 and A5): the rows of each stand's own listing, one after another, and three numbers a stand.
 use mathlib.Core.List.{List, [], _∷_, _++_}
 use Prim.Native.Nat.{ℕ, _+_, _*_}
 use lib.ListN.{length, getD, take, replicate}
@@ -11,8 +11,10 @@ use Rattle.grant.specs.Asked.{asked}
 use Rattle.stand.specs.declared.spot.Stand.{Stand}
 use Rattle.sight.specs.Listing.{listed}
 use Rattle.sight.specs.Reply.{listed-reply}
+use Rattle.sight.specs.declared.view.Query.{Query}
 use Rattle.sight.specs.declared.list.Listed.{Listed}
 use Rattle.sight.specs.declared.list.Listed.the-variants as L
+use Rattle.morning.specs.declared.Morning.{Morning}
 
 -- row count and crossings of a listing, 0 where it is refused
 abbrev pub rows-of : Listed → ℕ
@@ -27,7 +29,7 @@ three-of a = listed-reply a .number ∷ rows-of a ∷ crossings-of a ∷ []
 
 -- the rows that a listing has written to its table
 abbrev pub rows-in : Listed × List ℕ → List ℕ
-rows-in p = take (3 * rows-of (p .0)) (p .1)
+rows-in p = take (4 * rows-of (p .0)) (p .1)
 
 -- what each stand has, in the order given: one after another, or added up
 unfoldable pub one-after-another : (Stand → List ℕ) → List Stand → List ℕ
@@ -52,9 +54,13 @@ all-rows listing = one-after-another (λ s. rows-in (listing s))
 abbrev pub all-replies : (Stand → Listed × List ℕ) → List Stand → List ℕ
 all-replies listing = one-after-another (λ s. three-of (listing s .0))
 
--- the single listing of a stand, with a table of 3·corners numbers; the cells are in a list of kind k
-unfoldable pub single : ℕ → List ℤ → List ℕ → List ℕ → ℕ → Stand → Listed × List ℕ
-single k cs ts ds w s = listed k cs ts ds w s (replicate (3 * corner-count cs) 0)
+-- what the single listing of one of the stands is asked
+abbrev pub query-of : Morning → Stand → Query
+query-of m s = record { setting = m .setting; stand = s; reach = m .reach }
+
+-- the single listing of a stand, with a table of 4·corners numbers; the cells are in a list of kind k
+unfoldable pub single : ℕ → List ℤ → List ℕ → List ℕ → Morning → Stand → Listed × List ℕ
+single k cs ts ds m s = listed k cs ts ds (query-of m s) (replicate (4 * corner-count cs) 0)
 
 -- the answer, the table and the replies at exit: on a refusal they keep their contents, and beyond the numbers written they keep their values
 abbrev pub stands-from : (Stand → Listed × List ℕ) → List Stand → List ℕ → List ℕ → Checked → Listed × (List ℕ × List ℕ)
@@ -64,7 +70,7 @@ stands-from listing ss table replies (C.Accepted p) = (
 )
 stands-from listing ss table replies (C.Refused r) = (L.Refused r, (table, replies))
 
--- the first n of the stands
-unfoldable pub listed-stands : ℕ → List ℤ → List ℕ → List ℕ → ℕ → List Stand → ℕ → List ℕ → List ℕ → Listed × (List ℕ × List ℕ)
-listed-stands k cs ts ds w stands n table replies =
-    stands-from (single k cs ts ds w) (take n stands) table replies (asked k cs ts ds w n (length table) (length replies))
+-- as many of the stands as are asked for
+unfoldable pub listed-stands : ℕ → List ℤ → List ℕ → List ℕ → Morning → List Stand → List ℕ → List ℕ → Listed × (List ℕ × List ℕ)
+listed-stands k cs ts ds m stands table replies =
+    stands-from (single k cs ts ds m) (take (m .count) stands) table replies (asked k cs ts ds (m .setting) (m .count) (length table) (length replies))

@@ -24,12 +24,20 @@ use limits::Checked;
 use limits::Plan;
 use limits::reply;
 use lines::lines_of;
+use reach::Reach;
 use sight::list::Listed;
 use sight::list::list_over;
 use sight::seen::see;
 use sight::view::View;
 use sight::view::view_of_stand;
 use stand::spot::Stand;
+
+// What the stands of a morning share: the door setting, how many of the stands are asked for, and the reach.
+pub struct Morning {
+    pub setting: u64,
+    pub count: usize,
+    pub reach: Reach,
+}
 
 // A stand's reply, from a place on: its number, row count and crossings.
 fn put(replies: &mut [u64], at: usize, number: u64, rows: u64, crossings: u64)
@@ -50,6 +58,7 @@ fn list_stand(
     backs: &[u16],
     doors: &[u16],
     setting: u64,
+    reach: Reach,
     lines: &[u16],
     stand: Stand,
     table: &mut [u16],
@@ -59,14 +68,14 @@ fn list_stand(
 ) -> Counts
     requires { ⌜ Sound (now corners) (tabled (now faces) (now firsts)) (now doors) × Backed (tabled (now faces) (now firsts)) (now backs) ⌝ }
     requires { ⌜ Lined (tabled (now faces) (now firsts)) (now doors) setting (now lines) ⌝ }
-    requires { ⌜ (3 * corner-count (now corners) ≤ length (now table)) × (at + 3 ≤ length (now replies)) ⌝ }
+    requires { ⌜ (4 * corner-count (now corners) ≤ length (now table)) × (at + 3 ≤ length (now replies)) ⌝ }
     requires { ⌜ length (now seen) ≡ length (now corners) ⌝ }
-    ensures { λ r. ⌜ r .rows ≡ rows-of (listed-on (now (corners .entry)) (tabled (now (faces .entry)) (now (firsts .entry))) (now (doors .entry)) setting stand (now (table .entry)) .0) ⌝ }
-    ensures { λ r. ⌜ r .crossings ≡ crossings-of (listed-on (now (corners .entry)) (tabled (now (faces .entry)) (now (firsts .entry))) (now (doors .entry)) setting stand (now (table .entry)) .0) ⌝ }
-    ensures { λ _. ⌜ now (table .exit) ≡ listed-on (now (corners .entry)) (tabled (now (faces .entry)) (now (firsts .entry))) (now (doors .entry)) setting stand (now (table .entry)) .1 ⌝ }
-    ensures { λ _. ⌜ now (replies .exit) ≡ sets (now (replies .entry)) at (three-of (listed-on (now (corners .entry)) (tabled (now (faces .entry)) (now (firsts .entry))) (now (doors .entry)) setting stand (now (table .entry)) .0)) ⌝ }
+    ensures { λ r. ⌜ r .rows ≡ rows-of (listed-on (now (corners .entry)) (tabled (now (faces .entry)) (now (firsts .entry))) (now (doors .entry)) setting reach stand (now (table .entry)) .0) ⌝ }
+    ensures { λ r. ⌜ r .crossings ≡ crossings-of (listed-on (now (corners .entry)) (tabled (now (faces .entry)) (now (firsts .entry))) (now (doors .entry)) setting reach stand (now (table .entry)) .0) ⌝ }
+    ensures { λ _. ⌜ now (table .exit) ≡ listed-on (now (corners .entry)) (tabled (now (faces .entry)) (now (firsts .entry))) (now (doors .entry)) setting reach stand (now (table .entry)) .1 ⌝ }
+    ensures { λ _. ⌜ now (replies .exit) ≡ sets (now (replies .entry)) at (three-of (listed-on (now (corners .entry)) (tabled (now (faces .entry)) (now (firsts .entry))) (now (doors .entry)) setting reach stand (now (table .entry)) .0)) ⌝ }
 {
-    match view_of_stand(corners, faces, firsts, backs, doors, setting, stand) {
+    match view_of_stand(corners, faces, firsts, backs, doors, setting, stand, reach) {
         View::Refused(r) => {
             put(replies, at, reply::number(r), 0, 0);
             Counts {
@@ -76,7 +85,8 @@ fn list_stand(
         }
         View::From(x, y, p) => {
             see(corners, [x, y], seen);
-            let counts = list_over(seen, lines, faces, firsts, table, p);
+            let range = reach::range(reach);
+            let counts = list_over(seen, lines, faces, firsts, range, table, p);
             put(replies, at, 0, counts.rows as u64, counts.crossings as u64);
             counts
         }
@@ -91,6 +101,7 @@ fn list_each(
     backs: &[u16],
     doors: &[u16],
     setting: u64,
+    reach: Reach,
     stands: [Stand; Plan::MOST_STANDS],
     count: usize,
     table: &mut [u16],
@@ -101,10 +112,10 @@ fn list_each(
     requires { ⌜ Sound (now corners) (tabled (now faces) (now firsts)) (now doors) × Backed (tabled (now faces) (now firsts)) (now backs) ⌝ }
     requires { ⌜ RoomFor count (now corners) (length (now table)) (length (now replies)) ⌝ }
     requires { ⌜ (length (now lines) ≡ 4 * face-count (tabled (now faces) (now firsts))) × (length (now seen) ≡ length (now corners)) ⌝ }
-    ensures { λ r. ⌜ r .rows ≡ rows-in-all (single-on (now (corners .entry)) (tabled (now (faces .entry)) (now (firsts .entry))) (now (doors .entry)) setting) (take count stands) ⌝ }
-    ensures { λ r. ⌜ r .crossings ≡ crossings-in-all (single-on (now (corners .entry)) (tabled (now (faces .entry)) (now (firsts .entry))) (now (doors .entry)) setting) (take count stands) ⌝ }
-    ensures { λ _. ⌜ now (table .exit) ≡ sets (now (table .entry)) 0 (all-rows (single-on (now (corners .entry)) (tabled (now (faces .entry)) (now (firsts .entry))) (now (doors .entry)) setting) (take count stands)) ⌝ }
-    ensures { λ _. ⌜ now (replies .exit) ≡ sets (now (replies .entry)) 0 (all-replies (single-on (now (corners .entry)) (tabled (now (faces .entry)) (now (firsts .entry))) (now (doors .entry)) setting) (take count stands)) ⌝ }
+    ensures { λ r. ⌜ r .rows ≡ rows-in-all (single-on (now (corners .entry)) (tabled (now (faces .entry)) (now (firsts .entry))) (now (doors .entry)) setting reach) (take count stands) ⌝ }
+    ensures { λ r. ⌜ r .crossings ≡ crossings-in-all (single-on (now (corners .entry)) (tabled (now (faces .entry)) (now (firsts .entry))) (now (doors .entry)) setting reach) (take count stands) ⌝ }
+    ensures { λ _. ⌜ now (table .exit) ≡ sets (now (table .entry)) 0 (all-rows (single-on (now (corners .entry)) (tabled (now (faces .entry)) (now (firsts .entry))) (now (doors .entry)) setting reach) (take count stands)) ⌝ }
+    ensures { λ _. ⌜ now (replies .exit) ≡ sets (now (replies .entry)) 0 (all-replies (single-on (now (corners .entry)) (tabled (now (faces .entry)) (now (firsts .entry))) (now (doors .entry)) setting reach) (take count stands)) ⌝ }
 {
     lines_of(faces, firsts, backs, doors, setting, lines);
     let mut rows = 0;
@@ -112,7 +123,7 @@ fn list_each(
     let mut i = 0;
     while i < count {
         let stand = stands[i];
-        let row = 3 * rows;
+        let row = 4 * rows;
         let counts = list_stand(
             corners,
             faces,
@@ -120,6 +131,7 @@ fn list_each(
             backs,
             doors,
             setting,
+            reach,
             lines,
             stand,
             &mut table[row..],
@@ -140,9 +152,8 @@ fn list_in(
     cells: &[u16],
     doors: &[u16],
     kind: u16,
-    setting: u64,
+    morning: Morning,
     stands: [Stand; Plan::MOST_STANDS],
-    count: usize,
     table: &mut [u16],
     replies: &mut [u64],
     faces: &mut [u16],
@@ -152,13 +163,16 @@ fn list_in(
     seen: &mut [i32],
 ) -> Listed
     requires { ⌜ (framed kind (now corners) (now cells) ≡ true) × (sized (corner-count (now corners)) (cell-count (cells-of kind (now cells))) (length (now doors)) ≡ true) ⌝ }
-    requires { ⌜ count ≤ most-stands ⌝ }
+    requires { ⌜ morning .count ≤ most-stands ⌝ }
     requires { ⌜ length (now faces) ≡ 2 * face-count (cells-of kind (now cells)) ⌝ }
     requires { ⌜ length (now firsts) ≡ suc (cell-count (cells-of kind (now cells))) ⌝ }
     requires { ⌜ length (now backs) ≡ face-count (cells-of kind (now cells)) ⌝ }
     requires { ⌜ (length (now lines) ≡ 4 * face-count (cells-of kind (now cells))) × (length (now seen) ≡ length (now corners)) ⌝ }
-    ensures { λ r. ⌜ (r, (now (table .exit), now (replies .exit))) ≡ listed-stands kind (now (corners .entry)) (now (cells .entry)) (now (doors .entry)) setting stands count (now (table .entry)) (now (replies .entry)) ⌝ }
+    ensures { λ r. ⌜ (r, (now (table .exit), now (replies .exit))) ≡ listed-stands kind (now (corners .entry)) (now (cells .entry)) (now (doors .entry)) morning stands (now (table .entry)) (now (replies .entry)) ⌝ }
 {
+    let setting = morning.setting;
+    let count = morning.count;
+    let reach = morning.reach;
     match asked_in(
         corners,
         cells,
@@ -181,6 +195,7 @@ fn list_in(
                 backs,
                 doors,
                 setting,
+                reach,
                 stands,
                 count,
                 table,
@@ -199,9 +214,8 @@ fn list_cut(
     cells: &[u16],
     doors: &[u16],
     kind: u16,
-    setting: u64,
+    morning: Morning,
     stands: [Stand; Plan::MOST_STANDS],
-    count: usize,
     table: &mut [u16],
     replies: &mut [u64],
     m: usize,
@@ -212,10 +226,10 @@ fn list_cut(
     lines: &mut [u16],
     seen: &mut [i32],
 ) -> Listed
-    requires { ⌜ (sizes-of kind (now corners) (now cells) (now doors) ≡ Of m n) × (count ≤ most-stands) ⌝ }
+    requires { ⌜ (sizes-of kind (now corners) (now cells) (now doors) ≡ Of m n) × (morning .count ≤ most-stands) ⌝ }
     requires { ⌜ (2 * n ≤ length (now faces)) × (m < length (now firsts)) × (n ≤ length (now backs)) × (4 * n ≤ length (now lines)) ⌝ }
     requires { ⌜ 2 * most-corners ≤ length (now seen) ⌝ }
-    ensures { λ r. ⌜ (r, (now (table .exit), now (replies .exit))) ≡ listed-stands kind (now (corners .entry)) (now (cells .entry)) (now (doors .entry)) setting stands count (now (table .entry)) (now (replies .entry)) ⌝ }
+    ensures { λ r. ⌜ (r, (now (table .exit), now (replies .exit))) ≡ listed-stands kind (now (corners .entry)) (now (cells .entry)) (now (doors .entry)) morning stands (now (table .entry)) (now (replies .entry)) ⌝ }
 {
     let twice = 2 * n;
     let after = m + 1;
@@ -226,9 +240,8 @@ fn list_cut(
         cells,
         doors,
         kind,
-        setting,
+        morning,
         stands,
-        count,
         table,
         replies,
         &mut faces[..twice],
@@ -245,17 +258,16 @@ fn list_few(
     cells: &[u16],
     doors: &[u16],
     kind: u16,
-    setting: u64,
+    morning: Morning,
     stands: [Stand; Plan::MOST_STANDS],
-    count: usize,
     table: &mut [u16],
     replies: &mut [u64],
     m: usize,
     n: usize,
 ) -> Listed
-    requires { ⌜ (sizes-of kind (now corners) (now cells) (now doors) ≡ Of m n) × (count ≤ most-stands) ⌝ }
+    requires { ⌜ (sizes-of kind (now corners) (now cells) (now doors) ≡ Of m n) × (morning .count ≤ most-stands) ⌝ }
     requires { ⌜ n ≤ 3 * most-cells ⌝ }
-    ensures { λ r. ⌜ (r, (now (table .exit), now (replies .exit))) ≡ listed-stands kind (now (corners .entry)) (now (cells .entry)) (now (doors .entry)) setting stands count (now (table .entry)) (now (replies .entry)) ⌝ }
+    ensures { λ r. ⌜ (r, (now (table .exit), now (replies .exit))) ≡ listed-stands kind (now (corners .entry)) (now (cells .entry)) (now (doors .entry)) morning stands (now (table .entry)) (now (replies .entry)) ⌝ }
 {
     let mut faces = [0u16; 6 * Plan::MOST_CELLS];
     let mut firsts = [0u16; 1 + Plan::MOST_CELLS];
@@ -267,9 +279,8 @@ fn list_few(
         cells,
         doors,
         kind,
-        setting,
+        morning,
         stands,
-        count,
         table,
         replies,
         m,
@@ -288,16 +299,15 @@ fn list_many(
     cells: &[u16],
     doors: &[u16],
     kind: u16,
-    setting: u64,
+    morning: Morning,
     stands: [Stand; Plan::MOST_STANDS],
-    count: usize,
     table: &mut [u16],
     replies: &mut [u64],
     m: usize,
     n: usize,
 ) -> Listed
-    requires { ⌜ (sizes-of kind (now corners) (now cells) (now doors) ≡ Of m n) × (count ≤ most-stands) ⌝ }
-    ensures { λ r. ⌜ (r, (now (table .exit), now (replies .exit))) ≡ listed-stands kind (now (corners .entry)) (now (cells .entry)) (now (doors .entry)) setting stands count (now (table .entry)) (now (replies .entry)) ⌝ }
+    requires { ⌜ (sizes-of kind (now corners) (now cells) (now doors) ≡ Of m n) × (morning .count ≤ most-stands) ⌝ }
+    ensures { λ r. ⌜ (r, (now (table .exit), now (replies .exit))) ≡ listed-stands kind (now (corners .entry)) (now (cells .entry)) (now (doors .entry)) morning stands (now (table .entry)) (now (replies .entry)) ⌝ }
 {
     let mut faces = [0u16; 16 * Plan::MOST_CELLS];
     let mut firsts = [0u16; 1 + Plan::MOST_CELLS];
@@ -309,9 +319,8 @@ fn list_many(
         cells,
         doors,
         kind,
-        setting,
+        morning,
         stands,
-        count,
         table,
         replies,
         m,
@@ -324,21 +333,21 @@ fn list_many(
     )
 }
 
-// The first `count` of the stands, listed one after another: plan, the kind of its list of cells, setting, stands, table and replies; replies 1 to 7 and
-// 11 in order, each with its place, or the sums of rows and crossings.
+// As many of the stands as are asked for, listed one after another: plan, the kind of its list of cells, what the stands share, stands, table and replies;
+// replies 1 to 7 and 11 in order, each with its place, or the sums of rows and crossings.
 pub fn list_stands(
     corners: &[i32],
     cells: &[u16],
     doors: &[u16],
     kind: u16,
-    setting: u64,
+    morning: Morning,
     stands: [Stand; Plan::MOST_STANDS],
-    count: usize,
     table: &mut [u16],
     replies: &mut [u64],
 ) -> Listed
-    ensures { λ r. ⌜ (r, (now (table .exit), now (replies .exit))) ≡ listed-stands kind (now (corners .entry)) (now (cells .entry)) (now (doors .entry)) setting stands count (now (table .entry)) (now (replies .entry)) ⌝ }
+    ensures { λ r. ⌜ (r, (now (table .exit), now (replies .exit))) ≡ listed-stands kind (now (corners .entry)) (now (cells .entry)) (now (doors .entry)) morning stands (now (table .entry)) (now (replies .entry)) ⌝ }
 {
+    let count = morning.count;
     match measure_for(corners, cells, doors, kind, count) {
         Sizes::Refused(r) => Listed::Refused(r),
         Sizes::Of(m, n) => {
@@ -348,9 +357,8 @@ pub fn list_stands(
                     cells,
                     doors,
                     kind,
-                    setting,
+                    morning,
                     stands,
-                    count,
                     table,
                     replies,
                     m,
@@ -362,9 +370,8 @@ pub fn list_stands(
                 cells,
                 doors,
                 kind,
-                setting,
+                morning,
                 stands,
-                count,
                 table,
                 replies,
                 m,

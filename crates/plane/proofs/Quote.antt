@@ -27,6 +27,9 @@ minusᵉ c q = record { x = c .x ⊖ q .x; y = c .y ⊖ q .y }
 abbrev pub plusᵉ : Pointᵉ → Pointᵉ → Pointᵉ
 plusᵉ u v = record { x = u .x ⊕ v .x; y = u .y ⊕ v .y }
 
+abbrev pub scaledᵉ : Expr → Pointᵉ → Pointᵉ
+scaledᵉ w p = record { x = w ⊗ p .x; y = w ⊗ p .y }
+
 abbrev pub crossᵉ : Pointᵉ → Pointᵉ → Expr
 crossᵉ u v = u .x ⊗ v .y ⊖ u .y ⊗ v .x
 

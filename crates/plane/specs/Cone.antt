@@ -11,6 +11,10 @@ minus c q = record { x = c .x -ℤ q .x; y = c .y -ℤ q .y }
 unfoldable pub plus : Point → Point → Point
 plus u v = record { x = u .x +ℤ v .x; y = u .y +ℤ v .y }
 
+-- w times p
+unfoldable pub scaled : ℤ → Point → Point
+scaled w p = record { x = w *ℤ p .x; y = w *ℤ p .y }
+
 -- the two-dimensional cross product: positive when v is left of u
 unfoldable pub cross : Point → Point → ℤ
 cross u v = u .x *ℤ v .y -ℤ u .y *ℤ v .x

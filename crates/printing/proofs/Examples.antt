@@ -22,6 +22,7 @@ use Rattle.number.specs.Whole.{whole}
 use Rattle.stand.specs.Spot.{whole-point, stood}
 use Rattle.stand.specs.Find.{not-left-of, right-of, against, strictly-within, within-free, located}
 use Rattle.fan.specs.Sight.{fan, follow, sides, lines-around, unentered, lines-seen, seen-from, numbers, row-count, crossings}
+use Rattle.reach.specs.Reach.{out-of-reach, far, wrong-reach}
 use Rattle.sight.specs.Listing.{no-room, placed, viewed, listing-numbers, listing-row-count, listing-crossings, listed}
 use Rattle.text.specs.Word.{word}
 use Rattle.text.specs.Text.{digits, decimal, refusal-line, count-line, row-line, row-lines}
@@ -36,8 +37,8 @@ query =
     ++ (0 ∷ 0 ∷ 0 ∷ 0 ∷ 0 ∷ 0 ∷ 8 ∷ 64 ∷ [])
 
 -- query (6,3), setting 0, with plan Q prints exactly
-pub case-a-is-printed : printed (query ++ file) ≡ word "rows 4 crossings 1\n0 0 1\n1 1 2\n4 2 3\n5 3 0\n"
-unfolding ofBits side sized least home next start neighbour answers back cell-of cut-triangles cut-polygons cut pairs faces-of firsts-from tables cells-of framed-lists outside wrong-corner some-face wrong-for-side missing-corner wrong-side wrong-cell wrong-neighbour names wrong-door checked-cells checked shut wrong-setting bars ends whole whole-point stood not-left-of right-of against is-within strictly-within within-free minus dot located fan follow sides lines-around unentered lines-seen seen-from numbers row-count crossings placed viewed no-room listing-numbers listing-row-count listing-crossings listed number-at numbers-at signed end-of is-record is-cells framed corners-in cells-in doors-in digits decimal refusal-line count-line row-line row-lines begins file-listed printed
+pub case-a-is-printed : printed (query ++ file) ≡ word "rows 4 crossings 1\n0 0 1 0\n1 1 2 0\n4 2 3 0\n5 3 0 0\n"
+unfolding ofBits side sized least home next start neighbour answers back cell-of cut-triangles cut-polygons cut pairs faces-of firsts-from tables cells-of framed-lists outside wrong-corner some-face wrong-for-side missing-corner wrong-side wrong-cell wrong-neighbour names wrong-door checked-cells checked shut wrong-setting bars ends whole whole-point stood not-left-of right-of against is-within strictly-within within-free minus dot located fan follow sides lines-around unentered lines-seen seen-from numbers row-count crossings placed viewed no-room listing-numbers listing-row-count listing-crossings listed number-at numbers-at signed end-of is-record is-cells framed corners-in cells-in doors-in digits decimal refusal-line count-line row-line row-lines begins file-listed printed out-of-reach far wrong-reach
 case-a-is-printed = refl
 
 -- a missing query

@@ -29,10 +29,10 @@ use Rattle.sight.specs.Listing.{listed}
 use Rattle.sight.specs.declared.list.Listed.{Listed}
 use Rattle.sight.specs.declared.list.Listed.the-variants as L
 use Rattle.sight.proofs.Views.{plan-refused, listing-refused}
-use Rattle.printing.specs.Print.{file-listed}
+use Rattle.printing.specs.Print.{asks, file-listed}
 
 module _ (file : List ℕ) (w : ℕ) (s : Stand) (table : List ℕ) where
-  pub framed-is-listed : framed file ≡ true → file-listed file w s table ≡ listed (kind-in file) (corners-in file) (cells-in file) (doors-in file) w s table
+  pub framed-is-listed : framed file ≡ true → file-listed file w s table ≡ listed (kind-in file) (corners-in file) (cells-in file) (doors-in file) (asks w s) table
   unfolding file-listed
   framed-is-listed fr = rw (fr, file-listed) refl
 
@@ -71,8 +71,8 @@ module _ (file : List ℕ) (cs₀ : List ℤ) (ts₀ ds₀ : List ℕ) (room : (
       where
         by-frame : (b : Bool) → framed file ≡ b → (L.Refused r, table) ≡ file-listed file w s table
         by-frame true fr =
-            listing-refused (kind-in file) (corners-in file) (cells-in file) (doors-in file) w s table
-            (sym (plan-refused (kind-in file) (corners-in file) (cells-in file) (doors-in file) w s (sym (by-the-check fr) ∙ e)))
+            listing-refused (kind-in file) (corners-in file) (cells-in file) (doors-in file) (asks w s) table
+            (sym (plan-refused (kind-in file) (corners-in file) (cells-in file) (doors-in file) (asks w s) (sym (by-the-check fr) ∙ e)))
             ∙ sym (framed-is-listed file w s table fr)
         by-frame false fr =
             let both : Refused R.Frame ≡ Refused r = sym (unframed file (length cs₀) (length ts₀) (length ds₀) fr) ∙ e in
@@ -159,12 +159,12 @@ module _ (file : List ℕ) (cs₀ : List ℤ) (ts₀ ds₀ : List ℕ) (room : (
         )
 
     -- the way out of an acceptance: what the listing of those numbers leaves
-    pub listed-from-the-reader : (w : ℕ) (s : Stand) (table : List ℕ) {left : Listed × List ℕ} → left ≡ listed kind (take (2 * p .corners) cs) (take m ts) (take (p .doors) ds) w s table → left ≡ file-listed file w s table
+    pub listed-from-the-reader : (w : ℕ) (s : Stand) (table : List ℕ) {left : Listed × List ℕ} → left ≡ listed kind (take (2 * p .corners) cs) (take m ts) (take (p .doors) ds) (asks w s) table → left ≡ file-listed file w s table
     listed-from-the-reader w s table {left} is =
         let n = ap (take (2 * p .corners)) corners-are ∙ first-is-new cs₀ (corners-in file) (2 * p .corners) (long .corners) (omega (arith, long .few-corners, room .0)) in
         let j = ap (take m) cells-are ∙ first-is-new ts₀ (cells-in file) m (was .1 .1) (omega (arith, long .few-cells, room .1 .0, was .1 .1)) in
         let k = ap (take (p .doors)) doors-are ∙ first-is-new ds₀ (doors-in file) (p .doors) (long .doors) (omega (arith, long .few-doors, room .1 .1)) in
         is
-        ∙ ap₂ (λ (i : ℕ) (l : List ℤ). listed i l (take m ts) (take (p .doors) ds) w s table) (sym (was .1 .0)) n
-        ∙ ap₂ (λ (l o : List ℕ). listed (kind-in file) (corners-in file) l o w s table) j k
+        ∙ ap₂ (λ (i : ℕ) (l : List ℤ). listed i l (take m ts) (take (p .doors) ds) (asks w s) table) (sym (was .1 .0)) n
+        ∙ ap₂ (λ (l o : List ℕ). listed (kind-in file) (corners-in file) l o (asks w s) table) j k
         ∙ sym (framed-is-listed file w s table (is-framed file cs₀ ts₀ ds₀ room accepted))

@@ -14,7 +14,9 @@ use Rattle.planfile.specs.File.{kind-in, corners-in, cells-in, doors-in}
 use Rattle.records.specs.Bits.{bits-at}
 use Rattle.stand.specs.declared.spot.Stand.{Stand}
 use Rattle.stand.specs.declared.spot.Stand.the-variants.{Point, Offset}
+use Rattle.reach.specs.declared.Reach.the-variants.{NotStated}
 use Rattle.sight.specs.Listing.{listed}
+use Rattle.sight.specs.declared.view.Query.{Query}
 use Rattle.sight.specs.declared.list.Listed.{Listed}
 use Rattle.sight.specs.declared.list.Listed.the-variants as L
 use Rattle.text.specs.Text.{refusal-line, count-line, row-lines}
@@ -27,11 +29,11 @@ most-input = 65536
 
 -- a text of so many bytes has room for every answer: a line of counts or a refusal, then a row's line for each corner
 abbrev pub most-text : ℕ
-most-text = 64 + 18 * most-corners
+most-text = 64 + 24 * most-corners
 
 -- the table that the listing writes into has room for the largest plan
 abbrev pub blank-table : List ℕ
-blank-table = replicate (3 * most-corners) 0
+blank-table = replicate (4 * most-corners) 0
 
 -- the input begins with a record of this kind, with a body of so many bytes
 unfoldable pub begins : List ℕ → ℕ → ℕ → Bool
@@ -41,11 +43,15 @@ begins s kind size = leb (6 + size) (length s) && eqb (number-at 4 s 0) size && 
 abbrev pub double-at : List ℕ → ℕ → Float
 double-at s at = ofBits binary64 (bits-at s at)
 
--- the listing of a plan file under a setting, from a stand
+-- what is asked under a setting, from a stand; no reach is stated
+abbrev pub asks : ℕ → Stand → Query
+asks w s = record { setting = w; stand = s; reach = NotStated }
+
+-- the listing of a plan file so asked
 unfoldable pub file-listed : List ℕ → ℕ → Stand → List ℕ → Listed × List ℕ
 file-listed file w s table =
     elim (framed file) [
-      | true ↦ listed (kind-in file) (corners-in file) (cells-in file) (doors-in file) w s table
+      | true ↦ listed (kind-in file) (corners-in file) (cells-in file) (doors-in file) (asks w s) table
       | false ↦ (L.Refused R.Frame, table)
     ]
 

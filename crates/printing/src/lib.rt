@@ -9,6 +9,8 @@ ghost use Rattle.printing.specs.Reply.{printed-reply, print-replies};
 ghost use Rattle.text.specs.Wrote.{Wrote};
 use manopluea::Listed;
 use manopluea::Plan;
+use manopluea::Query;
+use manopluea::Reach;
 use manopluea::ReadPlan;
 use manopluea::Refusal;
 use manopluea::Stand;
@@ -26,7 +28,7 @@ impl Printed {
     // Longer input is refused before all else.
     pub const MOST_INPUT: usize = 65536;
     // A text of so many bytes has room for every answer.
-    pub const MOST_TEXT: usize = 64 + 18 * Plan::MOST_CORNERS;
+    pub const MOST_TEXT: usize = 64 + 24 * Plan::MOST_CORNERS;
 }
 
 // Does the input begin with a record of this kind, with a body of so many bytes?
@@ -66,8 +68,11 @@ fn list_read(
                 &cells[..m],
                 &doors[..k],
                 Terms { kind },
-                setting,
-                stand,
+                Query {
+                    setting,
+                    stand,
+                    reach: Reach::NotStated,
+                },
                 table,
             )
         }
@@ -97,7 +102,7 @@ fn print_file(file: &[u8], setting: u64, stand: Stand, text: &mut [u8]) -> usize
     requires { ⌜ most-text ≤ length (now text) ⌝ }
     ensures { λ e. ⌜ Wrote (now (text .entry)) 0 (lines (file-listed (now (file .entry)) setting stand blank-table)) (now (text .exit)) e ⌝ }
 {
-    let mut table = [0u16; 3 * Plan::MOST_CORNERS];
+    let mut table = [0u16; 4 * Plan::MOST_CORNERS];
     match list_file(file, setting, stand, &mut table) {
         Listed::Refused(r) => text::put_refusal(text, r),
         Listed::Rows(n, k) => text::put_listing(text, &table, n, k),

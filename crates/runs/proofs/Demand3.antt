@@ -1,40 +1,35 @@
--- Demand 3 over any floor: the listing from a stand with a door open, and with it shut (document 01, "Changing a door").
-use mathlib.Core.Bool.{Bool, true}
-use mathlib.Core.List.{List, map}
+-- Demand 3 over any floor: the listing from a stand with a door open, and with it shut (document 01, "Changing a door"; document 02, A5). All of it holds whether
+-- the door is in reach or not, but that its rows once it is shut are its runs, which is said of a door in reach; of one out of reach nothing changes.
+use mathlib.Core.Bool.{Bool, true, false}
+use mathlib.Core.List.{[], map}
 use mathlib.Core.Path.{_≡_, refl, sym, _∙_, ap}
 use Prim.Native.Nat.{ℕ, _+_}
-use Rattle.fan.specs.Sight.{Floor, Sight, Standing, lines-around, unentered, lines-seen, seen-from, numbers, crossings}
-use Rattle.fan.specs.Sight.Standing.{inside, within}
+use Rattle.fan.specs.Sight.{Floor, Sight, Standing, lines-around, unentered, seen-from, numbers, crossings}
 use Rattle.fan.specs.Once.{At}
+use Rattle.fan.proofs.Places.{at-no-place}
 use Rattle.runs.specs.Route.{routed, row-numbers}
-use Rattle.runs.specs.Door.{same-to-door, on-door, untouched, those}
+use Rattle.runs.specs.Door.{is-door, same-to-door, on-door, untouched, those}
 use Rattle.runs.specs.Shutting.{Piece, runs, door-row, shut-rows, prune, crossings-left, crossings-lost}
 use Rattle.runs.specs.Opening.{open-rows}
 use Rattle.runs.specs.Floors.{ending, Shuts, Faces}
 use Rattle.runs.proofs.Routes.{routed-numbers-are-the-numbers}
 use Rattle.runs.proofs.Pruned.{pruned-is-whole, crossings-once-shut, crossings-while-open}
 use Rattle.runs.proofs.Untouched.{untouched-rows-stay}
-use Rattle.runs.proofs.SideBySide.{an-end-is-no-door, shut-faces}
+use Rattle.runs.proofs.SideBySide.{an-end-is-no-door, a-passage-is-no-door, shutting-stops, same-lines, stopped-faces}
 use Rattle.runs.proofs.Shut.{shut-listing-is-pruned}
 use Rattle.runs.proofs.Opened.{open-rows-are-opened}
 use Rattle.runs.proofs.Through.{Through, Lines, linked-alike, some-line, listing-goes-through}
 use Rattle.runs.proofs.Runs.{shut-rows-are-the-pruned-rows}
 use Rattle.runs.proofs.Visits as Visits
 
--- where sight ends has no part in which lines are around the stand
-same-lines : (F : Floor) (ends : ℕ → Bool) (p : Standing) → lines-around (ending F ends) p ≡ lines-around F p
-unfolding lines-around
-same-lines F ends (inside f) = refl
-same-lines F ends (within s) = refl
-
 -- one door of a floor of M cells, open and shut, seen from a stand
 pub record DoorChange (N f₀ g₀ : ℕ) (F : Floor) (once-shut : ℕ → Bool) (M : ℕ) (p : Standing) : Type 0 where
-  pub shuts : Shuts N f₀ g₀ (F .ends) once-shut
+  pub shuts : Shuts N f₀ g₀ F once-shut
   pub faces : Faces N F
   pub lines : Lines N F (unentered M p) (lines-around F p)
 
 module _ {N f₀ g₀ : ℕ} {F : Floor} {once-shut : ℕ → Bool} {M : ℕ} {p : Standing} (D : DoorChange N f₀ g₀ F once-shut M p) where
-  S : Shuts N f₀ g₀ (F .ends) once-shut
+  S : Shuts N f₀ g₀ F once-shut
   S = D .shuts
 
   A : Faces N F
@@ -48,7 +43,7 @@ module _ {N f₀ g₀ : ℕ} {F : Floor} {once-shut : ℕ → Bool} {M : ℕ} {p
   while-open = seen-from F M p
 
   abbrev pub once : Sight
-  once = seen-from (ending F once-shut) M p
+  once = seen-from (ending F once-shut (F .far)) M p
 
   through : Through (F .ends) (lines-around F p) (L .right) (L .left) while-open
   unfolding seen-from
@@ -58,9 +53,7 @@ module _ {N f₀ g₀ : ℕ} {F : Floor} {once-shut : ℕ → Bool} {M : ℕ} {p
 
   pub shutting-prunes : once ≡ prune f₀ g₀ while-open
   unfolding seen-from
-  shutting-prunes =
-      ap (lines-seen (ending F once-shut) (unentered M p)) (same-lines F once-shut p)
-      ∙ shut-listing-is-pruned F S A (unentered M p) (lines-around F p) (some-line (L .linked)) (L .are-faces) (L .whole)
+  shutting-prunes = shut-listing-is-pruned F S A M p (some-line (L .linked)) (L .are-faces) (L .whole)
 
   -- the listing under the shut setting is the listing under the open one with each run replaced by one row
   pub shutting-replaces-each-run : routed once ≡ shut-rows f₀ g₀ (routed while-open)
@@ -73,14 +66,21 @@ module _ {N f₀ g₀ : ℕ} {F : Floor} {once-shut : ℕ → Bool} {M : ℕ} {p
   pub untouched-rows-stand-in-both : those (untouched f₀ g₀) (routed once) ≡ those (untouched f₀ g₀) (routed while-open)
   untouched-rows-stand-in-both = ap (λ (t : Sight). those (untouched f₀ g₀) (routed t)) shutting-prunes ∙ untouched-rows-stay f₀ g₀ while-open
 
-  -- runs through the open door and rows on the shut door correspond one to one, in order
-  pub rows-on-the-shut-door-are-the-runs : those (on-door f₀ g₀) (routed once) ≡ map (door-row f₀ g₀) (runs f₀ g₀ (routed while-open))
-  rows-on-the-shut-door-are-the-runs =
+  -- a door in reach: runs through the open door and rows on the shut door correspond one to one, in order
+  pub rows-on-the-shut-door-are-the-runs : F .ends f₀ ≡ false → those (on-door f₀ g₀) (routed once) ≡ map (door-row f₀ g₀) (runs f₀ g₀ (routed while-open))
+  rows-on-the-shut-door-are-the-runs passed =
       ap (λ (t : Sight). those (on-door f₀ g₀) (routed t)) shutting-prunes
-      ∙ Visits.rows-on-the-door-are-the-runs f₀ g₀ through (an-end-is-no-door S)
+      ∙ Visits.rows-on-the-door-are-the-runs f₀ g₀ through (an-end-is-no-door S passed)
+
+  -- a door out of reach: nothing changes, rows and crossings are the same shut and open, and no run is behind it
+  pub out-of-reach-nothing-changes : F .ends f₀ ≡ true → once ≡ while-open
+  out-of-reach-nothing-changes ended = shutting-prunes ∙ Visits.nothing-to-prune f₀ g₀ (a-passage-is-no-door S ended) through
+
+  pub out-of-reach-no-runs : F .ends f₀ ≡ true → runs f₀ g₀ (routed while-open) ≡ []
+  out-of-reach-no-runs ended = Visits.no-runs f₀ g₀ (a-passage-is-no-door S ended) through
 
   -- nothing is cut once the door is shut
-  shut-lines : Lines N (ending F once-shut) (unentered M p) (lines-around F p)
+  shut-lines : Lines N (ending F once-shut (F .far)) (unentered M p) (lines-around F p)
   unfolding seen-from
   shut-lines =
       record {
@@ -89,18 +89,22 @@ module _ {N f₀ g₀ : ℕ} {F : Floor} {once-shut : ℕ → Bool} {M : ℕ} {p
         left = L .left;
         linked = linked-alike (L .linked);
         once = L .once;
-        whole = rw (← same-lines F once-shut p) (rw shutting-prunes (pruned-is-whole f₀ g₀ (L .whole)));
+        whole = rw (← same-lines F once-shut (F .far) p) (rw shutting-prunes (pruned-is-whole f₀ g₀ (L .whole)));
       }
 
   shut-through : Through once-shut (lines-around F p) (shut-lines .right) (shut-lines .left) (prune f₀ g₀ while-open)
   unfolding seen-from
-  shut-through = rw (← shutting-prunes, same-lines F once-shut p) (listing-goes-through (shut-faces F S A) shut-lines)
+  shut-through =
+      rw (← shutting-prunes, same-lines F once-shut (F .far) p) (listing-goes-through (stopped-faces F (shutting-stops S) A) shut-lines)
 
   -- no two runs have the same route up to and including the door
   pub runs-have-routes-of-their-own : {k k′ : Piece} {i j : ℕ} → At k (runs f₀ g₀ (routed while-open)) i → At k′ (runs f₀ g₀ (routed while-open)) j
       → same-to-door f₀ g₀ (k .first .route) (k′ .first .route) ≡ true → i ≡ j
-  runs-have-routes-of-their-own a b same =
-      Visits.runs-have-routes-of-their-own f₀ g₀ through (an-end-is-no-door S) shut-through a b same
+  runs-have-routes-of-their-own {k} {k′} {i} {j} a b same = by-reach (F .ends f₀) refl
+    where
+      by-reach : (c : Bool) → F .ends f₀ ≡ c → i ≡ j
+      by-reach true ended = absurd (at-no-place (rw (out-of-reach-no-runs ended) at a))
+      by-reach false passed = Visits.runs-have-routes-of-their-own f₀ g₀ through (an-end-is-no-door S passed) shut-through a b same
 
   -- the crossings
   pub crossings-once-shut-are-those-left : crossings once ≡ crossings-left f₀ g₀ while-open
@@ -113,15 +117,12 @@ module _ {N f₀ g₀ : ℕ} {F : Floor} {once-shut : ℕ → Bool} {M : ℕ} {p
   -- ---- opening
 
   -- the listing under the open setting is the listing under the shut one with each row on the door replaced by its run
-  pub opening-replaces-each-door-row : routed while-open ≡ open-rows F f₀ g₀ (unentered M p) (routed once)
-  unfolding seen-from
-  opening-replaces-each-door-row =
-      open-rows-are-opened F S A (unentered M p) (lines-around F p) (some-line (L .linked)) (L .are-faces)
-      ∙ ap (λ (es : List ℕ). open-rows F f₀ g₀ (unentered M p) (routed (lines-seen (ending F once-shut) (unentered M p) es))) (sym (same-lines F once-shut p))
+  pub opening-replaces-each-door-row : routed while-open ≡ open-rows F (is-door f₀ g₀) (unentered M p) (routed once)
+  opening-replaces-each-door-row = open-rows-are-opened F (shutting-stops S) A M p (some-line (L .linked)) (L .are-faces)
 
   -- shutting and then opening returns the first list, and so does opening and then shutting
-  pub shut-then-opened : open-rows F f₀ g₀ (unentered M p) (shut-rows f₀ g₀ (routed while-open)) ≡ routed while-open
-  shut-then-opened = ap (open-rows F f₀ g₀ (unentered M p)) (sym shutting-replaces-each-run) ∙ sym opening-replaces-each-door-row
+  pub shut-then-opened : open-rows F (is-door f₀ g₀) (unentered M p) (shut-rows f₀ g₀ (routed while-open)) ≡ routed while-open
+  shut-then-opened = ap (open-rows F (is-door f₀ g₀) (unentered M p)) (sym shutting-replaces-each-run) ∙ sym opening-replaces-each-door-row
 
-  pub opened-then-shut : shut-rows f₀ g₀ (open-rows F f₀ g₀ (unentered M p) (routed once)) ≡ routed once
+  pub opened-then-shut : shut-rows f₀ g₀ (open-rows F (is-door f₀ g₀) (unentered M p) (routed once)) ≡ routed once
   opened-then-shut = ap (shut-rows f₀ g₀) (sym opening-replaces-each-door-row) ∙ sym shutting-replaces-each-run

@@ -13,8 +13,9 @@ use Rattle.fan.proofs.Geometry.{Geometry, around}
 use Rattle.fan.proofs.Start.{others-end-where-it-starts}
 use Rattle.fan.proofs.Listing.{listing-is-whole}
 use Rattle.runs.specs.Route.{routed}
-use Rattle.runs.specs.Floors.{Shuts, Faces}
+use Rattle.runs.specs.Floors.{Stops, Shuts, Faces}
 use Rattle.runs.proofs.Demand3.{DoorChange}
+use Rattle.runs.proofs.Further.{Stopped}
 use Rattle.runs.proofs.Through.{Linked, linked-joined, Lines, listing-goes-through}
 use Rattle.runs.proofs.Through.Linked.{alone, in-front}
 use Rattle.runs.proofs.Ways.{OwnWays, every-row-has-its-own-way}
@@ -75,8 +76,11 @@ module _ {F : Floor} {N M : ℕ} {see : ℕ → Point} {cell : ℕ → ℕ} (G :
           whole = listing-is-whole G S;
         }
 
-    pub change-in-the-plane : {f₀ g₀ : ℕ} {once-shut : ℕ → Bool} → Shuts N f₀ g₀ (F .ends) once-shut → DoorChange N f₀ g₀ F once-shut M p
+    pub change-in-the-plane : {f₀ g₀ : ℕ} {once-shut : ℕ → Bool} → Shuts N f₀ g₀ F once-shut → DoorChange N f₀ g₀ F once-shut M p
     change-in-the-plane shuts = record { shuts = shuts; faces = faces-in-the-plane; lines = lines-in-the-plane }
+
+    pub stopped-in-the-plane : {stops ends : ℕ → Bool} {far : ℕ → ℕ} → Stops N F stops ends far → Stopped N F stops ends far M p
+    stopped-in-the-plane stops = record { where-stopped = stops; faces = faces-in-the-plane; lines = lines-in-the-plane }
 
     pub every-listed-row-has-its-own-way : OwnWays (routed (seen-from F M p))
     unfolding seen-from

@@ -12,11 +12,11 @@ pub mod SameToDoor
 pub mod Pruned
 -- rows whose routes do not meet the door stay, in order
 pub mod Untouched
--- one line followed with the door open and shut: the one induction for shutting and opening
+-- one line followed with sight stopped at some faces and without: the one induction for shutting, opening and the reach
 pub mod SideBySide
 -- the tree with the door shut is the tree with it open, cut at the door
 pub mod Shut
--- the rows with the door open are those with it shut, each row on the door replaced by its run
+-- the rows without the stops are those with them, each row where sight is stopped replaced by its run
 pub mod Opened
 -- what is seen through lines fills their limits without a gap, from the right one to the left one
 pub mod Through
@@ -32,6 +32,8 @@ pub mod Visits
 pub mod SideSeen
 -- demand 3 over any floor: all of this of one door, open and shut
 pub mod Demand3
+-- a longer reach: rows in the shorter one stay in their order, the others become runs
+pub mod Further
 -- a floor in the plane has what demand 3 asks of it
 pub mod InThePlane
 -- shutting, computed: two visits side by side

@@ -63,6 +63,17 @@ module _ {A : Type 0} where
     none-left [] none = refl
     none-left (x ∷ xs) none = left-out x xs (none x) ∙ none-left xs none
 
+-- two tests that say the same of every element
+module _ {A : Type 0} (t s : A → Bool) where
+  pub those-alike : (xs : List A) → ((x : A) (i : ℕ) → At x xs i → t x ≡ s x) → those t xs ≡ those s xs
+  unfolding those
+  those-alike [] alike = refl
+  those-alike (x ∷ xs) alike = by-test (those-alike xs (λ y i p. alike y (suc i) (later p))) (s x) refl
+    where
+      by-test : those t xs ≡ those s xs → (b : Bool) → s x ≡ b → those t (x ∷ xs) ≡ those s (x ∷ xs)
+      by-test ih true e = rw (kept t x xs (alike x zero first ∙ e), kept s x xs e, ih)
+      by-test ih false e = rw (left-out t x xs (alike x zero first ∙ e), left-out s x xs e, ih)
+
 -- a test of mapped elements
 module _ {A B : Type 0} (h : A → B) (t : B → Bool) (s : A → Bool) where
   pub those-of-a-mapped-list : ((x : A) → t (h x) ≡ s x) → (xs : List A) → those t (map h xs) ≡ map h (those s xs)
@@ -83,3 +94,8 @@ module _ {A : Type 0} where
   pub all-have : {P Q : A → Type 0} {xs : List A} → ((x : A) → P x → Q x) → All P xs → All Q xs
   all-have h nothing = nothing
   all-have h (besides p a) = besides (h _ p) (all-have h a)
+
+  pub none-pass : (t : A → Bool) {xs : List A} → All (λ (x : A). t x ≡ false) xs → those t xs ≡ []
+  unfolding those
+  none-pass t nothing = refl
+  none-pass t (besides {x = x} {xs = xs} e a) = left-out t x xs e ∙ none-pass t a

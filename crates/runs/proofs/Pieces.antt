@@ -85,14 +85,14 @@ module _ (f₀ g₀ : ℕ) where
       ap (joined f₀ g₀ (via f x)) (one-run f e y ys) ∙ joins (via f x) _ [] (all-the-same f₀ g₀ f e (x .route) (y .route))
 
   pub door-row-of-a-run : (f : ℕ) → is-door f₀ g₀ f ≡ true → (x : Routed) (xs : List Routed)
-      → shut-rows f₀ g₀ (map (via f) (x ∷ xs)) ≡ record { row = record { face = f; right = x .row .right; left = last x xs .row .left }; route = [] } ∷ []
+      → shut-rows f₀ g₀ (map (via f) (x ∷ xs)) ≡ record { row = record { face = f; right = x .row .right; left = last x xs .row .left; far = 0 }; route = [] } ∷ []
   unfolding shut-rows is-run door-row
   door-row-of-a-run f e x xs = rw (one-run f e x xs) (ap (λ (y : Routed). y ∷ []) one-row)
     where
       k : Piece
       k = record { first = via f x; others = map (via f) xs }
 
-      one-row : shut-piece f₀ g₀ k ≡ record { row = record { face = f; right = x .row .right; left = last x xs .row .left }; route = [] }
+      one-row : shut-piece f₀ g₀ k ≡ record { row = record { face = f; right = x .row .right; left = last x xs .row .left; far = 0 }; route = [] }
       one-row =
           a-run-is-shut k (crosses-at-once f₀ g₀ f e (x .route))
           ∙ rw (seen-at-once f₀ g₀ f e (x .route), nothing-before f₀ g₀ f e (x .route), last-further-on f x xs)

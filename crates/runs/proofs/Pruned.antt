@@ -10,7 +10,7 @@ use Rattle.runs.specs.Door.{is-door}
 use Rattle.runs.specs.Shutting.{prune, crossings-left, crossings-lost}
 
 module _ (f₀ g₀ f r l : ℕ) (t : Sight) where
-  pub sight-ends-at-the-door : is-door f₀ g₀ f ≡ true → prune f₀ g₀ (pass f r l t) ≡ row f r l
+  pub sight-ends-at-the-door : is-door f₀ g₀ f ≡ true → prune f₀ g₀ (pass f r l t) ≡ row f r l 0
   unfolding prune
   sight-ends-at-the-door e = rw (e, prune)
 
@@ -33,7 +33,7 @@ module _ (f₀ g₀ : ℕ) where
   -- the crossings once the door is shut
   pub crossings-once-shut : (t : Sight) → crossings (prune f₀ g₀ t) ≡ crossings-left f₀ g₀ t
   unfolding prune crossings crossings-left
-  crossings-once-shut (row f r l) = refl
+  crossings-once-shut (row f r l k) = refl
   crossings-once-shut (pass f r l t) = by-door (crossings-once-shut t) (is-door f₀ g₀ f) refl
     where
       by-door : crossings (prune f₀ g₀ t) ≡ crossings-left f₀ g₀ t → (b : Bool) → is-door f₀ g₀ f ≡ b
@@ -46,7 +46,7 @@ module _ (f₀ g₀ : ℕ) where
   -- are fewer by the passages through the door and beyond it
   pub crossings-while-open : (t : Sight) → crossings t ≡ crossings (prune f₀ g₀ t) + crossings-lost f₀ g₀ t
   unfolding prune crossings crossings-lost
-  crossings-while-open (row f r l) = refl
+  crossings-while-open (row f r l k) = refl
   crossings-while-open (pass f r l t) = by-door (crossings-while-open t) (is-door f₀ g₀ f) refl
     where
       by-door : crossings t ≡ crossings (prune f₀ g₀ t) + crossings-lost f₀ g₀ t → (b : Bool) → is-door f₀ g₀ f ≡ b

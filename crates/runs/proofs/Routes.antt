@@ -15,7 +15,7 @@ use Rattle.runs.specs.Route.{Routed, via, routed, way, row-numbers}
 -- without their routes they are the rows
 pub routed-rows-are-the-rows : (t : Sight) → map (λ (x : Routed). x .row) (routed t) ≡ rows t
 unfolding routed rows
-routed-rows-are-the-rows (row f r l) = refl
+routed-rows-are-the-rows (row f r l k) = refl
 routed-rows-are-the-rows (pass f r l t) = map-map (λ (x : Routed). x .row) (via f) (routed t) ∙ routed-rows-are-the-rows t
 routed-rows-are-the-rows (both t u) = rw (map-append, routed-rows-are-the-rows t, routed-rows-are-the-rows u)
 routed-rows-are-the-rows cut = refl

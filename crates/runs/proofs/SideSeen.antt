@@ -54,7 +54,7 @@ module _ (F : Floor) (see : ℕ → Point) (f₀ g₀ : ℕ)
 -- a row's way is a way down the tree
 way-goes-down : (t : Sight) {x : Routed} {i : ℕ} → At x (routed t) i → (e : ℕ) × (p : List ℕ) × WayDown t e p × (way x ≡ e ∷ p)
 unfolding routed way
-way-goes-down (row f r l) p = (f, [], at-a-row, ap way (at-the-only-place p))
+way-goes-down (row f r l k) p = (f, [], at-a-row, ap way (at-the-only-place p))
 way-goes-down (pass f r l t) p =
     let (y, q, same) = at-mapped (routed t) p in
     let (e, s, w, k) = way-goes-down t q in
@@ -94,7 +94,7 @@ module _ {F : Floor} {N M : ℕ} {see : ℕ → Point} {cell : ℕ → ℕ} (G :
       first-or-after q′ (λ c. rw c (s .seen .seen)) (λ k q. tree-way-is-seen t₁ y i o e k q)
   tree-way-is-seen (keeps o t₁) x i p e j q = tree-way-is-seen t₁ x i p e j q
   tree-way-is-seen (splits {t = t} {u = u} o b t₁ t₂) x i p e j q =
-      every-way-of-both (AllFacing F see) t u (tree-way-is-seen t₁) (tree-way-is-seen t₂) x i p e j q
+      every-way-of-both (AllFacing F see) t u (λ x i p e j q. tree-way-is-seen t₁ x i p e j q) (λ x i p e j q. tree-way-is-seen t₂ x i p e j q) x i p e j q
 
   -- ---- the listing
 

@@ -27,7 +27,7 @@ NoneInBoth fs gs = (e i j : ℕ) → At e fs i → At e gs j → ⊥
 
 -- t is all that is seen through the lines of the faces of a list, one after the other, from the limit r to the limit l, where sight ends as told
 pub data Through (ends : ℕ → Bool) : List ℕ → ℕ → ℕ → Sight → Type 0 where
-  wall : {f r l : ℕ} → ends f ≡ true → Through ends (f ∷ []) r l (row f r l)
+  wall : {f r l k : ℕ} → ends f ≡ true → Through ends (f ∷ []) r l (row f r l k)
   -- beyond a free line, lines take its limits
   crossed : {f r l : ℕ} {fs : List ℕ} {t : Sight} → ends f ≡ false → Through ends fs r l t → Through ends (f ∷ []) r l (pass f r l t)
   -- lines, and other lines after them, share the limits at a corner
@@ -57,7 +57,7 @@ some-line alone = omega arith
 some-line (in-front p) = omega arith
 
 -- where sight ends has no part in it
-pub linked-alike : {F : Floor} {ends : ℕ → Bool} {es : List ℕ} {r l : ℕ} → Linked F es r l → Linked (ending F ends) es r l
+pub linked-alike : {F : Floor} {ends : ℕ → Bool} {far : ℕ → ℕ} {es : List ℕ} {r l : ℕ} → Linked F es r l → Linked (ending F ends far) es r l
 linked-alike alone = alone
 linked-alike (in-front p) = in-front (linked-alike p)
 
@@ -183,7 +183,7 @@ fill-further-on f (more x p) = more (via f x) (fill-further-on f p)
 module _ {ends : ℕ → Bool} where
   pub rows-fill-the-limits : {fs : List ℕ} {r l : ℕ} {t : Sight} → Through ends fs r l t → Fill r l (routed t)
   unfolding routed
-  rows-fill-the-limits (wall {f = f} {r = r} {l = l} e) = one (record { row = record { face = f; right = r; left = l }; route = [] })
+  rows-fill-the-limits (wall {f = f} {r = r} {l = l} {k = k} e) = one (record { row = record { face = f; right = r; left = l; far = k }; route = [] })
   rows-fill-the-limits (crossed {f = f} e t₁) = fill-further-on f (rows-fill-the-limits t₁)
   rows-fill-the-limits (shared d t₁ t₂) = fill-both (rows-fill-the-limits t₁) (rows-fill-the-limits t₂)
 

@@ -16,13 +16,13 @@ module _ (f₀ g₀ : ℕ) where
   abbrev touching-nothing : Sight → List Routed
   touching-nothing t = those (untouched f₀ g₀) (routed t)
 
-  touched-on-the-door : (f r l : ℕ) → is-door f₀ g₀ f ≡ true → touching-nothing (row f r l) ≡ []
+  touched-on-the-door : (f r l k : ℕ) → is-door f₀ g₀ f ≡ true → touching-nothing (row f r l k) ≡ []
   unfolding routed those untouched crosses on-door
-  touched-on-the-door f r l e = rw (e, those)
+  touched-on-the-door f r l k e = rw (e, those)
 
   pub untouched-rows-stay : (t : Sight) → those (untouched f₀ g₀) (routed (prune f₀ g₀ t)) ≡ those (untouched f₀ g₀) (routed t)
   unfolding routed prune
-  untouched-rows-stay (row f r l) = refl
+  untouched-rows-stay (row f r l k) = refl
   untouched-rows-stay (pass f r l t) = by-door (untouched-rows-stay t) (is-door f₀ g₀ f) refl
     where
       beyond : (s : Sight) → is-door f₀ g₀ f ≡ false → touching-nothing (pass f r l s) ≡ map (via f) (touching-nothing s)
@@ -37,7 +37,7 @@ module _ (f₀ g₀ : ℕ) where
           → touching-nothing (prune f₀ g₀ (pass f r l t)) ≡ touching-nothing (pass f r l t)
       by-door ih true e =
           rw (sight-ends-at-the-door f₀ g₀ f r l t e)
-          (touched-on-the-door f r l e ∙ sym (nothing-beyond e))
+          (touched-on-the-door f r l 0 e ∙ sym (nothing-beyond e))
       by-door ih false e =
           rw (sight-passes-elsewhere f₀ g₀ f r l t e)
           (beyond (prune f₀ g₀ t) e ∙ ap (map (via f)) ih ∙ sym (beyond t e))

@@ -2,20 +2,24 @@
 -- are adjacent (document 01, "Changing a door").
 use mathlib.Core.Bool.{Bool, true, false, true≢false}
 use mathlib.Core.List.{List, [], _∷_, map}
-use mathlib.Core.Path.{_≡_, refl, sym, _∙_, ap}
+use mathlib.Core.Path.{_≡_, refl, sym, _∙_, ap, ap₂}
 use Prim.Native.Nat.{ℕ, zero, suc}
 use Rattle.fan.specs.Sight.{Sight}
+use Rattle.fan.specs.Sight.Sight.{pass, both}
 use Rattle.fan.specs.Once.{At}
 use Rattle.fan.specs.Once.At.{first, later}
-use Rattle.fan.proofs.Places.{at-no-place}
+use Rattle.fan.proofs.Places.{at-no-place, at-the-only-place, either-list}
 use Rattle.runs.specs.Route.{Routed, routed, way}
-use Rattle.runs.specs.Door.{is-door, same-to-door, on-door, those}
+use Rattle.runs.specs.Door.{is-door, crosses, same-to-door, on-door, those}
 use Rattle.runs.specs.Shutting.{Piece, alone, in-front, joined, pieces, is-run, runs, door-row, shut-piece, shut-rows, prune}
-use Rattle.runs.proofs.Lists.{All, mapped-at, kept, left-out, all-have}
+use Rattle.runs.proofs.Lists.{All, at-mapped, mapped-at, kept, left-out, all-have, none-pass}
 use Rattle.runs.proofs.Lists.All.{nothing, besides}
+use Rattle.runs.proofs.Doors.{crosses-later}
+use Rattle.runs.proofs.Pruned.{sight-passes-elsewhere}
 use Rattle.runs.proofs.SameToDoor.{side-seen-is-the-door, same-to-door-says, same-to-door-is-transitive}
 use Rattle.runs.proofs.Pieces.{joins, stays-alone, a-run-is-shut, another-row-stays}
 use Rattle.runs.proofs.Through.{Through, rows-stand-where-sight-ends}
+use Rattle.runs.proofs.Through.Through.{wall, crossed, shared}
 use Rattle.runs.proofs.Runs.{shut-rows-are-the-pruned-rows}
 use Rattle.runs.proofs.Ways.{OwnWays, own-ways-of-those, way-tells-the-place, every-row-has-its-own-way}
 
@@ -88,6 +92,30 @@ module _ (f₀ g₀ : ℕ) where
       by-run ih false c =
           rw (another-row-stays f₀ g₀ k c, left-out (is-run f₀ g₀) k ks c)
           (left-out (on-door f₀ g₀) (k .first) (map (shut-piece f₀ g₀) ks) (h c) ∙ ih)
+
+  -- ---- a door out of reach: no passage is at it
+
+  module _ {ends : ℕ → Bool} (no-passage : (f : ℕ) → ends f ≡ false → is-door f₀ g₀ f ≡ false) where
+    pub nothing-to-prune : {fs : List ℕ} {r l : ℕ} {t : Sight} → Through ends fs r l t → prune f₀ g₀ t ≡ t
+    unfolding prune
+    nothing-to-prune (wall e) = refl
+    nothing-to-prune (crossed {f = f} {r = r} {l = l} {t = t} e t₁) =
+        sight-passes-elsewhere f₀ g₀ f r l t (no-passage f e) ∙ ap (pass f r l) (nothing-to-prune t₁)
+    nothing-to-prune (shared none t₁ t₂) = ap₂ both (nothing-to-prune t₁) (nothing-to-prune t₂)
+
+    no-route-crosses : {fs : List ℕ} {r l i : ℕ} {t : Sight} {x : Routed} → Through ends fs r l t → At x (routed t) i → crosses f₀ g₀ (x .route) ≡ false
+    unfolding routed crosses
+    no-route-crosses (wall e) p = ap (λ (x : Routed). crosses f₀ g₀ (x .route)) (at-the-only-place p)
+    no-route-crosses (crossed {f = f} {t = t} e t₁) p =
+        let (y, q, same) = at-mapped (routed t) p in
+        ap (λ (x : Routed). crosses f₀ g₀ (x .route)) same ∙ crosses-later f₀ g₀ f (no-passage f e) (y .route) ∙ no-route-crosses t₁ q
+    no-route-crosses (shared {t = t} none t₁ t₂) p = either-list (routed t) p (λ k q. no-route-crosses t₁ q) (λ k q. no-route-crosses t₂ q)
+
+    pub no-runs : {fs : List ℕ} {r l : ℕ} {t : Sight} → Through ends fs r l t → runs f₀ g₀ (routed t) ≡ []
+    unfolding runs is-run
+    no-runs {t = t} L = none-pass (is-run f₀ g₀) (all-have (λ k s. no-route-crosses L (s .1)) (first-rows-stand (routed t)))
+
+  -- ---- a door in reach: no row stands on it while it is open
 
   module _ {ends : ℕ → Bool} {fs : List ℕ} {r l : ℕ} {t : Sight} (L : Through ends fs r l t) (no-end : (f : ℕ) → ends f ≡ true → is-door f₀ g₀ f ≡ false) where
     -- runs through the open door and rows on the shut door correspond one to one, in order

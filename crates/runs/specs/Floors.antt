@@ -1,16 +1,17 @@
--- Two floors that differ only in where sight ends: a door open and shut (document 01, "Side value and plan check": both faces of a shut door count as
--- wall).
+-- Two floors that differ only in where sight ends and what is in reach: a door open and shut (document 01, "Side value and plan check": both faces of a shut
+-- door count as wall), a longer reach and a shorter one (document 02, A5).
 use mathlib.Core.Bool.{Bool, true, false}
 use mathlib.Core.Path.{_≡_}
 use Prim.Native.Nat.{ℕ, _<_}
 use Rattle.fan.specs.Sight.{Floor}
 use Rattle.fan.specs.Walk.{Other}
 
--- the same floor, where sight ends at other faces
-abbrev pub ending : Floor → (ℕ → Bool) → Floor
-ending F ends =
+-- the same floor, where sight ends at other faces and others are in reach
+abbrev pub ending : Floor → (ℕ → Bool) → (ℕ → ℕ) → Floor
+ending F ends far =
     record {
       ends = ends;
+      far = far;
       back = F .back;
       next = F .next;
       more = F .more;
@@ -19,13 +20,21 @@ ending F ends =
       place = F .place;
     }
 
--- sight passes the door's two faces f₀ and g₀ while it is open and ends at both once it is shut; at every other of the N faces nothing changes
-pub record Shuts (N f₀ g₀ : ℕ) (while-open once-shut : ℕ → Bool) : Type 0 where
-  pub open-face : while-open f₀ ≡ false
-  pub open-back : while-open g₀ ≡ false
+-- sight ends at the faces that the test names, where it may have gone on; at every other of the N faces nothing changes
+pub record Stops (N : ℕ) (F : Floor) (stops ends : ℕ → Bool) (far : ℕ → ℕ) : Type 0 where
+  pub stopped : (f : ℕ) → stops f ≡ true → ends f ≡ true
+  pub ends-elsewhere : (f : ℕ) → f < N → stops f ≡ false → ends f ≡ F .ends f
+  pub far-elsewhere : (f : ℕ) → f < N → stops f ≡ false → far f ≡ F .far f
+
+-- once the door is shut, sight ends at its two faces f₀ and g₀; at every other of the N faces nothing changes. On F, where it is open, sight passes both its
+-- faces or, out of reach, ends at both
+pub record Shuts (N f₀ g₀ : ℕ) (F : Floor) (once-shut : ℕ → Bool) : Type 0 where
   pub shut-face : once-shut f₀ ≡ true
   pub shut-back : once-shut g₀ ≡ true
-  pub elsewhere : (f : ℕ) → f < N → (f ≡ f₀ → ⊥) → (f ≡ g₀ → ⊥) → once-shut f ≡ while-open f
+  pub elsewhere : (f : ℕ) → f < N → (f ≡ f₀ → ⊥) → (f ≡ g₀ → ⊥) → once-shut f ≡ F .ends f
+  pub alike-from-both : F .ends g₀ ≡ F .ends f₀
+  -- what is passed is in reach
+  pub passed-in-reach : (f : ℕ) → F .ends f ≡ false → F .far f ≡ 0
 
 -- the N faces of a floor: across a free face, and next to a face in its cell, are faces; the sides of a cell differ
 pub record Faces (N : ℕ) (F : Floor) : Type 0 where

@@ -20,11 +20,11 @@ via f x = record { row = x .row; route = f ∷ x .route }
 
 -- the rows of a tree with their routes, in order
 unfoldable pub routed : Sight → List Routed
-routed (row f r l) = record { row = record { face = f; right = r; left = l }; route = [] } ∷ []
+routed (row f r l k) = record { row = record { face = f; right = r; left = l; far = k }; route = [] } ∷ []
 routed (pass f r l t) = map (via f) (routed t)
 routed (both t u) = routed t ++ routed u
 routed cut = []
 
--- the rows' numbers, three a row, in order
+-- the rows' numbers, four a row, in order
 unfoldable pub row-numbers : List Routed → List ℕ
 row-numbers xs = written (map (λ (x : Routed). x .row) xs)

@@ -42,11 +42,11 @@ module _ (f₀ g₀ : ℕ) where
   unfoldable pub runs : List Routed → List Piece
   runs xs = those is-run (pieces xs)
 
-  -- one row for a run: the door's face on the side seen, the first row's right limit, the last row's left limit
+  -- one row for a run: the door's face on the side seen, the first row's right limit, the last row's left limit; it is in reach, since it was crossed
   unfoldable pub door-row : Piece → Routed
   door-row k =
       record {
-        row = record { face = side-seen f₀ g₀ (k .first .route); right = k .first .row .right; left = last (k .first) (k .others) .row .left };
+        row = record { face = side-seen f₀ g₀ (k .first .route); right = k .first .row .right; left = last (k .first) (k .others) .row .left; far = 0 };
         route = before f₀ g₀ (k .first .route);
       }
 
@@ -59,21 +59,21 @@ module _ (f₀ g₀ : ℕ) where
 
   -- on the tree: sight ends where the door was passed
   unfoldable pub prune : Sight → Sight
-  prune (row f r l) = row f r l
-  prune (pass f r l t) = elim (is-door f₀ g₀ f) [ true ↦ row f r l | false ↦ pass f r l (prune t) ]
+  prune (row f r l k) = row f r l k
+  prune (pass f r l t) = elim (is-door f₀ g₀ f) [ true ↦ row f r l 0 | false ↦ pass f r l (prune t) ]
   prune (both t u) = both (prune t) (prune u)
   prune cut = cut
 
   -- the passages that are left
   unfoldable pub crossings-left : Sight → ℕ
-  crossings-left (row f r l) = 0
+  crossings-left (row f r l k) = 0
   crossings-left (pass f r l t) = elim (is-door f₀ g₀ f) [ true ↦ 0 | false ↦ crossings-left t + 1 ]
   crossings-left (both t u) = crossings-left t + crossings-left u
   crossings-left cut = 0
 
   -- the passages through the door and beyond it
   unfoldable pub crossings-lost : Sight → ℕ
-  crossings-lost (row f r l) = 0
+  crossings-lost (row f r l k) = 0
   crossings-lost (pass f r l t) = elim (is-door f₀ g₀ f) [ true ↦ crossings t + 1 | false ↦ crossings-lost t ]
   crossings-lost (both t u) = crossings-lost t + crossings-lost u
   crossings-lost cut = 0

@@ -12,26 +12,26 @@ use Rattle.expand.specs.Remains.{Remains}
 use Rattle.expand.proofs.Expansion.{Room, Written, room-for-the-first, all-remains, second-remains, room-remains}
 use Rattle.sight.specs.CellTree.{side-tree, cell-tree}
 
-module _ (zs : List ℤ) (ls fs : List ℕ) (n f : ℕ) where
-  pub the-last-side : {m : ℕ} → m ≡ 0 → cell-tree zs ls fs n m f ≡ side-tree zs ls fs n f
+module _ (zs : List ℤ) (ls fs : List ℕ) (R n f : ℕ) where
+  pub the-last-side : {m : ℕ} → m ≡ 0 → cell-tree zs ls fs R n m f ≡ side-tree zs ls fs R n f
   unfolding cell-tree
   the-last-side e = rw e refl
 
-  pub one-side-and-more : (m : ℕ) → (m ≡ 0 → ⊥) → cell-tree zs ls fs n m f ≡ both (side-tree zs ls fs n f) (cell-tree zs ls fs n (m - 1) (getD ls (4 * f + 3) 0))
+  pub one-side-and-more : (m : ℕ) → (m ≡ 0 → ⊥) → cell-tree zs ls fs R n m f ≡ both (side-tree zs ls fs R n f) (cell-tree zs ls fs R n (m - 1) (getD ls (4 * f + 3) 0))
   unfolding cell-tree
   one-side-and-more zero h = absurd (h refl)
   one-side-and-more (suc m) h = rw sub-one refl
 
   -- where all have room, the first has
-  pub room-for-a-side : (at size m : ℕ) → Room at size (cell-tree zs ls fs n m f) → Room at size (side-tree zs ls fs n f)
+  pub room-for-a-side : (at size m : ℕ) → Room at size (cell-tree zs ls fs R n m f) → Room at size (side-tree zs ls fs R n f)
   unfolding cell-tree
   room-for-a-side at size zero h = h
   room-for-a-side at size (suc m) h = room-for-the-first at size refl h
 
 -- of two parts, from the beginning of a table on, the first is followed to its rows: the second remains, and has room
 module _ (old new : List ℕ) {a b : Sight} {i j : ℕ} (room : Room 0 (length old) (both a b)) (w : Written old new 0 i j a) (n : length new ≡ length old) where
-  pub second-part-remains : Remains old 0 (both a b) new (3 * i) i j b
+  pub second-part-remains : Remains old 0 (both a b) new (4 * i) i j b
   second-part-remains = second-remains old 0 (both a b) old 0 0 0 (all-remains old 0 (both a b) 0 refl (room .0)) refl w n (omega arith) (omega arith) (omega arith)
 
-  pub second-part-fits : Room (3 * i) (length new) b × (j + crossings b < 2 ^ 63)
-  second-part-fits = room-remains old 0 (both a b) new (3 * i) i j second-part-remains room
+  pub second-part-fits : Room (4 * i) (length new) b × (j + crossings b < 2 ^ 63)
+  second-part-fits = room-remains old 0 (both a b) new (4 * i) i j second-part-remains room

@@ -1,7 +1,7 @@
 -- Laws of the code's tables: those of an accepted plan are tables that lines can be followed by, and the floor that they describe is the plan's.
-use mathlib.Core.Bool.{Bool, true, false}
+use mathlib.Core.Bool.{Bool, true, false, _||_}
 use mathlib.Core.List.{List}
-use mathlib.Core.Path.{_≡_, refl, sym, ap₂, _∙_, subst}
+use mathlib.Core.Path.{_≡_, refl, sym, ap, ap₂, _∙_, subst}
 use Prim.Native.Nat.{ℕ, zero, suc, _+_, _*_, _/_, _%_, _<_, _≤_}
 use native.Mathlib.Omega.{arith}
 use borrow.Author.Tests.{eq-eqb, ne-eqb}
@@ -27,12 +27,13 @@ use Rattle.fan.specs.Sight.{follow}
 use Rattle.fan.specs.Sight.Place.{between, right-of-r, left-of-l}
 use Rattle.fan.proofs.Agree.{Agree, follow-agrees}
 use Rattle.expand.specs.Floor as Floor
-use Rattle.expand.specs.Floor.{seen-at, most-apart, floor-of, Lines}
+use Rattle.reach.specs.Reach.{most-apart, out-of-reach, far}
+use Rattle.expand.specs.Floor.{seen-at, floor-of, Lines, Starts}
 use Rattle.lines.specs.Lined.{SoundCells, Lined}
 use Rattle.lines.proofs.Marks.{across-where-sight-ends, across-where-sight-passes}
-use Rattle.sight.specs.Listing.{placed, plan-floor}
+use Rattle.sight.specs.Listing.{placed, seen, plan-floor}
 use Rattle.sight.specs.Seen.{SeenFrom}
-use Rattle.sight.specs.CellTree.{Starts}
+use Rattle.sight.proofs.PlanFloor.{passed-is-free}
 
 -- the cells and doors of an accepted plan
 pub sound-cells : {cs : List ℤ} {T : Cells} {ds : List ℕ} → Sound cs T ds → SoundCells T ds
@@ -69,7 +70,7 @@ module _ {cs : List ℤ} {q : Point} {zs : List ℤ} (near : CornersNear cs) (st
 
 -- ---- the table of an accepted plan
 
-module _ {cs : List ℤ} {T : Cells} {ds ls : List ℕ} {q : Point} {zs : List ℤ} (w : ℕ) (sound : Sound cs T ds) (stand : Near q) (lined : Lined T ds w ls) (S : SeenFrom cs q zs) where
+module _ {cs : List ℤ} {T : Cells} {ds ls : List ℕ} {q : Point} {zs : List ℤ} (w R : ℕ) (sound : Sound cs T ds) (stand : Near q) (lined : Lined T ds w ls) (S : SeenFrom cs q zs) where
   pub few-faces : face-count T ≤ most-sides * most-cells
   few-faces = omega (arith, faces-at-most (sound .numbered), counts _ _ _ (sound .in-size) .cells-at-most)
 
@@ -124,12 +125,14 @@ module _ {cs : List ℤ} {T : Cells} {ds ls : List ℕ} {q : Point} {zs : List �
         exists = λ f h. omega (arith, start-exists f (omega (arith, lined .whole)), S .whole);
       }
 
-  agree : Agree (floor-of zs ls) (plan-floor cs T ds w q) (face-count T) (corner-count cs)
+  agree : Agree (floor-of zs ls (T .faces) R) (plan-floor cs T ds w R q) (face-count T) (corner-count cs)
+  unfolding start
   agree =
       record {
-        ends-agree = λ f h. by-end f h (ends T ds w f) refl;
-        back-agrees = across-where-passed;
-        back-below = back-below;
+        ends-agree = λ f h. ap₂ _||_ (by-end f h (ends T ds w f) refl) (as-far f h out-of-reach);
+        far-agrees = λ f h. as-far f h far;
+        back-agrees = λ f h e. across-where-passed f h (passed-is-free cs T ds w R q f e);
+        back-below = λ f h e. back-below f h (passed-is-free cs T ds w R q f e);
         next-agrees = lined .next-stands;
         next-below = next-exists;
         more-agrees = lined .more-stands;
@@ -138,9 +141,16 @@ module _ {cs : List ℤ} {T : Cells} {ds ls : List ℕ} {q : Point} {zs : List �
         place-agrees = placed-alike (sound .corners) stand (sound .whole-corners) S;
       }
     where
+      -- a line's two ends are seen alike
+      as-far : {A : Type 0} (f : ℕ) → f < face-count T → (t : ℕ → Point → Point → A) →
+          t R (seen-at zs (getD (T .faces) (2 * f) 0)) (seen-at zs (getD ls (4 * f) 0)) ≡ t R (seen cs q (start T f)) (seen cs q (start T (next T f)))
+      as-far f h t =
+          ap₂ (t R) (S .stands (start T f) (start-exists f h))
+          (ap (seen-at zs) (lined .end-stands f h) ∙ S .stands (start T (next T f)) (start-exists (next T f) (next-exists f h)))
+
       by-end : (f : ℕ) → f < face-count T → (b : Bool) → ends T ds w f ≡ b → eqb (getD ls (4 * f + 1) 0) wall ≡ ends T ds w f
       by-end f h true e = eq-eqb _ _ (across-where-ended f h e) ∙ sym e
       by-end f h false e = ne-eqb (getD ls (4 * f + 1) 0) wall (λ k. omega (arith, across-where-passed f h e, back-below f h e, few-faces)) ∙ sym e
 
-  pub lined-floor-agrees : (n f r l : ℕ) → f < face-count T → r < corner-count cs → l < corner-count cs → follow (floor-of zs ls) n f r l ≡ follow (plan-floor cs T ds w q) n f r l
+  pub lined-floor-agrees : (n f r l : ℕ) → f < face-count T → r < corner-count cs → l < corner-count cs → follow (floor-of zs ls (T .faces) R) n f r l ≡ follow (plan-floor cs T ds w R q) n f r l
   lined-floor-agrees = follow-agrees agree

@@ -30,61 +30,61 @@ use Rattle.sight.specs.Seen.{SeenFrom}
 use Rattle.sight.specs.Listing as Listing
 use Rattle.sight.specs.Listing.{plan-floor, standing, sight-from, listing-numbers, listing-row-count, listing-crossings}
 use Rattle.sight.proofs.Lined.{few-faces, across-where-passed, lined-floor-agrees}
-use Rattle.sight.proofs.PlanFloor.{plan-geometry, stands-on-the-floor}
+use Rattle.sight.proofs.PlanFloor.{passed-is-free, plan-geometry, stands-on-the-floor}
 use Rattle.sight.proofs.Sightings as Sightings
 use Rattle.sight.proofs.Sightings.{listing-is-whole, rows-never-outnumber-corners}
 
-module _ {cs : List ℤ} {T : Cells} {ds : List ℕ} (sound : Sound cs T ds) (w : ℕ) (q : Point) (near : Near q)
+module _ {cs : List ℤ} {T : Cells} {ds : List ℕ} (sound : Sound cs T ds) (w R : ℕ) (q : Point) (near : Near q)
     {ls : List ℕ} (lined : Lined T ds w ls) {zs : List ℤ} (seen : SeenFrom cs q zs) where
   abbrev P : Floor
-  P = plan-floor cs T ds w q
+  P = plan-floor cs T ds w R q
 
   -- one side is followed as on the plan's floor
-  side-is : (n f : ℕ) → f < face-count T → side-tree zs ls (T .faces) n f ≡ follow P n f (start T f) (start T (next T f))
+  side-is : (n f : ℕ) → f < face-count T → side-tree zs ls (T .faces) R n f ≡ follow P n f (start T f) (start T (next T f))
   unfolding start
   side-is n f h =
       let starts = corner-exists (sound .numbered) (sound .cells) in
-      ap (λ (l : ℕ). follow (floor-of zs ls) n f (start T f) l) (lined .end-stands f h)
-      ∙ lined-floor-agrees w sound near lined seen n f (start T f) (start T (next T f)) h (starts f h) (starts (next T f) (next-below (sound .numbered) f h))
+      ap (λ (l : ℕ). follow (floor-of zs ls (T .faces) R) n f (start T f) l) (lined .end-stands f h)
+      ∙ lined-floor-agrees w R sound near lined seen n f (start T f) (start T (next T f)) h (starts f h) (starts (next T f) (next-below (sound .numbered) f h))
 
   -- so are the sides one after another
-  tree-is : (n m f : ℕ) → f < face-count T → cell-tree zs ls (T .faces) n m f ≡ lines-seen P n (sides (next T) m f)
+  tree-is : (n m f : ℕ) → f < face-count T → cell-tree zs ls (T .faces) R n m f ≡ lines-seen P n (sides (next T) m f)
   unfolding cell-tree sides lines-seen
   tree-is n zero f h = side-is n f h
   tree-is n (suc m) f h =
-      ap₂ both (side-is n f h) (ap (cell-tree zs ls (T .faces) n m) (lined .next-stands f h) ∙ tree-is n m (next T f) (next-below (sound .numbered) f h))
+      ap₂ both (side-is n f h) (ap (cell-tree zs ls (T .faces) R n m) (lined .next-stands f h) ∙ tree-is n m (next T f) (next-below (sound .numbered) f h))
       ∙ sym (in-front-of-sides P n m (next T f) f)
 
   -- and the other sides of a cell
-  others-are : (n g : ℕ) → g < face-count T → others-tree zs ls (T .faces) n g ≡ lines-seen P n (other-sides P g)
+  others-are : (n g : ℕ) → g < face-count T → others-tree zs ls (T .faces) R n g ≡ lines-seen P n (other-sides P g)
   others-are n g h =
-      ap₂ (λ (m e : ℕ). cell-tree zs ls (T .faces) n m e) (lined .more-stands g h) (lined .next-stands g h)
+      ap₂ (λ (m e : ℕ). cell-tree zs ls (T .faces) R n m e) (lined .more-stands g h) (lined .next-stands g h)
       ∙ tree-is n (side-count T (home T g) - 2) (next T g) (next-below (sound .numbered) g h)
 
-  inside-is : (c : ℕ) → c < cell-count T → inside-tree zs ls T c ≡ lines-seen P (cell-count T - 1) (all-sides P (first T c))
+  inside-is : (c : ℕ) → c < cell-count T → inside-tree zs ls T R c ≡ lines-seen P (cell-count T - 1) (all-sides P (first T c))
   inside-is c h =
       let wide = sound .numbered .at-least c h in
       let s : SideOf T c (first T c) = record { not-before = omega arith; not-after = omega (arith, wide) } in
       let count : side-count T (home T (first T c)) ≡ side-count T c = ap (side-count T) (home-is (sound .numbered) h s) in
       let all : side-count T c - 1 ≡ suc (side-count T (home T (first T c)) - 2) = omega (arith, wide, count) in
-      ap (λ (m : ℕ). cell-tree zs ls (T .faces) (cell-count T - 1) m (first T c)) all
+      ap (λ (m : ℕ). cell-tree zs ls (T .faces) R (cell-count T - 1) m (first T c)) all
       ∙ tree-is (cell-count T - 1) (suc (side-count T (home T (first T c)) - 2)) (first T c) (side-exists (sound .numbered) h s)
 
   -- across the side stood on is the neighbour's
   module _ {s : ℕ} (W : WithinSide P (face-count T) (Listing.seen cs q) s) where
     across : getD ls (4 * s + 1) 0 ≡ back T s
-    across = across-where-passed w sound near lined seen s (W .is-a-face) (W .free)
+    across = across-where-passed w R sound near lined seen s (W .is-a-face) (passed-is-free cs T ds w R q s (W .free))
 
     beyond : back T s < face-count T
-    beyond = plan-geometry sound w q .back-is-a-face s (W .is-a-face) (W .free)
+    beyond = plan-geometry sound w R q .back-is-a-face s (W .is-a-face) (W .free)
 
     not-wall : getD ls (4 * s + 1) 0 ≡ wall → ⊥
-    not-wall e = let k = few-faces w sound near lined seen in omega (arith, across, beyond, k, e)
+    not-wall e = let k = few-faces w R sound near lined seen in omega (arith, across, beyond, k, e)
 
-    within-is : ListsAs (within-tree zs ls (T .faces) (cell-count T) s) (lines-seen P (cell-count T - 2) (other-sides P s ++ other-sides P (back T s)))
+    within-is : ListsAs (within-tree zs ls (T .faces) R (cell-count T) s) (lines-seen P (cell-count T - 2) (other-sides P s ++ other-sides P (back T s)))
     within-is =
         let own = others-are (cell-count T - 2) s (W .is-a-face) in
-        let theirs = ap (others-tree zs ls (T .faces) (cell-count T - 2)) across ∙ others-are (cell-count T - 2) (back T s) beyond in
+        let theirs = ap (others-tree zs ls (T .faces) R (cell-count T - 2)) across ∙ others-are (cell-count T - 2) (back T s) beyond in
         subst (λ (t : Sight). ListsAs t (lines-seen P (cell-count T - 2) (other-sides P s ++ other-sides P (back T s)))) (sym (ap₂ both own theirs))
         (two-parts P (cell-count T - 2) (other-sides P s) (other-sides P (back T s)) (some-side P _ _) (some-side P _ _))
 
@@ -92,42 +92,42 @@ module _ {cs : List ℤ} {T : Cells} {ds : List ℕ} (sound : Sound cs T ds) (w 
 
   module _ (p : Footing) (stands : Stands cs T ds w q p) where
     -- the code's lines around the stand list as the plan's do
-    stand-tree-is : ListsAs (stand-tree zs ls T p) (sight-from cs T ds w q p)
+    stand-tree-is : ListsAs (stand-tree zs ls T R p) (sight-from cs T ds w R q p)
     unfolding seen-from lines-around unentered
-    stand-tree-is = by-kind (stands-on-the-floor sound w q stands) stands
+    stand-tree-is = by-kind (stands-on-the-floor sound w R q stands) stands
       where
-        by-kind : {p : Footing} → Around.Stands P (face-count T) (Listing.seen cs q) (standing T p) → Stands cs T ds w q p → ListsAs (stand-tree zs ls T p) (sight-from cs T ds w q p)
+        by-kind : {p : Footing} → Around.Stands P (face-count T) (Listing.seen cs q) (standing T p) → Stands cs T ds w q p → ListsAs (stand-tree zs ls T R p) (sight-from cs T ds w R q p)
         by-kind {p = Inside c} k (in-a-cell i) = lists-as-itself (inside-is c (i .cell-exists))
         by-kind {p = Side c k} (stands-within W) (on-a-side i) = within-is W
 
     pub stands-in-the-tables : StandsIn ls T p
-    stands-in-the-tables = by-kind (stands-on-the-floor sound w q stands) stands
+    stands-in-the-tables = by-kind (stands-on-the-floor sound w R q stands) stands
       where
         by-kind : {p : Footing} → Around.Stands P (face-count T) (Listing.seen cs q) (standing T p) → Stands cs T ds w q p → StandsIn ls T p
         by-kind {p = Inside c} k (in-a-cell i) = i .cell-exists
-        by-kind {p = Side c k} (stands-within W) (on-a-side i) = (i .cell-exists, omega (arith, W .is-a-face, lined .whole), not-wall W, two-cells (plan-geometry sound w q) W)
+        by-kind {p = Side c k} (stands-within W) (on-a-side i) = (i .cell-exists, omega (arith, W .is-a-face, lined .whole), not-wall W, two-cells (plan-geometry sound w R q) W)
 
-    pub tree-is-whole : Whole (stand-tree zs ls T p)
-    tree-is-whole = stand-tree-is .whole-too (listing-is-whole sound w q p stands)
+    pub tree-is-whole : Whole (stand-tree zs ls T R p)
+    tree-is-whole = stand-tree-is .whole-too (listing-is-whole sound w R q p stands)
 
-    rows-are : row-count (stand-tree zs ls T p) ≡ listing-row-count cs T ds w q p
+    rows-are : row-count (stand-tree zs ls T R p) ≡ listing-row-count cs T ds w R q p
     unfolding listing-row-count
     rows-are = stand-tree-is .same-count
 
-    crossings-are : crossings (stand-tree zs ls T p) ≡ listing-crossings cs T ds w q p
+    crossings-are : crossings (stand-tree zs ls T R p) ≡ listing-crossings cs T ds w R q p
     unfolding listing-crossings
     crossings-are = stand-tree-is .same-crossings
 
-    numbers-are : numbers (stand-tree zs ls T p) ≡ listing-numbers cs T ds w q p
+    numbers-are : numbers (stand-tree zs ls T R p) ≡ listing-numbers cs T ds w R q p
     unfolding listing-numbers
     numbers-are = stand-tree-is .same-numbers
 
-    -- 3·corners numbers are room enough
-    pub tree-has-room : (n : ℕ) → 3 * corner-count cs ≤ n → 3 * row-count (stand-tree zs ls T p) ≤ n
-    tree-has-room n h = omega (arith, rows-are, rows-never-outnumber-corners sound w q p stands)
+    -- 4·corners numbers are room enough
+    pub tree-has-room : (n : ℕ) → 4 * corner-count cs ≤ n → 4 * row-count (stand-tree zs ls T R p) ≤ n
+    tree-has-room n h = omega (arith, rows-are, rows-never-outnumber-corners sound w R q p stands)
 
-    pub few-crossings : crossings (stand-tree zs ls T p) < 2 ^ 63
-    few-crossings = omega (arith, crossings-are, Sightings.few-crossings sound w q p stands)
+    pub few-crossings : crossings (stand-tree zs ls T R p) < 2 ^ 63
+    few-crossings = omega (arith, crossings-are, Sightings.few-crossings sound w R q p stands)
 
-    pub listing-written : (old : List ℕ) {new : List ℕ} {i j : ℕ} → (i ≡ row-count (stand-tree zs ls T p)) × ((j ≡ crossings (stand-tree zs ls T p)) × (new ≡ sets old 0 (numbers (stand-tree zs ls T p)))) → (i ≡ listing-row-count cs T ds w q p) × ((j ≡ listing-crossings cs T ds w q p) × (new ≡ sets old 0 (listing-numbers cs T ds w q p)))
+    pub listing-written : (old : List ℕ) {new : List ℕ} {i j : ℕ} → (i ≡ row-count (stand-tree zs ls T R p)) × ((j ≡ crossings (stand-tree zs ls T R p)) × (new ≡ sets old 0 (numbers (stand-tree zs ls T R p)))) → (i ≡ listing-row-count cs T ds w R q p) × ((j ≡ listing-crossings cs T ds w R q p) × (new ≡ sets old 0 (listing-numbers cs T ds w R q p)))
     listing-written old h = (h .0 ∙ rows-are, (h .1 .0 ∙ crossings-are, h .1 .1 ∙ ap (sets old 0) numbers-are))

@@ -1,4 +1,4 @@
--- The floor of an accepted plan under any setting, seen from any point, has the geometry that the laws of sight ask for.
+-- The floor of an accepted plan under any setting and within any range, seen from any point, has the geometry that the laws of sight ask for.
 use mathlib.Core.Bool.{Bool, true, false, _||_}
 use mathlib.Core.List.{List}
 use mathlib.Core.Path.{_≡_, refl, sym, _∙_, ap, subst}
@@ -10,6 +10,7 @@ use lib.ListN.{length}
 use lib.IntN.{ℤ}
 use lib.Signed.{_<ℤ_, _≤ℤ_, leZ}
 use Rattle.exact.proofs.Order.{𝟘, leZ-true, leZ-false}
+use Rattle.exact.proofs.Truth.{neither-true}
 use Rattle.plane.specs.Side.{Point, side}
 use Rattle.plane.specs.Cone.{cross, Between, Opposite}
 use Rattle.plane.proofs.Found.{side-from-the-stand, side-positive-is-beyond, opposite-turns}
@@ -23,6 +24,7 @@ use Rattle.cells.proofs.Plans.{convex, back-exists, back-of-back, back-starts-a
 use Rattle.cells.proofs.Within.{every-other-side-turns-left}
 use Rattle.setting.specs.Setting.{ends, bars}
 use Rattle.setting.proofs.Settings.{a-line-is-free-from-both-sides}
+use Rattle.reach.proofs.Reaching.{the-line-stood-on-is-in-reach}
 use Rattle.stand.specs.declared.locate.Footing.{Footing}
 use Rattle.stand.proofs.Located.{InCell, OnSide, Stands, the-cell-goes-around-the-stand, side-ends-are-opposite}
 use Rattle.stand.proofs.Located.Stands.{in-a-cell, on-a-side}
@@ -34,7 +36,7 @@ use Rattle.fan.proofs.Around.Stands.{stands-inside, stands-within}
 use Rattle.fan.proofs.Geometry.{Geometry, other-is-another}
 use Rattle.fan.proofs.Start.{Start}
 use Rattle.fan.proofs.WithinSide.{WithinSide}
-use Rattle.sight.specs.Listing.{placed, plan-floor, seen, standing}
+use Rattle.sight.specs.Listing.{placed, seen, unreached, plan-floor, standing}
 use Rattle.sight.proofs.Round as Round
 
 -- sight goes on only where the neighbour is no wall
@@ -42,6 +44,17 @@ pub free-is-no-wall : (T : Cells) (ds : List ℕ) (w f : ℕ) → ends T ds w f 
 unfolding ends
 free-is-no-wall T ds w f e h =
     not-both (subst (λ (b : Bool). (b || ltb (least (bars ds w f (back T f)) (length ds) 0) (length ds)) ≡ true) (sym (eq-eqb _ _ h)) refl) e
+
+-- sight passes a line that is free and in reach
+module _ (cs : List ℤ) (T : Cells) (ds : List ℕ) (w R : ℕ) (q : Point) (f : ℕ) where
+  pub passed-is-free : plan-floor cs T ds w R q .ends f ≡ false → ends T ds w f ≡ false
+  passed-is-free e = neither-true (ends T ds w f) (unreached cs T R q f) e .0
+
+  pub passed-is-in-reach : plan-floor cs T ds w R q .ends f ≡ false → unreached cs T R q f ≡ false
+  passed-is-in-reach e = neither-true (ends T ds w f) (unreached cs T R q f) e .1
+
+  pub free-in-reach-is-passed : ends T ds w f ≡ false → unreached cs T R q f ≡ false → plan-floor cs T ds w R q .ends f ≡ false
+  free-in-reach-is-passed e h = rw (e, h)
 
 module _ (cs : List ℤ) (q : Point) (v r l : ℕ) where
   turned : (a b : ℕ) → side q (corner-at cs a) (corner-at cs b) ≡ cross (seen cs q a) (seen cs q b)
@@ -84,30 +97,33 @@ module _ (cs : List ℤ) (q : Point) (v r l : ℕ) where
       take : Decided left-of-l → cross (seen cs q v) (seen cs q l) ≤ℤ 𝟘
       take (on-the-left h) = h
 
-module _ {cs : List ℤ} {T : Cells} {ds : List ℕ} (sound : Sound cs T ds) (w : ℕ) (q : Point) where
-  pub plan-geometry : Geometry (plan-floor cs T ds w q) (face-count T) (cell-count T) (seen cs q) (home T)
+module _ {cs : List ℤ} {T : Cells} {ds : List ℕ} (sound : Sound cs T ds) (w R : ℕ) (q : Point) where
+  no-wall-passed : (f : ℕ) → plan-floor cs T ds w R q .ends f ≡ false → neighbour T f ≡ wall → ⊥
+  no-wall-passed f e = free-is-no-wall T ds w f (passed-is-free cs T ds w R q f e)
+
+  pub plan-geometry : Geometry (plan-floor cs T ds w R q) (face-count T) (cell-count T) (seen cs q) (home T)
   plan-geometry =
       let N = sound .numbered in
       record {
-        back-is-a-face = λ f h e. back-exists sound f h (free-is-no-wall T ds w f e);
+        back-is-a-face = λ f h e. back-exists sound f h (no-wall-passed f e);
         next-is-a-face = λ g h. next-below N g h;
         cell-exists = λ g h. home-exists N g h;
         next-in-the-cell = λ g h. next-stays-in-the-cell N g h;
         next-starts = λ g h. refl;
         three-sides = λ g h. omega (arith, N .at-least (home T g) (home-exists N g h));
         as-many-sides = λ g h. ap (λ (c : ℕ). side-count T c - 2) (next-stays-in-the-cell N g h);
-        never-itself = λ g h. Round.never-itself N (plan-floor cs T ds w q) (λ f. refl) (λ f. refl) g h;
-        comes-round = λ g h. Round.comes-round N (plan-floor cs T ds w q) (λ f. refl) (λ f. refl) g h;
+        never-itself = λ g h. Round.never-itself N (plan-floor cs T ds w R q) (λ f. refl) (λ f. refl) g h;
+        comes-round = λ g h. Round.comes-round N (plan-floor cs T ds w R q) (λ f. refl) (λ f. refl) g h;
         convex = λ g e h k same a b. side-positive-is-beyond _ _ _ q (convex N (sound .cells) g e h k same a b);
-        back-starts = λ f h e. back-starts-at-the-finish sound f h (free-is-no-wall T ds w f e);
-        back-finishes = λ f h e. back-finishes-at-the-start sound f h (free-is-no-wall T ds w f e);
+        back-starts = λ f h e. back-starts-at-the-finish sound f h (no-wall-passed f e);
+        back-finishes = λ f h e. back-finishes-at-the-start sound f h (no-wall-passed f e);
         is-between = placed-between cs q;
         is-right = placed-right cs q;
         is-left = placed-left cs q;
       }
 
   abbrev F : Floor
-  F = plan-floor cs T ds w q
+  F = plan-floor cs T ds w R q
 
   N : Numbered T
   N = sound .numbered
@@ -133,14 +149,15 @@ module _ {cs : List ℤ} {T : Cells} {ds : List ℕ} (sound : Sound cs T ds) (w 
   within-the-side c k stands =
       record {
         is-a-face = face;
-        free = stands .free;
-        free-beyond = a-line-is-free-from-both-sides sound w s face no-wall ∙ stands .free;
+        free = free-in-reach-is-passed cs T ds w R q s (stands .free) (the-line-stood-on-is-in-reach R _ _ opposite);
+        free-beyond =
+            free-in-reach-is-passed cs T ds w R q (back T s) (a-line-is-free-from-both-sides sound w s face no-wall ∙ stands .free)
+            (the-line-stood-on-is-in-reach R _ _ opposite-beyond);
         back-again = back-of-back sound s face no-wall;
         opposite = opposite;
         turns = others-turn (stands .cell-exists) here opposite;
         turns-beyond =
-            others-turn (home-exists N (back T s) beyond) (side-of-home N (back T s) beyond)
-            (rw (back-starts-at-the-finish sound s face no-wall, back-finishes-at-the-start sound s face no-wall) (opposite-turns _ _ opposite));
+            others-turn (home-exists N (back T s) beyond) (side-of-home N (back T s) beyond) opposite-beyond;
       }
     where
       s : ℕ
@@ -160,6 +177,11 @@ module _ {cs : List ℤ} {T : Cells} {ds : List ℕ} (sound : Sound cs T ds) (w 
 
       opposite : Opposite (seen cs q (start T (first T c + k))) (seen cs q (start T (next T (first T c + k))))
       opposite = side-ends-are-opposite cs T q (first T c + k) (stands .within)
+
+      opposite-beyond : Opposite (seen cs q (start T (back T (first T c + k)))) (seen cs q (start T (next T (back T (first T c + k)))))
+      opposite-beyond =
+          rw (back-starts-at-the-finish sound (first T c + k) face no-wall, back-finishes-at-the-start sound (first T c + k) face no-wall)
+          (opposite-turns _ _ opposite)
 
   -- a stand found on the plan stands so on its floor
   pub stands-on-the-floor : {p : Footing} → Stands cs T ds w q p → Around.Stands F (face-count T) (seen cs q) (standing T p)

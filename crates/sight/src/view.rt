@@ -1,4 +1,4 @@
-// Replies 1 to 10 in their order, or the stand and where it was found.
+// Replies 1 to 8, 15, 9 and 10 in their order, or the stand and where it was found.
 ghost use mathlib.Core.Bool.{true};
 ghost use mathlib.Core.Path.{_≡_};
 ghost use Prim.Native.Nat.{suc, _*_};
@@ -14,12 +14,20 @@ ghost use Rattle.sight.specs.Listing.{view-of-spot, viewed};
 use checking::check_into;
 use limits::Checked;
 use limits::Refusal;
+use reach::Reach;
 use stand::locate::Footing;
 use stand::locate::Found;
 use stand::locate::locate;
 use stand::spot::Spot;
 use stand::spot::Stand;
 use stand::spot::stand_spot;
+
+// What is asked of a plan: from where, under which door setting, and how far.
+pub struct Query {
+    pub setting: u64,
+    pub stand: Stand,
+    pub reach: Reach,
+}
 
 pub enum View {
     From(i64, i64, Footing),
@@ -35,13 +43,17 @@ pub fn view_of_stand(
     doors: &[u16],
     setting: u64,
     stand: Stand,
+    reach: Reach,
 ) -> View
     requires { ⌜ Sound (now corners) (tabled (now faces) (now firsts)) (now doors) × Backed (tabled (now faces) (now firsts)) (now backs) ⌝ }
-    ensures { λ r. ⌜ r ≡ view-of-spot (now (corners .entry)) (tabled (now (faces .entry)) (now (firsts .entry))) (now (doors .entry)) setting (stood (now (corners .entry)) stand) ⌝ }
+    ensures { λ r. ⌜ r ≡ view-of-spot (now (corners .entry)) (tabled (now (faces .entry)) (now (firsts .entry))) (now (doors .entry)) setting reach (stood (now (corners .entry)) stand) ⌝ }
 {
     let Spot::At(x, y) = stand_spot(corners, stand) else {
         return View::Refused(Refusal::Stand);
     };
+    if reach::is_wrong(reach) {
+        return View::Refused(Refusal::Reach);
+    }
     match locate(corners, faces, firsts, backs, doors, setting, [x, y]) {
         Found::Refused(r) => View::Refused(r),
         Found::At(p) => View::From(x, y, p),
@@ -54,8 +66,7 @@ pub fn view_in(
     cells: &[u16],
     doors: &[u16],
     kind: u16,
-    setting: u64,
-    stand: Stand,
+    query: Query,
     faces: &mut [u16],
     firsts: &mut [u16],
     backs: &mut [u16],
@@ -64,7 +75,7 @@ pub fn view_in(
     requires { ⌜ length (now faces) ≡ 2 * face-count (cells-of kind (now cells)) ⌝ }
     requires { ⌜ length (now firsts) ≡ suc (cell-count (cells-of kind (now cells))) ⌝ }
     requires { ⌜ length (now backs) ≡ face-count (cells-of kind (now cells)) ⌝ }
-    ensures { λ r. ⌜ r ≡ viewed kind (now (corners .entry)) (now (cells .entry)) (now (doors .entry)) setting stand ⌝ }
+    ensures { λ r. ⌜ r ≡ viewed kind (now (corners .entry)) (now (cells .entry)) (now (doors .entry)) query ⌝ }
     ensures { λ r. ⌜ now (faces .exit) ≡ cells-of kind (now (cells .entry)) .faces ⌝ }
     ensures { λ r. ⌜ now (firsts .exit) ≡ cells-of kind (now (cells .entry)) .firsts ⌝ }
     ensures { λ r. ⌜ (Sound (now (corners .entry)) (cells-of kind (now (cells .entry))) (now (doors .entry)) → Backed (cells-of kind (now (cells .entry))) (now (backs .exit))) ⌝ }
@@ -73,10 +84,13 @@ pub fn view_in(
         Checked::Refused(r) => View::Refused(r),
         Checked::Accepted(plan) => {
             let k = plan.doors;
+            let setting = query.setting;
+            let stand = query.stand;
+            let reach = query.reach;
             if setting::is_wrong(setting, k) {
                 return View::Refused(Refusal::Setting);
             }
-            view_of_stand(corners, faces, firsts, backs, doors, setting, stand)
+            view_of_stand(corners, faces, firsts, backs, doors, setting, stand, reach)
         }
     }
 }

@@ -1,4 +1,4 @@
--- The lines that are printed, as their bytes (document 01, "Printing program"). Each line ends in LF, also the last.
+-- The lines that are printed, as their bytes (document 01, "Printing program"; document 02, A5). Each line ends in LF, also the last.
 use mathlib.Core.Bool.{true, false}
 use mathlib.Core.List.{List, [], _∷_, _++_}
 use Prim.Native.Nat.{ℕ, zero, suc, _+_, _*_, _/_, _%_}
@@ -35,11 +35,11 @@ refusal-line r = word "refused " ++ number-then (refused r .number) space ++ num
 unfoldable pub count-line : ℕ → ℕ → List ℕ
 count-line n k = word "rows " ++ number-then n space ++ word "crossings " ++ number-then k line-end
 
--- one line a row: face, right limit, left limit
-unfoldable pub row-line : ℕ → ℕ → ℕ → List ℕ
-row-line f r l = number-then f space ++ number-then r space ++ number-then l line-end
+-- one line a row: face, right limit, left limit, and 0 in reach or 1 out of reach
+unfoldable pub row-line : ℕ → ℕ → ℕ → ℕ → List ℕ
+row-line f r l k = number-then f space ++ number-then r space ++ number-then l space ++ number-then k line-end
 
--- the lines of the first n rows of a table, three numbers a row
+-- the lines of the first n rows of a table, four numbers a row
 unfoldable pub row-lines : List ℕ → ℕ → List ℕ
 row-lines table zero = []
-row-lines table (suc n) = row-lines table n ++ row-line (getD table (3 * n) 0) (getD table (3 * n + 1) 0) (getD table (3 * n + 2) 0)
+row-lines table (suc n) = row-lines table n ++ row-line (getD table (4 * n) 0) (getD table (4 * n + 1) 0) (getD table (4 * n + 2) 0) (getD table (4 * n + 3) 0)

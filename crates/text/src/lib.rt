@@ -69,27 +69,35 @@ fn put_counts(text: &mut [u8], n: usize, k: usize) -> usize
 }
 
 // A row's line.
-fn put_row(text: &mut [u8], at: usize, f: u16, r: u16, l: u16) -> usize
-    requires { ⌜ at + 18 ≤ length (now text) ⌝ }
-    ensures { λ e. ⌜ Wrote (now (text .entry)) at (row-line f r l) (now (text .exit)) e ⌝ }
-    ensures { λ e. ⌜ e ≤ at + 18 ⌝ }
+fn put_row(text: &mut [u8], at: usize, f: u16, r: u16, l: u16, k: u16) -> usize
+    requires { ⌜ at + 24 ≤ length (now text) ⌝ }
+    ensures { λ e. ⌜ Wrote (now (text .entry)) at (row-line f r l k) (now (text .exit)) e ⌝ }
+    ensures { λ e. ⌜ e ≤ at + 24 ⌝ }
 {
     let a = put_number(text, at, f as u64, b' ');
     let b = put_number(text, a, r as u64, b' ');
-    put_number(text, b, l as u64, b'\n')
+    let c = put_number(text, b, l as u64, b' ');
+    put_number(text, c, k as u64, b'\n')
 }
 
 // The lines of the first n rows of a table.
 fn put_rows(text: &mut [u8], at: usize, table: &[u16], n: usize) -> usize
-    requires { ⌜ at + 18 * n ≤ length (now text) ⌝ }
-    requires { ⌜ 3 * n ≤ length (now table) ⌝ }
+    requires { ⌜ at + 24 * n ≤ length (now text) ⌝ }
+    requires { ⌜ 4 * n ≤ length (now table) ⌝ }
     ensures { λ e. ⌜ Wrote (now (text .entry)) at (row-lines (now (table .entry)) n) (now (text .exit)) e ⌝ }
-    ensures { λ e. ⌜ e ≤ at + 18 * n ⌝ }
+    ensures { λ e. ⌜ e ≤ at + 24 * n ⌝ }
 {
     let mut end = at;
     let mut i = 0;
     while i < n {
-        end = put_row(text, end, table[3 * i], table[3 * i + 1], table[3 * i + 2]);
+        end = put_row(
+            text,
+            end,
+            table[4 * i],
+            table[4 * i + 1],
+            table[4 * i + 2],
+            table[4 * i + 3],
+        );
         i += 1;
     }
     end
@@ -97,8 +105,8 @@ fn put_rows(text: &mut [u8], at: usize, table: &[u16], n: usize) -> usize
 
 // A listing's lines, at the beginning: the counts, then a line for each of the n rows of the table.
 pub fn put_listing(text: &mut [u8], table: &[u16], n: usize, k: usize) -> usize
-    requires { ⌜ 64 + 18 * n ≤ length (now text) ⌝ }
-    requires { ⌜ 3 * n ≤ length (now table) ⌝ }
+    requires { ⌜ 64 + 24 * n ≤ length (now text) ⌝ }
+    requires { ⌜ 4 * n ≤ length (now table) ⌝ }
     ensures { λ e. ⌜ Wrote (now (text .entry)) 0 (count-line n k ++ row-lines (now (table .entry)) n) (now (text .exit)) e ⌝ }
 {
     let end = put_counts(text, n, k);

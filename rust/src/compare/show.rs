@@ -18,6 +18,12 @@ impl fmt::Display for Trial {
                 if !matches!(asked, Asked::ListStands { .. }) {
                     writeln!(f, "stand {:?}", scene.stand)?;
                 }
+                if !matches!(
+                    asked,
+                    Asked::Check | Asked::Write { .. } | Asked::Find | Asked::RoundTrip
+                ) {
+                    writeln!(f, "reach {:?}", scene.reach)?;
+                }
                 if matches!(
                     asked,
                     Asked::Change { .. } | Asked::EitherKind { .. } | Asked::Demand3

@@ -1,7 +1,7 @@
 //! Making a failing trial smaller while it still fails.
 
 use super::{Asked, AskedOfBytes, Trial};
-use crate::calls::{Plan, Stand, POINT, POLYGONS};
+use crate::calls::{Plan, Reach, Stand, POINT, POLYGONS};
 use crate::generate::{in_other_kind, query_record, Given, Room, Scene};
 use crate::paper::{self, cut_cells, Cell, SIDES, WALL};
 
@@ -80,8 +80,23 @@ fn simpler_asked(asked: &Asked) -> Vec<Asked> {
                 directions: vec![d],
             })
             .collect(),
+        Asked::Longer { reach } => simpler_reaches(*reach)
+            .into_iter()
+            .map(|reach| Asked::Longer { reach })
+            .collect(),
         _ => Vec::new(),
     }
+}
+
+/// None stated, or a number nearer to zero.
+fn simpler_reaches(reach: Reach) -> Vec<Reach> {
+    let nearer = match reach {
+        Reach::NotStated => return Vec::new(),
+        Reach::Stated(0) => Vec::new(),
+        Reach::Stated(number) => vec![number / 2, number - number.div_ceil(8)],
+    };
+    let nearer = nearer.into_iter().map(Reach::Stated);
+    [Reach::NotStated].into_iter().chain(nearer).collect()
 }
 
 fn simpler_asked_of_bytes(asked: &AskedOfBytes) -> Vec<AskedOfBytes> {
@@ -129,6 +144,7 @@ enum Step {
     SetCoordinate(usize, i32),
     SetStand(f64, f64),
     SetNumber(usize, f64),
+    SetReach(Reach),
     /// Leave out the last number of a list, which then may not be whole.
     ShortenCorners,
     ShortenCells,
@@ -162,6 +178,8 @@ fn steps(scene: &Scene) -> Vec<Step> {
             .filter(|bit| scene.setting >> bit & 1 == 1)
             .map(Step::ClearBit),
     );
+    let reaches = simpler_reaches(scene.reach);
+    steps.extend(reaches.into_iter().map(Step::SetReach));
     steps.extend(nearer_to_zero(scene));
     steps.extend(simpler_coordinates(scene));
     steps.extend(simpler_stands(scene));
@@ -195,7 +213,12 @@ fn take_step(scene: &Scene, step: Step) -> Scene {
         }
         Step::ClearBit(bit) => smaller.setting &= !(1 << bit),
         Step::MoveBack(by) => map_scene(&mut smaller, |n, axis| n - by[axis]),
-        Step::Divide(by) => map_scene(&mut smaller, |n, _| n / by),
+        Step::Divide(by) => {
+            map_scene(&mut smaller, |n, _| n / by);
+            if let Reach::Stated(number) = scene.reach {
+                smaller.reach = Reach::Stated(number / by as u64);
+            }
+        }
         Step::SetCoordinate(at, new) => smaller.plan.corners[at] = new,
         Step::SetStand(x, y) => {
             smaller.stand = match scene.stand {
@@ -204,6 +227,7 @@ fn take_step(scene: &Scene, step: Step) -> Scene {
             }
         }
         Step::SetNumber(at, new) => smaller.stands[at] = new,
+        Step::SetReach(reach) => smaller.reach = reach,
         Step::ShortenCorners => smaller.plan.corners.truncate(scene.plan.corners.len() - 1),
         Step::ShortenCells => smaller.plan.cells.truncate(scene.plan.cells.len() - 1),
         Step::ShortenDoors => smaller.plan.doors.truncate(scene.plan.doors.len() - 1),
@@ -451,6 +475,7 @@ fn smaller_inputs(bytes: &[u8], asked: &AskedOfBytes) -> Box<dyn Iterator<Item =
             plan,
             setting,
             stand,
+            reach: Reach::NotStated,
             door: 0,
             stands: Vec::new(),
         }))

@@ -2,9 +2,9 @@
 //! their answers.
 
 use super::{Call, Tally};
-use crate::calls::{Calls, DoorChange, Plan, Refusal, Reply, Stand};
+use crate::calls::{Calls, DoorChange, Plan, Query, Reach, Refusal, Reply, ROW};
 use crate::generate::{in_other_kind, Given, Room, Scene};
-use crate::paper::{self, Direction, Floor, Listing, Paper, Place, Row, View};
+use crate::paper::{self, Direction, Floor, Listing, Place, Row, View};
 use std::fmt::Debug;
 
 /// What is asked about a scene.
@@ -41,6 +41,11 @@ pub enum Asked {
     },
     /// A door change is a listing under the new setting.
     Demand3,
+    /// With a reach that is as long or longer, rows in reach stand as they are, and
+    /// each row out of reach is one or more.
+    Longer {
+        reach: Reach,
+    },
 }
 
 /// What is asked about bytes.
@@ -114,28 +119,32 @@ fn run_scene(scene: &Scene, asked: &Asked, both: Both<'_>, tally: &mut Tally) ->
             tally.sides.found += u64::from(on_side == 1);
         }
         Asked::List { table } => {
-            let (reply, _) = both.ask(|calls| list(calls, scene, scene.setting, *table))?;
+            let (reply, _) = both.ask(|calls| list(calls, scene, scene.query(), *table))?;
             tally.count(Call::List, lists.kind, reply.number);
+            tally.reaches.stated += u64::from(scene.reach.is_stated());
         }
         Asked::ListStands { room } => {
-            let morning = both.ask(|calls| list_stands(calls, scene, *room))?;
-            tally.count(Call::ListStands, lists.kind, morning.reply.number);
-            if morning.reply.number == 0 {
-                let morning = same(morning, single_calls(both.right, scene, *room))?;
-                let (own, _) = morning.replies.as_chunks();
+            let left = both.ask(|calls| list_stands(calls, scene, *room))?;
+            tally.count(Call::ListStands, lists.kind, left.reply.number);
+            tally.reaches.stated += u64::from(scene.reach.is_stated());
+            if left.reply.number == 0 {
+                let left = same(left, single_calls(both.right, scene, *room))?;
+                let (own, _) = left.replies.as_chunks();
                 let count = own.len().min(scene.stands.len() / 3);
                 tally.count_stands(&own[..count]);
             }
         }
         Asked::Change { shut, given, table } => {
-            let given = given.numbers(&true_numbers(scene));
+            let given = given.numbers(scene);
             let (reply, _) = both.ask(|calls| change(calls, scene, &given, *shut, *table))?;
             tally.count(Call::Change, lists.kind, reply.number);
+            tally.reaches.stated += u64::from(scene.reach.is_stated());
         }
         Asked::RoundTrip => round_trip(&scene.plan, both)?,
         &Asked::EitherKind { shut, given } => either_kind(scene, shut, given, both, tally)?,
         Asked::Demand2 { directions } => demand_2(scene, directions, both, tally)?,
         Asked::Demand3 => demand_3(scene, both, tally)?,
+        &Asked::Longer { reach } => longer(scene, reach, both, tally)?,
     }
     Ok(())
 }
@@ -190,35 +199,25 @@ fn read(calls: &dyn Calls, file: &[u8], room: [usize; 3]) -> (Reply, Plan) {
     (reply, lists)
 }
 
-fn list(calls: &dyn Calls, scene: &Scene, setting: u64, room: Room) -> (Reply, Vec<u16>) {
-    list_from(calls, scene, setting, scene.stand, room)
-}
-
-fn list_from(
-    calls: &dyn Calls,
-    scene: &Scene,
-    setting: u64,
-    stand: Stand,
-    room: Room,
-) -> (Reply, Vec<u16>) {
+fn list(calls: &dyn Calls, scene: &Scene, query: Query, room: Room) -> (Reply, Vec<u16>) {
     let mut table = lent_words(room.length(table_asked(scene)));
-    let reply = calls.list(scene.plan.lists(), setting, stand, &mut table);
+    let reply = calls.list(scene.plan.lists(), query, &mut table);
     (reply, table)
 }
 
 /// What a call for a morning leaves.
 #[derive(Debug, PartialEq)]
-struct Morning {
+struct Left {
     reply: Reply,
     table: Vec<u16>,
     replies: Vec<u64>,
 }
 
-fn list_stands(calls: &dyn Calls, scene: &Scene, room: [Room; 2]) -> Morning {
+fn list_stands(calls: &dyn Calls, scene: &Scene, room: [Room; 2]) -> Left {
     let (mut table, mut replies) = lent_for_morning(scene, room);
     let (lists, stands) = (scene.plan.lists(), &scene.stands);
-    let reply = calls.list_stands(lists, scene.setting, stands, &mut table, &mut replies);
-    Morning {
+    let reply = calls.list_stands(lists, scene.morning(), stands, &mut table, &mut replies);
+    Left {
         reply,
         table,
         replies,
@@ -243,8 +242,7 @@ fn change(
 ) -> (Reply, Vec<u16>) {
     let mut table = lent_words(room.length(table_asked(scene)));
     let asked = DoorChange {
-        setting: scene.setting,
-        stand: scene.stand,
+        query: scene.query(),
         given,
         door: scene.door,
         shut,
@@ -254,7 +252,7 @@ fn change(
 
 /// The length of the table a listing asks for.
 fn table_asked(scene: &Scene) -> usize {
-    3 * (scene.plan.corners.len() / 2)
+    ROW * (scene.plan.corners.len() / 2)
 }
 
 /// Lengths of the lent lists; for a broken file, of any small lists.
@@ -293,25 +291,16 @@ fn printed_number(printed: &str) -> u32 {
     }
 }
 
-/// The true list of a scene, as the paper program has it; three zeros where
-/// there is none.
-fn true_numbers(scene: &Scene) -> Vec<u16> {
-    match listing(&Paper, scene, scene.setting) {
-        Ok(listing) => listing.rows.as_flattened().to_vec(),
-        Err(_) => vec![0; 3],
-    }
-}
-
-/// The listing of a scene under a setting of its own, or the refusal's number.
-fn listing(calls: &dyn Calls, scene: &Scene, setting: u64) -> Result<Listing, u32> {
-    listing_of(list(calls, scene, setting, Room::Exact))
+/// The listing of a scene's plan for a query, or the refusal's number.
+fn listing(calls: &dyn Calls, scene: &Scene, query: Query) -> Result<Listing, u32> {
+    listing_of(list(calls, scene, query, Room::Exact))
 }
 
 fn listing_of((reply, table): (Reply, Vec<u16>)) -> Result<Listing, u32> {
     if reply.number != 0 {
         return Err(reply.number);
     }
-    let (rows, _) = table.as_chunks::<3>();
+    let (rows, _) = table.as_chunks::<ROW>();
     let count = (reply.values[0] as usize).min(rows.len());
     Ok(Listing {
         rows: rows[..count].to_vec(),
@@ -321,7 +310,7 @@ fn listing_of((reply, table): (Reply, Vec<u16>)) -> Result<Listing, u32> {
 
 /// What single calls give for a morning, stand by stand: their rows one after
 /// another, their replies and counts, and the sums.
-fn single_calls(calls: &dyn Calls, scene: &Scene, room: [Room; 2]) -> Morning {
+fn single_calls(calls: &dyn Calls, scene: &Scene, room: [Room; 2]) -> Left {
     let (mut rows, mut own, mut crossings) = (Vec::new(), Vec::new(), 0);
     let (stands, _) = scene.stands.as_chunks();
     for &numbers in stands {
@@ -337,7 +326,7 @@ fn single_calls(calls: &dyn Calls, scene: &Scene, room: [Room; 2]) -> Morning {
     let (mut table, mut replies) = lent_for_morning(scene, room);
     put(&mut table, rows.as_flattened());
     put(&mut replies, own.as_flattened());
-    Morning {
+    Left {
         reply: Reply::done([rows.len() as u64, crossings]),
         table,
         replies,
@@ -347,7 +336,7 @@ fn single_calls(calls: &dyn Calls, scene: &Scene, room: [Room; 2]) -> Morning {
 /// The listing of one stand, given by three numbers, or the refusal's number.
 fn single_call(calls: &dyn Calls, scene: &Scene, numbers: [f64; 3]) -> Result<Listing, u32> {
     let stand = paper::stand_of(numbers).ok_or(Refusal::Stand.reply().number)?;
-    listing_of(list_from(calls, scene, scene.setting, stand, Room::Exact))
+    listing(calls, scene, scene.morning().query(stand))
 }
 
 /// Puts numbers at the beginning of lent memory, as far as it goes.
@@ -389,13 +378,13 @@ fn either_kind(
         plan,
         ..scene.clone()
     };
-    let given = given.numbers(&true_numbers(scene));
+    let given = given.numbers(scene);
     let room = Room::Exact;
     let ask = |calls: &dyn Calls, scene: &Scene| {
         (
             calls.check(scene.plan.lists()),
             calls.find(scene.plan.lists(), scene.setting, scene.stand),
-            list(calls, scene, scene.setting, room),
+            list(calls, scene, scene.query(), room),
             list_stands(calls, scene, [room; 2]),
             change(calls, scene, &given, shut, room),
         )
@@ -406,14 +395,19 @@ fn either_kind(
 }
 
 fn demand_2(scene: &Scene, directions: &[Direction], both: Both<'_>, tally: &mut Tally) -> Outcome {
-    let Ok(listing) = both.ask(|calls| listing(calls, scene, scene.setting))? else {
+    let Ok(listing) = both.ask(|calls| listing(calls, scene, scene.query()))? else {
         return Ok(());
     };
     tally.rows += listing.rows.len() as u64;
     tally.crossings += listing.crossings;
     let floor = Floor::check(scene.plan.lists()).map_err(wrongly_listed)?;
-    let view = View::new(&floor, scene.setting, scene.stand).map_err(wrongly_listed)?;
+    let view = View::new(&floor, scene.query()).map_err(wrongly_listed)?;
     within_bounds(&floor, view.place(), &listing)?;
+    for row in &listing.rows {
+        let far = u16::from(!view.is_in_reach(row[0]));
+        same(far, row[3])?;
+        tally.reaches.rows += u64::from(far);
+    }
     for &d in directions {
         if !view.meets_corner(d) {
             held_once(&view, &listing.rows, d)?;
@@ -452,7 +446,7 @@ fn within_bounds(floor: &Floor, place: Place, listing: &Listing) -> Outcome {
 fn held_once(view: &View<'_>, rows: &[Row], d: Direction) -> Outcome {
     let holding: Vec<&Row> = rows
         .iter()
-        .filter(|[_, right, left]| view.between(*right, d, *left))
+        .filter(|[_, right, left, _]| view.between(*right, d, *left))
         .collect();
     let end = view.walk(d).map(|walk| walk.end);
     match holding[..] {
@@ -464,21 +458,25 @@ fn held_once(view: &View<'_>, rows: &[Row], d: Direction) -> Outcome {
 }
 
 /// The door change gives what a fresh listing gives, and what the paper's
-/// routes and runs give. From a side it is refused for a door there.
+/// routes and runs give; out of reach a door's change changes nothing. From a side it
+/// is refused for a door there.
 fn demand_3(scene: &Scene, both: Both<'_>, tally: &mut Tally) -> Outcome {
-    let Ok(before) = both.ask(|calls| listing(calls, scene, scene.setting))? else {
+    let Ok(before) = both.ask(|calls| listing(calls, scene, scene.query()))? else {
         return Ok(());
     };
     if scene.door >= scene.plan.doors.len() {
         return Ok(());
     }
-    let setting = scene.setting ^ 1 << scene.door;
-    let shut = setting >> scene.door & 1 == 1;
+    let query = Query {
+        setting: scene.setting ^ 1 << scene.door,
+        ..scene.query()
+    };
+    let shut = query.setting >> scene.door & 1 == 1;
     let given = before.rows.as_flattened();
     let change_to =
         |shut| both.ask(|calls| listing_of(change(calls, scene, given, shut, Room::Exact)));
     let floor = Floor::check(scene.plan.lists()).map_err(wrongly_listed)?;
-    let old = View::new(&floor, scene.setting, scene.stand).map_err(wrongly_listed)?;
+    let old = View::new(&floor, scene.query()).map_err(wrongly_listed)?;
     if old.is_in_doorway(scene.door) {
         let refused = Err(Refusal::Line.reply().number);
         same(change_to(shut)?, refused.clone()).map(drop)?;
@@ -486,14 +484,74 @@ fn demand_3(scene: &Scene, both: Both<'_>, tally: &mut Tally) -> Outcome {
         tally.sides.own_doors += 1;
         return Ok(());
     }
-    let new = View::new(&floor, setting, scene.stand).map_err(wrongly_listed)?;
+    let new = View::new(&floor, query).map_err(wrongly_listed)?;
     same(old.place(), new.place())?;
-    let fresh = both.ask(|calls| listing(calls, scene, setting))?;
+    let fresh = both.ask(|calls| listing(calls, scene, query))?;
     let faces = floor.door_faces(scene.door);
     let by_runs = paper::change_by_runs(&old, &new, &before.rows, faces, shut);
     same(&fresh, &Ok(by_runs))?;
+    if !old.is_in_reach(faces[0]) {
+        same(&fresh, &Ok(before.clone()))?;
+    }
     same(fresh, change_to(shut)?).map(drop)?;
     tally.changes += 1;
     tally.sides.changes += u64::from(is_on_side(&old));
+    let has_row = |&[face, _, _, far]: &Row| far == 1 && faces.contains(&face);
+    tally.reaches.changes += u64::from(before.rows.iter().any(has_row));
     Ok(())
+}
+
+/// The rows of a listing in those of one with a reach that is as long or longer: a row
+/// in reach is there as it is; a row out of reach is one or more, which go on from its
+/// right limit to its left one. Where no reach is stated nothing is out of it.
+fn longer(scene: &Scene, reach: Reach, both: Both<'_>, tally: &mut Tally) -> Outcome {
+    let is_longer = match (scene.reach, reach) {
+        (_, Reach::NotStated) => true,
+        (Reach::Stated(near), Reach::Stated(far)) => near <= far,
+        (Reach::NotStated, Reach::Stated(_)) => false,
+    };
+    if !is_longer {
+        return Ok(());
+    }
+    let query = Query {
+        reach,
+        ..scene.query()
+    };
+    let near = both.ask(|calls| listing(calls, scene, scene.query()))?;
+    let far = both.ask(|calls| listing(calls, scene, query))?;
+    let (Ok(near), Ok(far)) = (near, far) else {
+        return Ok(());
+    };
+    if !refines(&near.rows, &far.rows) || far.crossings < near.crossings {
+        return Err(format!("{near:?}\nwith {reach:?}: {far:?}"));
+    }
+    let is_far = |row: &Row| row[3] != 0;
+    if reach == Reach::NotStated && far.rows.iter().any(is_far) {
+        return Err(format!("out of no reach: {far:?}"));
+    }
+    tally.reaches.longer += u64::from(scene.reach.is_stated());
+    tally.reaches.further += u64::from(far.crossings > near.crossings);
+    Ok(())
+}
+
+/// Whether rows with a longer reach are these, each out of reach as one or more.
+fn refines(near: &[Row], far: &[Row]) -> bool {
+    let mut rest = far.iter();
+    let mut is_kept = |&[face, right, left, mark]: &Row| {
+        let Some(first) = rest.next() else {
+            return false;
+        };
+        if mark == 0 {
+            return *first == [face, right, left, 0];
+        }
+        let mut last = first;
+        while last[2] != left {
+            match rest.next() {
+                Some(next) if next[1] == last[2] => last = next,
+                _ => return false,
+            }
+        }
+        first[1] == right
+    };
+    near.iter().all(&mut is_kept) && rest.next().is_none()
 }

@@ -1,5 +1,6 @@
 //! Plans of larger cells at the ends of what there may be, each with a stand in
-//! it and as many doors as a plan may have.
+//! it and as many doors as a plan may have. No free line that is seen from there is
+//! beyond the longest reach.
 
 use super::floors::OCTAGON;
 use super::mesh::Spot;
@@ -40,14 +41,14 @@ pub fn fullest() -> (Plan, Spot) {
 /// there.
 pub fn longest_fans() -> (Plan, Spot) {
     let count = (CORNERS.end() - 7) / 2;
-    let middle = 1_000 * count as i64 / 2;
-    let far = (-2..=2).map(|i| [middle + 1_000_000 * i, 10_000 * i * i - 400_000_000]);
-    let mut spots = vec![[-2_000, 0]];
+    let middle = 250 * count as i64 / 2;
+    let far = (-2..=2).map(|i| [middle + 250_000 * i, 2_500 * i * i - 100_000_000]);
+    let mut spots = vec![[-500, 0]];
     spots.extend(far);
     let north = spots.len() as u16;
-    spots.extend((0..count as i64).map(|i| [1_000 * i, 1_000]));
+    spots.extend((0..count as i64).map(|i| [250 * i, 250]));
     let south = spots.len() as u16;
-    spots.extend((0..=count as i64).map(|i| [1_000 * i - 500, -1_000]));
+    spots.extend((0..=count as i64).map(|i| [250 * i - 125, -250]));
     // Cell 0 is the stand's; then come a large one and a triangle in turn.
     let mut cells = cell(&[0, south, north], &[(1, 1)]);
     let mut lines = vec![1];
@@ -70,7 +71,7 @@ pub fn longest_fans() -> (Plan, Spot) {
         doors: lines.split_off(lines.len() - DOORS.end()),
         kind: POLYGONS,
     };
-    (plan, [-1_000, 0])
+    (plan, [-250, 0])
 }
 
 /// Cells one behind the other, each seen through the one before: it hands on two
@@ -82,10 +83,10 @@ pub fn longest_fans() -> (Plan, Spot) {
 pub fn most_splits() -> (Plan, Spot) {
     let mut spots = OCTAGON.to_vec();
     let count = CORNERS.end() - spots.len() - 3;
-    let wide = 1_000 * (count as i64 + 1);
+    let wide = 100 * (count as i64 + 1);
     let [right, south, left] = [0, 1, 2].map(|i| (spots.len() + i) as u16);
     spots.extend([[0, 0], [-wide / 2, -2 * wide]]);
-    spots.extend((0..=count as i64).map(|i| [1_000 * i - wide, i]));
+    spots.extend((0..=count as i64).map(|i| [100 * i - wide, i]));
     let mut cells = cell(&[south, right, left], &[(1, 1)]);
     for i in 0..count as u16 {
         let (here, after) = (1 + i, 2 + i);

@@ -40,6 +40,13 @@ pub fn with_lines(dice: &mut Dice) -> Mesh {
     mesh
 }
 
+/// A floor most of whose lines go along the axes.
+pub fn straight(dice: &mut Dice) -> Mesh {
+    let mut mesh = rooms(dice);
+    finish(&mut mesh, dice);
+    mesh
+}
+
 /// A floor of 2,048 corners and 3,000 cells. So many cells at most are taken
 /// out as pillars; the rest of the surplus goes at one end, whose corners then
 /// are in no cell.
@@ -63,12 +70,16 @@ pub fn largest(pillars: usize, dice: &mut Dice) -> Mesh {
 /// Two fans share a column of corners, one fan from a tip right of it and one
 /// from a tip left of it. The ray passes above the column and below the tips,
 /// so it meets each line of the right fan, the lowest first, and then each line
-/// of the left fan, the highest first.
+/// of the left fan, the highest first. All of them are in the longest reach.
 pub fn deepest() -> (Mesh, Spot) {
     let column = (*CELLS.end() - 2) / 2;
-    let ray = 1_000 * column as i64;
-    let (wide, high) = (ray, ray + 1_000);
-    let mut corners: Vec<Spot> = (0..column as i64).map(|i| [0, 1_000 * i]).collect();
+    let step = 50;
+    let ray = step * column as i64;
+    let high = ray + step;
+    // The line from a tip to the foot of the column then has a spot at every
+    // millimetre of its height, so that some are as high as the ray.
+    let wide = high;
+    let mut corners: Vec<Spot> = (0..column as i64).map(|i| [0, step * i]).collect();
     corners.extend([[wide, high], [-wide, high]]);
     corners.extend([[2 * wide, 0], [-2 * wide, 0], [-3 * wide, high]]);
     let (right, left) = (column, column + 1);
@@ -561,7 +572,7 @@ fn build_inside(mesh: &mut Mesh, dice: &mut Dice) {
     }
     for _ in 0..dice.pick(&[0, 0, 1, 3]) {
         let twin = dice.pick(&mesh.corners);
-        let size = mesh.reach();
+        let size = mesh.extent();
         let unused = if dice.percent(50) {
             twin
         } else {
@@ -576,7 +587,7 @@ fn finish(mesh: &mut Mesh, dice: &mut Dice) {
     if dice.percent(30) {
         mesh.drop_unused_corners();
     }
-    let most = EDGE / mesh.reach().max(1);
+    let most = EDGE / mesh.extent().max(1);
     match dice.below(10) {
         0 => mesh.map_corners(|at| times(at, most)),
         1 => {
@@ -588,7 +599,7 @@ fn finish(mesh: &mut Mesh, dice: &mut Dice) {
     match dice.below(10) {
         0 => push_to_edge(mesh, dice),
         1..=3 => {
-            let room = (EDGE - mesh.reach()).min(1_000);
+            let room = (EDGE - mesh.extent()).min(1_000);
             let by = spot(dice, room);
             mesh.map_corners(|at| [at[0] + by[0], at[1] + by[1]]);
         }
@@ -615,12 +626,12 @@ fn push_to_edge(mesh: &mut Mesh, dice: &mut Dice) {
 
 /// A map that keeps every side value, while coordinates grow to the limit:
 /// what was a small side value then is one of long, nearly parallel vectors.
-pub fn slant(reach: i64, dice: &mut Dice) -> impl Fn(Spot) -> Spot {
-    let reach = reach.max(1);
-    let most = EDGE / reach - 1;
+pub fn slant(extent: i64, dice: &mut Dice) -> impl Fn(Spot) -> Spot {
+    let extent = extent.max(1);
+    let most = EDGE / extent - 1;
     let most = dice.pick(&[most, most.isqrt()]);
     let along = dice.between(0, most);
-    let up = dice.between(0, (EDGE - reach) / (reach * (1 + along)));
+    let up = dice.between(0, (EDGE - extent) / (extent * (1 + along)));
     let (along, up) = (dice.pick(&[along, -along]), dice.pick(&[up, -up]));
     move |at| {
         let x = at[0] + along * at[1];
@@ -703,9 +714,18 @@ pub fn steps_between([a, b]: [Spot; 2]) -> (i64, Spot) {
 /// Multiplies a floor, as far as the limits leave room, so that there are spots
 /// strictly inside every line.
 pub fn spread(mesh: &mut Mesh, dice: &mut Dice) {
-    let most = EDGE / mesh.reach().max(1);
+    let most = EDGE / mesh.extent().max(1);
     let factor = dice.pick(&[2, 2, 3, 4, 6]).min(most);
     mesh.map_corners(|at| times(at, factor));
+}
+
+/// Turns a floor, as far as the limits leave room, so that lines along the axes have
+/// whole lengths still, and spots at whole distances whose nearest point is no spot.
+pub fn turn(mesh: &mut Mesh, dice: &mut Dice) {
+    let [a, b] = dice.pick(&[[4, 3], [3, 4], [-4, 3], [12, 5], [-15, 8]]);
+    if mesh.extent() <= EDGE / (a + b).max(b - a) {
+        mesh.map_corners(|[x, y]| [a * x - b * y, b * x + a * y]);
+    }
 }
 
 pub fn greatest_divisor(a: i64, b: i64) -> i64 {

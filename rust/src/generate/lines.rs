@@ -1,9 +1,10 @@
 //! Stands on the lines of a plan: in doorways, on free lines, on walls, at the ends
-//! of lines and beyond them.
+//! of lines and beyond them; and stands beside lines.
 
 use super::dice::Dice;
 use super::floors::{spot_at, spot_between};
 use super::mesh::{side_value, Spot};
+use super::reaches;
 use crate::calls::Plan;
 use crate::paper::{cut_cells, SIDES, WALL};
 
@@ -11,6 +12,7 @@ use crate::paper::{cut_cells, SIDES, WALL};
 pub struct Lines {
     /// Of each cell its spots.
     cells: Vec<Vec<Spot>>,
+    all: Vec<[Spot; 2]>,
     doors: Vec<[Spot; 2]>,
     /// The free sides of cells, by their corner count.
     free: [Vec<[Spot; 2]>; *SIDES.end() + 1],
@@ -61,9 +63,26 @@ impl Lines {
                 .map(|cell| cell.corners.iter().map(|&corner| spot(corner)).collect())
                 .collect(),
             doors: doors.collect(),
+            all,
             free,
             walls,
         }
+    }
+
+    /// Some lines of any kind, a door's among them as often as all others.
+    pub fn some(&self, door: usize, dice: &mut Dice) -> Vec<[Spot; 2]> {
+        let mut some: Vec<[Spot; 2]> = (0..8).map(|_| dice.pick(&self.all)).collect();
+        if let Some(&own) = self.doors.get(door) {
+            some.extend([own; 8]);
+        }
+        some
+    }
+
+    /// A spot beside some line of these, inside a cell if one is found.
+    pub fn beside(&self, lines: &[[Spot; 2]], dice: &mut Dice) -> Option<Spot> {
+        (0..6)
+            .map(|_| reaches::beside(dice.pick(lines), dice))
+            .find(|&at| self.cells.iter().any(|cell| is_inside(cell, at)))
     }
 
     /// A random spot on a line, if one is found: mostly strictly within a door's

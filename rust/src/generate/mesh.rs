@@ -264,7 +264,7 @@ impl Mesh {
     }
 
     /// Largest distance of a coordinate from zero.
-    pub fn reach(&self) -> i64 {
+    pub fn extent(&self) -> i64 {
         self.corners
             .iter()
             .flatten()

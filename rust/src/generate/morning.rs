@@ -1,7 +1,6 @@
 //! The stands of a morning, as a list of numbers.
 
 use super::dice::Dice;
-use super::lines::{Lines, OnLine};
 use super::mesh::{Mesh, Spot};
 use super::stands::{as_stand, inside, mapped_numbers, on_border, random as random_stand};
 use crate::calls::{Stand, POINT};
@@ -30,12 +29,17 @@ pub fn random(mesh: &Mesh, dice: &mut Dice) -> Vec<f64> {
     list
 }
 
-/// Puts some of the stands on lines of the plan.
-pub fn put_on_lines(list: &mut [f64], mesh: &Mesh, lines: &Lines, dice: &mut Dice) {
+/// Puts some of the stands where a spot is found for them.
+pub fn put(
+    list: &mut [f64],
+    mesh: &Mesh,
+    spot: impl Fn(&mut Dice) -> Option<Spot>,
+    dice: &mut Dice,
+) {
     let (stands, _) = list.as_chunks_mut();
     for numbers in stands {
         if dice.percent(40) {
-            if let Some(OnLine { at, .. }) = lines.random(dice) {
+            if let Some(at) = spot(dice) {
                 *numbers = as_stand(mesh, at, dice).numbers();
             }
         }
@@ -75,7 +79,7 @@ fn refused(mesh: &Mesh, dice: &mut Dice) -> Stand {
             Stand::Point(x as f64 + 0.5, y as f64)
         }
         1 => point(on_border(mesh, dice)),
-        _ => point([mesh.reach() + 1, dice.between(-9, 9)]),
+        _ => point([mesh.extent() + 1, dice.between(-9, 9)]),
     }
 }
 

@@ -2,34 +2,34 @@
 
 use super::plan::Floor;
 use super::sight::{Listing, Row, View};
-use crate::calls::{Lists, Refusal, Stand, POINT};
+use crate::calls::{Lists, Morning, Refusal, Stand, POINT, ROW};
 
 /// A crew plans up to so many stands.
 pub const MOST_STANDS: usize = 32;
 
 /// What each stand of a morning is answered: its listing, or its refusal.
-pub struct Morning(Vec<Result<Listing, Refusal>>);
+pub struct Answers(Vec<Result<Listing, Refusal>>);
 
-impl Morning {
+impl Answers {
     /// Lists each stand. `table` and `replies` are the lengths lent for them.
     pub fn list(
         lists: Lists<'_>,
-        setting: u64,
+        morning: Morning,
         stands: &[f64],
         table: usize,
         replies: usize,
-    ) -> Result<Morning, Refusal> {
+    ) -> Result<Answers, Refusal> {
         let (floor, stands) = lowest(Floor::check(lists), cut(stands))?;
-        let across = floor.across_under(setting)?;
+        let across = floor.across_under(morning.setting)?;
         let (corners, count) = (floor.corners().len(), stands.len());
-        if table < 3 * corners * count || replies < 3 * count {
+        if table < ROW * corners * count || replies < 3 * count {
             return Err(Refusal::Room);
         }
         let answer = |&numbers: &[f64; 3]| {
             let stand = stand_of(numbers).ok_or(Refusal::Stand)?;
-            Ok(View::through(&floor, across.clone(), stand)?.list())
+            Ok(View::through(&floor, across.clone(), stand, morning.reach)?.list())
         };
-        Ok(Morning(stands.iter().map(answer).collect()))
+        Ok(Answers(stands.iter().map(answer).collect()))
     }
 
     /// The rows of all stands, in the order given.

@@ -1,9 +1,9 @@
-//! "Printing program".
+//! "Printing program". It states no reach.
 
 use super::file::{decode, take_record};
 use super::plan::Floor;
 use super::sight::{Listing, View};
-use crate::calls::{Refusal, Stand};
+use crate::calls::{Query, Refusal, Stand};
 use std::fmt::Write;
 
 /// Longer input is refused by SIZE, unread.
@@ -28,7 +28,7 @@ fn answer(input: &[u8]) -> Result<Listing, Refusal> {
     let (setting, stand, file) = query(input).ok_or(Refusal::Frame)?;
     let plan = decode(file)?;
     let floor = Floor::check(plan.lists())?;
-    Ok(View::new(&floor, setting, stand)?.list())
+    Ok(View::new(&floor, Query::without_reach(setting, stand))?.list())
 }
 
 /// Setting and stand of the query record, and the plan file after it.
@@ -60,8 +60,8 @@ fn listing_text(listing: &Listing) -> String {
         listing.rows.len(),
         listing.crossings
     );
-    for [face, right, left] in &listing.rows {
-        writeln!(text, "{face} {right} {left}").expect("a string takes every line");
+    for [face, right, left, far] in &listing.rows {
+        writeln!(text, "{face} {right} {left} {far}").expect("a string takes every line");
     }
     text
 }

@@ -1,11 +1,12 @@
-//! "Changing a door", word for word: by routes and runs, not by listing anew.
+//! "Changing a door", word for word: by routes and runs, not by listing anew. A door
+//! out of reach has no run behind it, and keeps its row.
 
 use super::sight::{Listing, Row, View};
 
 /// The list after a door change, made from the rows before it.
 ///
-/// `before` and `after` see the plan from the same stand, and differ in one
-/// door only; `faces` are the two faces of that door, and a stand on a side is
+/// `before` and `after` see the plan from the same stand and as far, and differ in
+/// one door only; `faces` are the two faces of that door, and a stand on a side is
 /// not on its line.
 pub fn change_by_runs(
     before: &View<'_>,
@@ -23,7 +24,8 @@ pub fn change_by_runs(
     Listing { rows, crossings }
 }
 
-/// Shutting: each run becomes one row on the door.
+/// Shutting: each run becomes one row on the door, which is in reach, since it was
+/// crossed.
 fn shut_runs(before: &View<'_>, rows: &[Row], faces: [u16; 2]) -> Vec<Row> {
     let mut shut: Vec<Row> = Vec::new();
     let mut run: Option<Vec<u16>> = None;
@@ -33,7 +35,7 @@ fn shut_runs(before: &View<'_>, rows: &[Row], faces: [u16; 2]) -> Vec<Row> {
             (Some(way), Some(run)) if way == run => {
                 shut.last_mut().expect("a run has begun")[2] = row[2];
             }
-            (Some(way), _) => shut.push([way[way.len() - 1], row[1], row[2]]),
+            (Some(way), _) => shut.push([way[way.len() - 1], row[1], row[2], 0]),
             (None, _) => shut.push(row),
         }
         run = way;
@@ -41,15 +43,15 @@ fn shut_runs(before: &View<'_>, rows: &[Row], faces: [u16; 2]) -> Vec<Row> {
     shut
 }
 
-/// Opening: each row on the door becomes what is seen through the door.
+/// Opening: each row on the door that is in reach becomes what is seen through the
+/// door.
 fn open_rows(after: &View<'_>, rows: &[Row], faces: [u16; 2]) -> Vec<Row> {
     rows.iter()
-        .flat_map(|&row| {
-            if faces.contains(&row[0]) {
-                after.expand(vec![row]).rows
-            } else {
-                vec![row]
+        .flat_map(|&row| match row {
+            [face, right, left, 0] if faces.contains(&face) => {
+                after.expand(vec![[face, right, left]]).rows
             }
+            _ => vec![row],
         })
         .collect()
 }

@@ -1,11 +1,16 @@
-//! "Expansion" and "Walk": what is seen from a stand under a setting.
+//! "Expansion" and "Walk": what is seen from a stand under a setting, as far as the
+//! reach goes.
 
 use super::plan::{product, side_value, Floor, Point, WALL};
+use super::reach::{self, SquaredDistance};
 use super::stand::{self, Place};
-use crate::calls::{Refusal, Stand};
+use crate::calls::{Query, Reach, Refusal, Stand, ROW};
 
-/// Face, right limit, left limit.
-pub type Row = [u16; 3];
+/// A line as it is handed on: face, right limit, left limit.
+pub type Line = [u16; 3];
+
+/// A line that sight ends at, and 0 where it is in reach, 1 where it is not.
+pub type Row = [u16; ROW];
 
 /// A direction: two whole numbers, not both zero.
 #[derive(Clone, Copy, Debug, PartialEq, Eq)]
@@ -21,34 +26,54 @@ pub struct Listing {
     pub crossings: u64,
 }
 
-/// A walk: the faces it left by, each on the side seen, and the wall face it
-/// ended at.
+/// A walk: the faces it left by, each on the side seen, and the face it ended at,
+/// which is wall or out of reach.
 #[derive(Clone, Debug, PartialEq, Eq)]
 pub struct Walk {
     pub route: Vec<u16>,
     pub end: u16,
 }
 
-/// A checked plan seen from a stand under a setting.
+/// What is beyond a line of sight's next line.
+enum Beyond {
+    /// A cell, which is entered through this face.
+    Cell(u16),
+    /// Nothing that is seen: the line is wall.
+    Wall,
+    /// Nothing that is seen: the line is out of reach, be it wall or free.
+    Reach,
+}
+
+/// A checked plan seen from a stand under a setting, as far as a reach goes.
 pub struct View<'a> {
     floor: &'a Floor,
     across: Vec<u16>,
+    /// In millimetres; none where it is unlimited.
+    reach: Option<u64>,
     q: Point,
     place: Place,
 }
 
 impl<'a> View<'a> {
-    pub fn new(floor: &'a Floor, setting: u64, stand: Stand) -> Result<View<'a>, Refusal> {
-        View::through(floor, floor.across_under(setting)?, stand)
+    pub fn new(floor: &'a Floor, query: Query) -> Result<View<'a>, Refusal> {
+        let across = floor.across_under(query.setting)?;
+        View::through(floor, across, query.stand, query.reach)
     }
 
     /// The view with the opposite faces that a setting leaves.
-    pub fn through(floor: &'a Floor, across: Vec<u16>, stand: Stand) -> Result<View<'a>, Refusal> {
+    pub fn through(
+        floor: &'a Floor,
+        across: Vec<u16>,
+        stand: Stand,
+        reach: Reach,
+    ) -> Result<View<'a>, Refusal> {
         let q = stand::millimetres(floor, stand)?;
+        let reach = reach::stated(reach)?;
         let place = stand::place_of(floor, &across, q)?;
         Ok(View {
             floor,
             across,
+            reach,
             q,
             place,
         })
@@ -96,29 +121,48 @@ impl<'a> View<'a> {
             && line.is_some_and(|&face| stand::is_within(self.floor, face, self.q))
     }
 
-    /// Follows lines to their rows. A line waits as the row it would be if it
-    /// were wall; the last one handed on is followed first, so lines go onto
-    /// the stack in reverse.
-    pub fn expand(&self, lines: Vec<Row>) -> Listing {
+    /// Follows lines to their rows. The last one handed on is followed first, so
+    /// lines go onto the stack in reverse.
+    pub fn expand(&self, lines: Vec<Line>) -> Listing {
         let mut rows = Vec::new();
         let mut crossings = 0;
         let mut waiting = lines;
         waiting.reverse();
         while let Some(line) = waiting.pop() {
-            match self.across[usize::from(line[0])] {
-                WALL => rows.push(line),
-                entered => {
+            let [face, right, left] = line;
+            match self.beyond(face) {
+                Beyond::Cell(entered) => {
                     crossings += 1;
                     self.hand_on(entered, line, &mut waiting);
                 }
+                Beyond::Wall => rows.push([face, right, left, 0]),
+                Beyond::Reach => rows.push([face, right, left, 1]),
             }
         }
         Listing { rows, crossings }
     }
 
+    /// What a line of sight that comes to a face's line meets there.
+    fn beyond(&self, face: u16) -> Beyond {
+        if !self.is_in_reach(face) {
+            return Beyond::Reach;
+        }
+        match self.across[usize::from(face)] {
+            WALL => Beyond::Wall,
+            entered => Beyond::Cell(entered),
+        }
+    }
+
+    /// Whether some point of a face's whole line is in reach, seen or not.
+    pub fn is_in_reach(&self, face: u16) -> bool {
+        let ends = self.floor.ends(face).map(|end| self.floor.corner(end));
+        self.reach
+            .is_none_or(|reach| SquaredDistance::new(self.q, ends).is_within(reach))
+    }
+
     /// Hands on the lines of the cell entered through a face, last one first:
     /// every other side with its part of the cone, where that is not empty.
-    fn hand_on(&self, entered: u16, [_, right, left]: Row, waiting: &mut Vec<Row>) {
+    fn hand_on(&self, entered: u16, [_, right, left]: Line, waiting: &mut Vec<Line>) {
         for face in self.floor.others(entered).rev() {
             let [a, b] = self.floor.ends(face);
             // A corner on a limit does not replace it.
@@ -158,9 +202,8 @@ impl<'a> View<'a> {
                 self.line_ahead(self.floor.others(self.entered_at_once(face, d)?), d)
             }
         }?;
-        while self.across[usize::from(leave)] != WALL {
+        while let Beyond::Cell(entered) = self.beyond(leave) {
             route.push(leave);
-            let entered = self.across[usize::from(leave)];
             leave = self.line_ahead(self.floor.others(entered), d)?;
         }
         Some(Walk { route, end: leave })
@@ -197,7 +240,7 @@ impl<'a> View<'a> {
     }
 
     /// A direction strictly inside a row's cone: the sum of its two limits.
-    pub fn middle(&self, [_, right, left]: Row) -> Direction {
+    pub fn middle(&self, [_, right, left, _]: Row) -> Direction {
         let (r, l) = (self.floor.corner(right), self.floor.corner(left));
         Direction {
             x: r.x - self.q.x + l.x - self.q.x,

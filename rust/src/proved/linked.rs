@@ -1,11 +1,12 @@
 //! The functions of `include/manopluea.h` linked from the archive, with
 //! slices for pointers and lengths.
 
-use crate::calls::{DoorChange, Lists, Stand};
+use crate::calls::{DoorChange, Lists, Morning, Query, Stand};
 
 /// Declares a function of the archive and calls it, from one list of typed
 /// arguments: a slice passes as its pointer and its length, `Lists` as its
-/// three slices and its kind, anything else as it is.
+/// three slices and its kind, `Reach` as whether it is stated and its number,
+/// anything else as it is.
 ///
 /// The call is safe because each pointer comes with the length of its own
 /// slice, a slice's pointer is never null, and memory that is written to is
@@ -23,6 +24,12 @@ macro_rules! call {
                 $name.cells.as_ptr(), $name.cells.len(),
                 $name.doors.as_ptr(), $name.doors.len(),
                 $name.kind,]
+            $($rest)*)
+    };
+    (@ $function:ident [$($declared:tt)*] [$($passed:tt)*] $name:ident: Reach, $($rest:tt)*) => {
+        call!(@ $function
+            [$($declared)* _: bool, _: u64,]
+            [$($passed)* $name.is_stated(), $name.number(),]
             $($rest)*)
     };
     (@ $function:ident [$($declared:tt)*] [$($passed:tt)*] $name:ident: &[$number:ty], $($rest:tt)*) => {
@@ -93,13 +100,19 @@ pub fn find(lists: Lists<'_>, setting: u64, stand: Stand, reply: &mut [u64]) {
     }
 }
 
-pub fn list(lists: Lists<'_>, setting: u64, stand: Stand, table: &mut [u16], reply: &mut [u64]) {
+pub fn list(lists: Lists<'_>, query: Query, table: &mut [u16], reply: &mut [u64]) {
+    let Query {
+        setting,
+        stand,
+        reach,
+    } = query;
     match stand {
         Stand::Point(x, y) => call!(manopluea_list_point(
             lists: Lists,
             setting: u64,
             x: f64,
             y: f64,
+            reach: Reach,
             table: &mut [u16],
             reply: &mut [u64],
         )),
@@ -109,6 +122,7 @@ pub fn list(lists: Lists<'_>, setting: u64, stand: Stand, table: &mut [u16], rep
             corner: u16,
             dx: f64,
             dy: f64,
+            reach: Reach,
             table: &mut [u16],
             reply: &mut [u64],
         )),
@@ -117,16 +131,18 @@ pub fn list(lists: Lists<'_>, setting: u64, stand: Stand, table: &mut [u16], rep
 
 pub fn list_stands(
     lists: Lists<'_>,
-    setting: u64,
+    morning: Morning,
     stands: &[f64],
     table: &mut [u16],
     replies: &mut [u64],
     reply: &mut [u64],
 ) {
+    let Morning { setting, reach } = morning;
     call!(manopluea_list_stands(
         lists: Lists,
         setting: u64,
         stands: &[f64],
+        reach: Reach,
         table: &mut [u16],
         replies: &mut [u64],
         reply: &mut [u64],
@@ -135,18 +151,23 @@ pub fn list_stands(
 
 pub fn change(lists: Lists<'_>, asked: DoorChange<'_>, table: &mut [u16], reply: &mut [u64]) {
     let DoorChange {
-        setting,
-        stand,
+        query,
         given,
         door,
         shut,
     } = asked;
+    let Query {
+        setting,
+        stand,
+        reach,
+    } = query;
     match stand {
         Stand::Point(x, y) => call!(manopluea_change_point(
             lists: Lists,
             setting: u64,
             x: f64,
             y: f64,
+            reach: Reach,
             given: &[u16],
             door: usize,
             shut: bool,
@@ -159,6 +180,7 @@ pub fn change(lists: Lists<'_>, asked: DoorChange<'_>, table: &mut [u16], reply:
             corner: u16,
             dx: f64,
             dy: f64,
+            reach: Reach,
             given: &[u16],
             door: usize,
             shut: bool,

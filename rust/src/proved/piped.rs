@@ -2,7 +2,7 @@
 //! pointers and lengths: on a machine that the archive is not made for,
 //! `bridge/serve.c` is linked with it and runs under the kit's emulator.
 
-use crate::calls::{DoorChange, Lists, Stand};
+use crate::calls::{DoorChange, Lists, Morning, Query, Stand};
 use std::cell::Cell;
 use std::io::{Read, Write};
 use std::process::{Child, ChildStdin, ChildStdout, Command, Stdio};
@@ -32,6 +32,8 @@ struct Request<'a> {
     corner: u16,
     x: f64,
     y: f64,
+    stated: bool,
+    reach: u64,
     door: usize,
     shut: bool,
     reply: &'a [u64],
@@ -105,6 +107,8 @@ impl Server {
             u64::from(request.corner),
             request.x.to_bits(),
             request.y.to_bits(),
+            u64::from(request.stated),
+            request.reach,
             request.door as u64,
             u64::from(request.shut),
             request.reply.len() as u64,
@@ -281,6 +285,27 @@ fn with_stand<'a>(
     }
 }
 
+/// A request with what is asked for, and the function of the two that takes its
+/// stand.
+fn with_query<'a>(
+    query: Query,
+    functions: [Function; 2],
+    request: Request<'a>,
+) -> (Function, Request<'a>) {
+    let Query {
+        setting,
+        stand,
+        reach,
+    } = query;
+    let request = Request {
+        setting,
+        stated: reach.is_stated(),
+        reach: reach.number(),
+        ..request
+    };
+    with_stand(stand, functions, request)
+}
+
 pub fn find(lists: Lists<'_>, setting: u64, stand: Stand, reply: &mut [u64]) {
     let functions = [Function::FindPoint, Function::FindOffset];
     let request = Request {
@@ -293,14 +318,13 @@ pub fn find(lists: Lists<'_>, setting: u64, stand: Stand, reply: &mut [u64]) {
     reply.copy_from_slice(&answer.reply);
 }
 
-pub fn list(lists: Lists<'_>, setting: u64, stand: Stand, table: &mut [u16], reply: &mut [u64]) {
+pub fn list(lists: Lists<'_>, query: Query, table: &mut [u16], reply: &mut [u64]) {
     let functions = [Function::ListPoint, Function::ListOffset];
     let request = Request {
-        setting,
         table,
         ..of_lists(lists, reply)
     };
-    let (function, request) = with_stand(stand, functions, request);
+    let (function, request) = with_query(query, functions, request);
     let answer = ask(function, &request);
     kept(lists, &answer);
     table.copy_from_slice(&answer.table);
@@ -309,14 +333,16 @@ pub fn list(lists: Lists<'_>, setting: u64, stand: Stand, table: &mut [u16], rep
 
 pub fn list_stands(
     lists: Lists<'_>,
-    setting: u64,
+    morning: Morning,
     stands: &[f64],
     table: &mut [u16],
     replies: &mut [u64],
     reply: &mut [u64],
 ) {
     let request = Request {
-        setting,
+        setting: morning.setting,
+        stated: morning.reach.is_stated(),
+        reach: morning.reach.number(),
         stands,
         table,
         replies,
@@ -334,14 +360,13 @@ pub fn list_stands(
 pub fn change(lists: Lists<'_>, asked: DoorChange<'_>, table: &mut [u16], reply: &mut [u64]) {
     let functions = [Function::ChangePoint, Function::ChangeOffset];
     let request = Request {
-        setting: asked.setting,
         door: asked.door,
         shut: asked.shut,
         given: asked.given,
         table,
         ..of_lists(lists, reply)
     };
-    let (function, request) = with_stand(asked.stand, functions, request);
+    let (function, request) = with_query(asked.query, functions, request);
     let answer = ask(function, &request);
     kept(lists, &answer);
     assert_eq!(answer.given, asked.given, "the given list is not lent");

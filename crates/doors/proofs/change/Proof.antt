@@ -33,7 +33,7 @@ change-many-requires c κs = sym (c .before .before .before .before .before .mea
 returns-2 : tie.Need-returns-2
 returns-2 c =
     let s = c .before .before .before .before .before .before .before .before in
-    not-counted (s .args .kind) (now (s .args .corners)) (now (s .args .cells)) (now (s .args .doors)) (s .args .setting) (s .args .stand) (now (s .args .given)) (s .args .door) (s .args .shut) (now (s .args .table)) (c .before .before .before .measure .ensures) (c .before .r .given .1)
+    not-counted (s .args .kind) (now (s .args .corners)) (now (s .args .cells)) (now (s .args .doors)) (s .args .query) (now (s .args .given)) (s .args .door) (s .args .shut) (now (s .args .table)) (c .before .before .before .measure .ensures) (c .before .r .given .1)
 
 same-length-2 : tie.Need-same-length-2
 same-length-2 c = search needs

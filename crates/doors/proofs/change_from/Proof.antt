@@ -16,7 +16,7 @@ use Rattle.doors.proofs.change_from.Tie as tie
 returns : tie.Need-returns
 returns c =
     let s = c .before .before .before .before .before .before .before .before in
-    no-such-door (now (s .args .corners)) (tabled (now (s .args .faces)) (now (s .args .firsts))) (now (s .args .doors)) (s .args .setting) (now (s .args .given)) (s .args .door) (s .args .shut) (now (s .args .table)) (point (s .args .q)) (s .args .p) (c .if1 .taken)
+    no-such-door (now (s .args .corners)) (tabled (now (s .args .faces)) (now (s .args .firsts))) (now (s .args .doors)) (s .args .setting) (s .args .reach) (now (s .args .given)) (s .args .door) (s .args .shut) (now (s .args .table)) (point (s .args .q)) (s .args .p) (c .if1 .taken)
 
 is-in-wished-state-requires : tie.Need-is-in-wished-state-requires
 is-in-wished-state-requires c κs =
@@ -28,10 +28,12 @@ is-in-wished-state-requires c κs =
 returns-2 : tie.Need-returns-2
 returns-2 c =
     let s = c .before .before .before .before .before .before .before .before .before .before in
-    already-so (now (s .args .corners)) (tabled (now (s .args .faces)) (now (s .args .firsts))) (now (s .args .doors)) (s .args .setting) (now (s .args .given)) (s .args .door) (s .args .shut) (now (s .args .table)) (point (s .args .q)) (s .args .p) (c .before .before .if1 .left) (sym (c .if2 .taken) ∙ c .before .is-in-wished-state .ensures)
+    already-so (now (s .args .corners)) (tabled (now (s .args .faces)) (now (s .args .firsts))) (now (s .args .doors)) (s .args .setting) (s .args .reach) (now (s .args .given)) (s .args .door) (s .args .shut) (now (s .args .table)) (point (s .args .q)) (s .args .p) (c .before .before .if1 .left) (sym (c .if2 .taken) ∙ c .before .is-in-wished-state .ensures)
 
 is-true-list-requires : tie.Need-is-true-list-requires
-is-true-list-requires c κs = search needs
+is-true-list-requires c κs =
+    let p = c .before .before .before .before .before .before .before .before .before .before .before .before .pre in
+    (p .0, (p .1 .0, (p .1 .1 .1 .0 .1, p .1 .1 .1 .1)))
 
 same-length : tie.Need-same-length
 same-length c = search needs
@@ -42,7 +44,7 @@ same-length-2 c = search needs
 returns-3 : tie.Need-returns-3
 returns-3 c =
     let s = c .before .before .before .before .before .before .before .before .before .before .before .before .before .before .before .before .before in
-    not-true (now (s .args .corners)) (tabled (now (s .args .faces)) (now (s .args .firsts))) (now (s .args .doors)) (s .args .setting) (now (s .args .given)) (s .args .door) (s .args .shut) (now (s .args .table)) (point (s .args .q)) (s .args .p) (c .before .before .before .before .before .before .before .before .before .if1 .left) (sym (c .before .before .before .before .before .before .before .if2 .left) ∙ c .before .before .before .before .before .before .before .before .is-in-wished-state .ensures) (c .before .before .before .before .is-true-list .ensures) (c .if3 .taken)
+    not-true (now (s .args .corners)) (tabled (now (s .args .faces)) (now (s .args .firsts))) (now (s .args .doors)) (s .args .setting) (s .args .reach) (now (s .args .given)) (s .args .door) (s .args .shut) (now (s .args .table)) (point (s .args .q)) (s .args .p) (c .before .before .before .before .before .before .before .before .before .if1 .left) (sym (c .before .before .before .before .before .before .before .if2 .left) ∙ c .before .before .before .before .before .before .before .before .is-in-wished-state .ensures) (c .before .before .before .before .is-true-list .ensures) (c .if3 .taken)
 
 wished-requires : tie.Need-wished-requires
 wished-requires c κs =
@@ -60,7 +62,7 @@ list-from-requires c κs =
       p .0,
       (
         (p .1 .0 .0, ap (λ (v : ℕ). located (now (a .corners)) (tabled (now (a .faces)) (now (a .firsts))) (now (a .doors)) v (point (a .q))) (c .before .before .before .wished .ensures) ∙ place),
-        (p .1 .1 .1 .0, (drawn .1 .1 .1 .1 .1 .1 .1 .1 .1 .0 ∙ p .1 .1 .1 .1 .0, drawn .1 .1 .1 .1 .1 .1 .1 .1 .1 .1 .0 ∙ p .1 .1 .1 .1 .1)),
+        (p .1 .1 .1 .0, (drawn .1 .1 .1 .1 .1 .1 .1 .1 .1 .1 .0 ∙ p .1 .1 .1 .1 .0, drawn .1 .1 .1 .1 .1 .1 .1 .1 .1 .1 .1 .0 ∙ p .1 .1 .1 .1 .1)),
       ),
     )
 
@@ -76,7 +78,7 @@ same-length-5 c = search needs
 returns-4 : tie.Need-returns-4
 returns-4 c =
     let s = c .before .before .before .before .before .before .before .before .before .before .before .before .before .before .before .before .before .before .before .before .before .before .before .before .before .before .before in
-    change-made (now (s .args .corners)) (tabled (now (s .args .faces)) (now (s .args .firsts))) (now (s .args .doors)) (s .args .setting) (now (s .args .given)) (s .args .door) (s .args .shut) (now (s .args .table)) (point (s .args .q)) (s .args .p) (c .before .before .before .before .before .before .before .before .before .before .before .before .before .before .before .before .before .before .before .if1 .left) (sym (c .before .before .before .before .before .before .before .before .before .before .before .before .before .before .before .before .before .if2 .left) ∙ c .before .before .before .before .before .before .before .before .before .before .before .before .before .before .before .before .before .before .is-in-wished-state .ensures) (c .before .before .before .before .before .before .before .before .before .before .before .before .before .before .is-true-list .ensures) (c .before .before .before .before .before .before .before .before .before .before .if3 .left) (c .before .before .before .before .before .before .before .before .before .wished .ensures) (c .before .before .before .before .before .list-from .ensures)
+    change-made (now (s .args .corners)) (tabled (now (s .args .faces)) (now (s .args .firsts))) (now (s .args .doors)) (s .args .setting) (s .args .reach) (now (s .args .given)) (s .args .door) (s .args .shut) (now (s .args .table)) (point (s .args .q)) (s .args .p) (c .before .before .before .before .before .before .before .before .before .before .before .before .before .before .before .before .before .before .before .if1 .left) (sym (c .before .before .before .before .before .before .before .before .before .before .before .before .before .before .before .before .before .if2 .left) ∙ c .before .before .before .before .before .before .before .before .before .before .before .before .before .before .before .before .before .before .is-in-wished-state .ensures) (c .before .before .before .before .before .before .before .before .before .before .before .before .before .before .is-true-list .ensures) (c .before .before .before .before .before .before .before .before .before .before .if3 .left) (c .before .before .before .before .before .before .before .before .before .wished .ensures) (c .before .before .before .before .before .list-from .ensures)
 
 pub change-from-spec : {M : Type 1} → statement M
 change-from-spec =

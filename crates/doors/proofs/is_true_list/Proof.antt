@@ -10,7 +10,7 @@ slice-aggregate-is-true-list-with-room c = search needs
 is-true-list-with-room-requires : tie.Need-is-true-list-with-room-requires
 is-true-list-with-room-requires c κs =
     let s = c .before .before .before .before .before .before .before .before .before in
-    (s .pre .0, (s .pre .1 .0, (few-numbers (s .pre .0 .0), s .pre .1 .1)))
+    (s .pre .0, (s .pre .1 .0, ((few-numbers (s .pre .0 .0), s .pre .1 .1 .0), s .pre .1 .1 .1)))
 
 same-length : tie.Need-same-length
 same-length c = search needs

@@ -15,16 +15,16 @@ list-from-requires c κs = search needs
 mul-n : tie.Need-mul-n
 mul-n c =
     let s = c .before .before .before .before .before .before .before .before .before .before .before .before .before .before .before .before .before in
-    let fit = numbers-fit (s .pre .0 .0) (s .args .setting) (point (s .args .q)) (s .args .p) (s .pre .1 .0 .1) (c .before .before .before .before .before .before .list-from .ensures .0) in
+    let fit = numbers-fit (s .pre .0 .0) (s .args .setting) (s .args .reach) (point (s .args .q)) (s .args .p) (s .pre .1 .0 .1) (c .before .before .before .before .before .before .list-from .ensures .0) in
     let few = few-numbers (s .pre .0 .0) in
     record { fits = omega arith }
 
 is-same-list-requires : tie.Need-is-same-list-requires
 is-same-list-requires c κs =
     let s = c .before .before .before .before .before .before .before .before .before .before .before .before .before .before .before .before .before .before in
-    let fit = numbers-fit (s .pre .0 .0) (s .args .setting) (point (s .args .q)) (s .args .p) (s .pre .1 .0 .1) (c .before .before .before .before .before .before .before .list-from .ensures .0) in
-    let room = s .pre .1 .1 .0 in
-    let kept = c .before .before .before .before .before .before .before .list-from .kept .1 .1 .1 .1 .1 .1 .1 .0 in
+    let fit = numbers-fit (s .pre .0 .0) (s .args .setting) (s .args .reach) (point (s .args .q)) (s .args .p) (s .pre .1 .0 .1) (c .before .before .before .before .before .before .before .list-from .ensures .0) in
+    let room = s .pre .1 .1 .0 .0 in
+    let kept = c .before .before .before .before .before .before .before .list-from .kept .1 .1 .1 .1 .1 .1 .1 .1 .0 in
     omega arith
 
 same-length : tie.Need-same-length
@@ -41,7 +41,7 @@ returns c =
     let s = c .before .before .before .before .before .before .before .before .before .before .before .before .before .before .before .before .before .before .before in
     let written = c .before .before .before .before .before .before .before .before .list-from .ensures in
     c .is-same-list .ensures
-    ∙ ap (same-list (now (s .args .given))) (listed-anew (s .pre .0 .0) (s .args .setting) (point (s .args .q)) (s .args .p) (s .pre .1 .0 .1) (now (s .args .table)) (written .0) (s .pre .1 .1 .0) (written .1 .1))
+    ∙ ap (same-list (now (s .args .given))) (listed-anew (s .pre .0 .0) (s .args .setting) (s .args .reach) (point (s .args .q)) (s .args .p) (s .pre .1 .0 .1) (now (s .args .table)) (written .0) (s .pre .1 .1 .0 .0) (written .1 .1))
 
 pub is-true-list-with-room-spec : {M : Type 1} → statement M
 is-true-list-with-room-spec =

@@ -1,7 +1,8 @@
 -- `expand::narrow` meets its contract: each side that is left out ends on or right of the right limit, and the one after which none is handed on ends on
 -- or left of the left limit.
 use mathlib.Core.Path.{refl, subst, sym}
-use Prim.Native.Nat.{_+_, _*_, _<_}
+use mathlib.Core.List.{List}
+use Prim.Native.Nat.{ℕ, _+_, _*_, _<_}
 use native.Mathlib.Omega.{arith}
 use lib.IntN.{ℤ}
 use lib.ListN.{length, getD}
@@ -17,13 +18,15 @@ use Rattle.expand.proofs.narrow.Statement.{statement}
 use Rattle.expand.proofs.narrow.Tie as tie
 
 abbrev Inv-loop : tie.InvT-loop
-Inv-loop seen lines e more r l side₀ after₀ side after = Narrows (floor-of seen lines) r l more e after side × (4 * side + 3 < length lines)
+Inv-loop seen lines e more r l side₀ after₀ side after = ((fs : List ℕ) (R : ℕ) → Narrows (floor-of seen lines fs R) r l more e after side) × (4 * side + 3 < length lines)
 
 abbrev μ-loop : tie.MeasureT-loop
 μ-loop seen lines e more r l side₀ after₀ side after = after
 
 loop-holds : tie.Need-loop-holds Inv-loop μ-loop
-loop-holds c = let s = c .before in (narrows-none (floor-of (now (s .args .seen)) (now (s .args .lines))) (s .args .r) (s .args .l) (s .args .more) (s .args .e), s .pre .1 .0)
+loop-holds c =
+    let s = c .before in
+    (λ fs R. narrows-none (floor-of (now (s .args .seen)) (now (s .args .lines)) fs R) (s .args .r) (s .args .l) (s .args .more) (s .args .e), s .pre .1 .0)
 
 mul-v : tie.Need-mul-v Inv-loop μ-loop
 mul-v c = omega (arith, c .before .loop .inv .1, c .before .before .before .pre .0 .few-faces)
@@ -55,7 +58,7 @@ returns-2 c =
     let i = c .before .before .before .before .before .before .loop in
     let past-right = subst (λ (z : ℤ). 𝟘 <ℤ z) (handed w64 (c .before .before .before .turn .ok) (c .before .before .before .turn .ensures)) (ltZ-true _ _ (c .before .before .if1 .taken)) in
     let at-left = subst (λ (z : ℤ). z ≤ℤ 𝟘) (handed w64 (c .before .turn2 .ok) (c .before .turn2 .ensures)) (ltZ-false _ _ (c .if2 .left)) in
-    ((narrows-to-one _ _ _ _ _ (i .inv .0) (c .before .before .before .before .before .loop-test .taken) (sym (is-left-of-l _ _ _ _ (lt-leZ past-right) (le-leZ at-left))), i .inv .1), λ h. absurd (h refl))
+    ((λ fs R. narrows-to-one _ _ _ _ _ (i .inv .0 fs R) (c .before .before .before .before .before .loop-test .taken) (sym (is-left-of-l _ _ _ _ (lt-leZ past-right) (le-leZ at-left))), i .inv .1), λ h. absurd (h refl))
 
 mul-side : tie.Need-mul-side Inv-loop μ-loop
 mul-side c = omega (arith, c .before .before .before .before .loop .inv .1, c .before .before .before .before .before .before .pre .0 .few-faces)
@@ -90,7 +93,7 @@ loop-again : tie.Need-loop-again Inv-loop μ-loop
 loop-again c =
     let i = c .before .before .before .before .before .loop in
     let not-left = subst (λ (z : ℤ). z ≤ℤ 𝟘) (handed w64 (c .before .before .turn .ok) (c .before .before .turn .ensures)) (ltZ-false _ _ (c .before .if1 .left)) in (
-      narrows-one-more _ _ _ _ _ (i .inv .0) (c .before .before .before .before .loop-test .taken) (sym (is-right-of-r _ _ _ _ (le-leZ not-left))),
+      λ fs R. narrows-one-more _ _ _ _ _ (i .inv .0 fs R) (c .before .before .before .before .loop-test .taken) (sym (is-right-of-r _ _ _ _ (le-leZ not-left))),
       next-there c,
     )
 

@@ -10,7 +10,8 @@ use denote.Ref.{now}
 use native.Mathlib.Omega.{arith}
 use Rattle.exact.proofs.Bounds.{Exactly, fits, reads-back, minus, times, widened, widened-fits}
 use Rattle.plane.specs.Cone.{cross}
-use Rattle.expand.specs.Floor.{most-apart, Near}
+use Rattle.reach.specs.Reach.{most-apart}
+use Rattle.expand.specs.Floor.{Near}
 use borrow.Author.Needs.{needs}
 use Rattle.expand.proofs.turn.Statement.{statement}
 use Rattle.expand.proofs.turn.Tie as tie

@@ -1,8 +1,10 @@
 -- `exports::manopluea_change_offset` meets its contract.
+use mathlib.Core.Path.{ap, _∙_}
 use denote.Ref.{now}
+use Rattle.reach.specs.declared.Reach.{Reach}
 use Rattle.stand.specs.declared.spot.Stand.the-variants.{Offset}
 use Rattle.manopluea.specs.Calls.{change-replies}
-use Rattle.exports.specs.Reply.{change-left}
+use Rattle.exports.specs.Reply.{query, change-left}
 use Rattle.exports.proofs.Replies.{none-left, all-left}
 use borrow.Author.Needs.{needs}
 use Rattle.exports.proofs.manopluea_change_offset.Statement.{statement}
@@ -10,7 +12,12 @@ use Rattle.exports.proofs.manopluea_change_offset.Tie as tie
 
 returns : tie.Need-returns
 unfolding change-left
-returns c = none-left (now (c .before .before .before .before .before .before .args .table)) (now (c .before .before .before .before .before .before .args .reply)) (change-replies (c .before .before .before .before .before .before .args .kind) (now (c .before .before .before .before .before .before .args .corners)) (now (c .before .before .before .before .before .before .args .cells)) (now (c .before .before .before .before .before .before .args .doors)) (c .before .before .before .before .before .before .args .setting) (Offset (c .before .before .before .before .before .before .args .corner) (c .before .before .before .before .before .before .args .dx) (c .before .before .before .before .before .before .args .dy)) (now (c .before .before .before .before .before .before .args .given)) (c .before .before .before .before .before .before .args .door) (c .before .before .before .before .before .before .args .shut) (now (c .before .before .before .before .before .before .args .table))) (c .if1 .taken)
+returns c =
+    let s = c .before .before .before .before .before .before in
+    none-left (now (s .args .table)) (now (s .args .reply)) (change-replies (s .args .kind) (now (s .args .corners)) (now (s .args .cells)) (now (s .args .doors)) (query (s .args .setting) (Offset (s .args .corner) (s .args .dx) (s .args .dy)) (s .args .stated) (s .args .reach)) (now (s .args .given)) (s .args .door) (s .args .shut) (now (s .args .table))) (c .if1 .taken)
+
+reach-of-requires : tie.Need-reach-of-requires
+reach-of-requires c κs = search needs
 
 change-requires : tie.Need-change-requires
 change-requires c κs = search needs
@@ -26,9 +33,14 @@ same-length-2 c = search needs
 
 returns-2 : tie.Need-returns-2
 unfolding change-left
-returns-2 c = all-left (now (c .before .before .before .before .before .before .before .before .before .before .before .before .before .before .args .table)) (now (c .before .before .before .before .before .before .before .before .before .before .before .before .before .before .args .reply)) (c .before .before .before .before .before .before .before .before .if1 .left) (c .before .before .before .before .before .before .change .ensures .1) (c .before .before .put-listed .ensures)
+returns-2 c =
+    let s = c .before .before .before .before .before .before .before .before .before .before .before .before .before .before .before in
+    all-left (now (s .args .table)) (now (s .args .reply)) (c .before .before .before .before .before .before .before .before .before .if1 .left)
+    (c .before .before .before .before .before .before .change .ensures .1
+    ∙ ap (λ (r : Reach). change-replies (s .args .kind) (now (s .args .corners)) (now (s .args .cells)) (now (s .args .doors)) (record { setting = s .args .setting; stand = Offset (s .args .corner) (s .args .dx) (s .args .dy); reach = r }) (now (s .args .given)) (s .args .door) (s .args .shut) (now (s .args .table))) (c .before .before .before .before .before .before .before .before .reach-of .ensures))
+    (c .before .before .put-listed .ensures)
 
 pub manopluea-change-offset-spec : {M : Type 1} → statement M
 manopluea-change-offset-spec =
     tie.close
-    (tie.spec returns change-requires put-listed-requires same-length same-length-2 returns-2)
+    (tie.spec returns reach-of-requires change-requires put-listed-requires same-length same-length-2 returns-2)

@@ -1,8 +1,10 @@
 -- `exports::manopluea_list_point` meets its contract.
+use mathlib.Core.Path.{ap, _∙_}
 use denote.Ref.{now}
+use Rattle.reach.specs.declared.Reach.{Reach}
 use Rattle.stand.specs.declared.spot.Stand.the-variants.{Point}
 use Rattle.manopluea.specs.Calls.{list-replies}
-use Rattle.exports.specs.Reply.{list-left}
+use Rattle.exports.specs.Reply.{query, list-left}
 use Rattle.exports.proofs.Replies.{none-left, all-left}
 use borrow.Author.Needs.{needs}
 use Rattle.exports.proofs.manopluea_list_point.Statement.{statement}
@@ -10,7 +12,12 @@ use Rattle.exports.proofs.manopluea_list_point.Tie as tie
 
 returns : tie.Need-returns
 unfolding list-left
-returns c = none-left (now (c .before .before .before .before .before .args .table)) (now (c .before .before .before .before .before .args .reply)) (list-replies (c .before .before .before .before .before .args .kind) (now (c .before .before .before .before .before .args .corners)) (now (c .before .before .before .before .before .args .cells)) (now (c .before .before .before .before .before .args .doors)) (c .before .before .before .before .before .args .setting) (Point (c .before .before .before .before .before .args .x) (c .before .before .before .before .before .args .y)) (now (c .before .before .before .before .before .args .table))) (c .if1 .taken)
+returns c =
+    let s = c .before .before .before .before .before in
+    none-left (now (s .args .table)) (now (s .args .reply)) (list-replies (s .args .kind) (now (s .args .corners)) (now (s .args .cells)) (now (s .args .doors)) (query (s .args .setting) (Point (s .args .x) (s .args .y)) (s .args .stated) (s .args .reach)) (now (s .args .table))) (c .if1 .taken)
+
+reach-of-requires : tie.Need-reach-of-requires
+reach-of-requires c κs = search needs
 
 list-requires : tie.Need-list-requires
 list-requires c κs = search needs
@@ -26,9 +33,14 @@ same-length-2 c = search needs
 
 returns-2 : tie.Need-returns-2
 unfolding list-left
-returns-2 c = all-left (now (c .before .before .before .before .before .before .before .before .before .before .before .before .before .args .table)) (now (c .before .before .before .before .before .before .before .before .before .before .before .before .before .args .reply)) (c .before .before .before .before .before .before .before .before .if1 .left) (c .before .before .before .before .before .before .list .ensures .1) (c .before .before .put-listed .ensures)
+returns-2 c =
+    let s = c .before .before .before .before .before .before .before .before .before .before .before .before .before .before in
+    all-left (now (s .args .table)) (now (s .args .reply)) (c .before .before .before .before .before .before .before .before .before .if1 .left)
+    (c .before .before .before .before .before .before .list .ensures .1
+    ∙ ap (λ (r : Reach). list-replies (s .args .kind) (now (s .args .corners)) (now (s .args .cells)) (now (s .args .doors)) (record { setting = s .args .setting; stand = Point (s .args .x) (s .args .y); reach = r }) (now (s .args .table))) (c .before .before .before .before .before .before .before .before .reach-of .ensures))
+    (c .before .before .put-listed .ensures)
 
 pub manopluea-list-point-spec : {M : Type 1} → statement M
 manopluea-list-point-spec =
     tie.close
-    (tie.spec returns list-requires put-listed-requires same-length same-length-2 returns-2)
+    (tie.spec returns reach-of-requires list-requires put-listed-requires same-length same-length-2 returns-2)

@@ -25,9 +25,9 @@ list-each-requires c κs =
     let v = c .before .before .before .before .before .before .before .before .before .before .before .before .before .before .before .asked-in .ensures in
     let drawn = drawn-cells (s .args .kind) (now (s .args .cells)) (v .1 .0) (v .1 .1 .0) in
     let granted = grants (s .args .kind) (now (s .args .corners)) (now (s .args .cells)) (now (s .args .doors)) (v .0) (c .before .before .before .before .before .before .before .enum-told .given .1) in
-    let sound = sound-on-the-tables (s .args .kind) (now (s .args .corners)) (now (s .args .cells)) (now (s .args .doors)) (s .args .setting) (s .args .stands) (s .args .count) (now (s .args .table)) (now (s .args .replies)) drawn granted in (
+    let sound = sound-on-the-tables (s .args .kind) (now (s .args .corners)) (now (s .args .cells)) (now (s .args .doors)) (s .args .morning) (s .args .stands) (now (s .args .table)) (now (s .args .replies)) drawn granted in (
       (sound, noted-backs (s .args .kind) (now (s .args .corners)) (now (s .args .cells)) (now (s .args .doors)) _ drawn (v .1 .1 .1) sound),
-      (room-for-all (s .args .kind) (now (s .args .corners)) (now (s .args .cells)) (now (s .args .doors)) (s .args .setting) (s .args .stands) (s .args .count) (now (s .args .table)) (now (s .args .replies)) drawn granted, (room-for-lines (s .args .kind) (now (s .args .cells)) drawn (s .pre .1 .1 .1 .1 .1 .0), s .pre .1 .1 .1 .1 .1 .1)),
+      (room-for-all (s .args .kind) (now (s .args .corners)) (now (s .args .cells)) (now (s .args .doors)) (s .args .morning) (s .args .stands) (now (s .args .table)) (now (s .args .replies)) drawn granted, (room-for-lines (s .args .kind) (now (s .args .cells)) drawn (s .pre .1 .1 .1 .1 .1 .0), s .pre .1 .1 .1 .1 .1 .1)),
     )
 
 same-length : tie.Need-same-length
@@ -42,7 +42,7 @@ same-length-3 c = search needs
 returns : tie.Need-returns
 returns c =
     let s = c .before .before .before .before .before .before .before .before .before .before .before .before .before .before .before .before .before .before .before .before .before in
-    call-refused (s .args .kind) (now (s .args .corners)) (now (s .args .cells)) (now (s .args .doors)) (s .args .setting) (s .args .stands) (s .args .count) (now (s .args .table)) (now (s .args .replies)) (sym (c .before .before .before .before .before .before .before .before .before .asked-in .ensures .0) ∙ c .before .r .given .1)
+    call-refused (s .args .kind) (now (s .args .corners)) (now (s .args .cells)) (now (s .args .doors)) (s .args .morning) (s .args .stands) (now (s .args .table)) (now (s .args .replies)) (sym (c .before .before .before .before .before .before .before .before .before .asked-in .ensures .0) ∙ c .before .r .given .1)
 
 same-length-4 : tie.Need-same-length-4
 same-length-4 c = search needs
@@ -69,7 +69,7 @@ returns-2 : tie.Need-returns-2
 returns-2 c =
     let s = c .before .before .before .before .before .before .before .before .before .before .before .before .before .before .before .before .before .before .before .before .before .before .before .before .before .before .before .before .before .before .before .before .before .before .before in
     let v = c .before .before .before .before .before .before .before .before .before .before .before .before .before .before .before .before .before .before .before .before .before .before .before .asked-in .ensures in
-    call-done (s .args .kind) (now (s .args .corners)) (now (s .args .cells)) (now (s .args .doors)) (s .args .setting) (s .args .stands) (s .args .count) (now (s .args .table)) (now (s .args .replies)) (drawn-cells (s .args .kind) (now (s .args .cells)) (v .1 .0) (v .1 .1 .0)) (grants (s .args .kind) (now (s .args .corners)) (now (s .args .cells)) (now (s .args .doors)) (v .0) (c .before .before .before .before .before .before .before .before .before .before .before .before .before .before .before .enum-told .given .1)) (c .before .before .before .before .before .before .before .list-each .ensures)
+    call-done (s .args .kind) (now (s .args .corners)) (now (s .args .cells)) (now (s .args .doors)) (s .args .morning) (s .args .stands) (now (s .args .table)) (now (s .args .replies)) (drawn-cells (s .args .kind) (now (s .args .cells)) (v .1 .0) (v .1 .1 .0)) (grants (s .args .kind) (now (s .args .corners)) (now (s .args .cells)) (now (s .args .doors)) (v .0) (c .before .before .before .before .before .before .before .before .before .before .before .before .before .before .before .enum-told .given .1)) (c .before .before .before .before .before .before .before .list-each .ensures)
 
 pub list-in-spec : {M : Type 1} → statement M
 list-in-spec =

@@ -23,7 +23,7 @@ mul-if1 c = search needs
 list-few-requires : tie.Need-list-few-requires
 list-few-requires c κs =
     let s = c .before .before .before .before .before .before .before .before .before .before .before in
-    (lists-counted (s .args .kind) (now (s .args .corners)) (now (s .args .cells)) (now (s .args .doors)) (s .args .count) (c .before .before .before .before .before .before .measure-for .ensures) (c .before .before .before .before .m .given .1), c .before .before .if1 .taken)
+    (lists-counted (s .args .kind) (now (s .args .corners)) (now (s .args .cells)) (now (s .args .doors)) (s .args .morning .count) (c .before .before .before .before .before .before .measure-for .ensures) (c .before .before .before .before .m .given .1), c .before .before .if1 .taken)
 
 same-length : tie.Need-same-length
 same-length c = search needs
@@ -37,12 +37,12 @@ returns c = search needs
 list-many-requires : tie.Need-list-many-requires
 list-many-requires c κs =
     let s = c .before .before .before .before .before .before .before .before .before .before .before in
-    lists-counted (s .args .kind) (now (s .args .corners)) (now (s .args .cells)) (now (s .args .doors)) (s .args .count) (c .before .before .before .before .before .before .measure-for .ensures) (c .before .before .before .before .m .given .1)
+    lists-counted (s .args .kind) (now (s .args .corners)) (now (s .args .cells)) (now (s .args .doors)) (s .args .morning .count) (c .before .before .before .before .before .before .measure-for .ensures) (c .before .before .before .before .m .given .1)
 
 returns-2 : tie.Need-returns-2
 returns-2 c =
     let s = c .before .before .before .before .before .before .before .before in
-    call-refused (s .args .kind) (now (s .args .corners)) (now (s .args .cells)) (now (s .args .doors)) (s .args .setting) (s .args .stands) (s .args .count) (now (s .args .table)) (now (s .args .replies)) (sym (sizes-refused (s .args .kind) (now (s .args .corners)) (now (s .args .cells)) (now (s .args .doors)) (s .args .count) (c .before .before .before .measure-for .ensures) (c .before .r .given .1) (s .args .setting) (length (now (s .args .table))) (length (now (s .args .replies)))))
+    call-refused (s .args .kind) (now (s .args .corners)) (now (s .args .cells)) (now (s .args .doors)) (s .args .morning) (s .args .stands) (now (s .args .table)) (now (s .args .replies)) (sym (sizes-refused (s .args .kind) (now (s .args .corners)) (now (s .args .cells)) (now (s .args .doors)) (s .args .morning .count) (c .before .before .before .measure-for .ensures) (c .before .r .given .1) (s .args .morning .setting) (length (now (s .args .table))) (length (now (s .args .replies)))))
 
 same-length-3 : tie.Need-same-length-3
 same-length-3 c = search needs

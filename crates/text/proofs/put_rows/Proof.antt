@@ -48,10 +48,22 @@ mul-put-row-6 c = omega (arith, c .before .before .before .before .before .befor
 shared-slice-read-put-row-3 : tie.Need-shared-slice-read-put-row-3 Inv-loop μ-loop
 shared-slice-read-put-row-3 c = omega (arith, c .before .before .before .before .before .before .before .before .pre .1)
 
+mul-put-row-7 : tie.Need-mul-put-row-7 Inv-loop μ-loop
+mul-put-row-7 c = omega (arith, c .before .before .before .before .before .before .before .before .good .1 .1 .0 .0, c .before .before .before .before .before .before .before .before .pre .1)
+
+add-put-row-3 : tie.Need-add-put-row-3 Inv-loop μ-loop
+add-put-row-3 c = omega (arith, c .before .before .before .before .before .before .before .before .good .1 .1 .0 .0, c .before .before .before .before .before .before .before .before .pre .1)
+
+mul-put-row-8 : tie.Need-mul-put-row-8 Inv-loop μ-loop
+mul-put-row-8 c = omega (arith, c .before .before .before .before .before .before .before .before .good .1 .1 .0 .0, c .before .before .before .before .before .before .before .before .pre .1)
+
+shared-slice-read-put-row-4 : tie.Need-shared-slice-read-put-row-4 Inv-loop μ-loop
+shared-slice-read-put-row-4 c = omega (arith, c .before .before .before .before .before .before .before .before .before .pre .1)
+
 put-row-requires : tie.Need-put-row-requires Inv-loop μ-loop
 put-row-requires c κs =
-    let l = c .before .before .before .before .before .loop .inv in
-    omega (arith, c .before .before .before .before .before .before .before .before .pre .0, l .short, word-ends (l .so-far) .1)
+    let l = c .before .before .before .before .before .before .loop .inv in
+    omega (arith, c .before .before .before .before .before .before .before .before .before .pre .0, l .short, word-ends (l .so-far) .1)
 
 add-i : tie.Need-add-i Inv-loop μ-loop
 add-i c = omega arith
@@ -60,7 +72,7 @@ loop-less : tie.Need-loop-less Inv-loop μ-loop
 loop-less c = omega arith
 
 loop-again : tie.Need-loop-again Inv-loop μ-loop
-loop-again c = lines-go-on (c .before .before .before .before .before .before .before .before .loop .inv) (c .before .before .before .before .before .before .before .loop-test .taken) (c .before .before .put-row .ensures .0) (c .before .before .put-row .ensures .1)
+loop-again c = lines-go-on (c .before .before .before .before .before .before .before .before .before .loop .inv) (c .before .before .before .before .before .before .before .before .loop-test .taken) (c .before .before .put-row .ensures .0) (c .before .before .put-row .ensures .1)
 
 same-length : tie.Need-same-length Inv-loop μ-loop
 same-length c = word-ends (c .before .loop .inv .so-far) .1
@@ -88,6 +100,10 @@ put-rows-spec =
     add-put-row-2
     mul-put-row-6
     shared-slice-read-put-row-3
+    mul-put-row-7
+    add-put-row-3
+    mul-put-row-8
+    shared-slice-read-put-row-4
     put-row-requires
     add-i
     loop-less

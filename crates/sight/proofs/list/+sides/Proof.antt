@@ -20,7 +20,7 @@ use Rattle.sight.proofs.list.+sides.{statement}
 use Rattle.sight.proofs.list.+sides.Tie.{close}
 
 abbrev μ-sides : Measures 4 sides-kinds.ps ℕ
-μ-sides κs a = a .1 .1 .1 .1 .1 .0
+μ-sides κs a = a .1 .1 .1 .1 .1 .1 .0
 
 abbrev sides-at : ℕ → In 4 sides-kinds.ps
 sides-at t = and 4 sides-kinds.ps (is 4 sides-kinds.ps μ-sides t) sides.Pre
@@ -33,10 +33,10 @@ sides-calls t = (cross-reads.Asked, cross-reads.Learnt, sides-below t, sides.Pos
 
 -- all that is followed, and the first side
 abbrev all : (t : ℕ) → sides-lts.Start (sides-calls t) (sides-at t) sides.Post → Sight
-all t s = cell-tree (now (s .args .seen)) (now (s .args .lines)) (now (s .args .faces)) (s .args .unentered) (s .args .more) (s .args .f)
+all t s = cell-tree (now (s .args .seen)) (now (s .args .lines)) (now (s .args .faces)) (s .args .reach) (s .args .unentered) (s .args .more) (s .args .f)
 
 abbrev one : (t : ℕ) → sides-lts.Start (sides-calls t) (sides-at t) sides.Post → Sight
-one t s = side-tree (now (s .args .seen)) (now (s .args .lines)) (now (s .args .faces)) (s .args .unentered) (s .args .f)
+one t s = side-tree (now (s .args .seen)) (now (s .args .lines)) (now (s .args .faces)) (s .args .reach) (s .args .unentered) (s .args .f)
 
 there : (t : ℕ) (s : sides-lts.Start (sides-calls t) (sides-at t) sides.Post) → 4 * s .args .f + 3 < length (now (s .args .lines))
 there t s = s .pre .1 .1 .0
@@ -66,47 +66,47 @@ sides-cross-requires : (t : ℕ) → sides-lts.Need-cross-requires (sides-calls 
 sides-cross-requires t c κs =
     let s = c .before .before .before .before .before .before in
     let h = there t s in
-    (s .pre .1 .0 .0, ((h, s .pre .1 .0 .1 .exists _ h, s .pre .1 .0 .0 .end-exists _ h), room-for-a-side _ _ _ _ _ _ _ (s .args .more) (s .pre .1 .1 .1)))
+    (s .pre .1 .0, ((h, s .pre .1 .0 .1 .exists _ h, s .pre .1 .0 .0 .end-exists _ h), room-for-a-side _ _ _ _ _ _ _ _ (s .args .more) (s .pre .1 .1 .1)))
 
 sides-same-length : (t : ℕ) → sides-lts.Need-same-length (sides-calls t) (sides-at t) sides.Post
-sides-same-length t c = c .before .before .before .cross .kept .1 .1 .0
+sides-same-length t c = c .before .before .before .cross .kept .1 .1 .1 .1 .0
 
 sides-returns : (t : ℕ) → sides-lts.Need-returns (sides-calls t) (sides-at t) sides.Post
 sides-returns t c =
     let s = c .before .before .before .before .before .before .before .before .before .before in
-    subst (Written _ _ _ _ _) (sym (the-last-side (now (s .args .seen)) (now (s .args .lines)) (now (s .args .faces)) (s .args .unentered) (s .args .f) (c .if1 .taken))) (c .before .before .before .cross .ensures)
+    subst (Written _ _ _ _ _) (sym (the-last-side (now (s .args .seen)) (now (s .args .lines)) (now (s .args .faces)) (s .args .reach) (s .args .unentered) (s .args .f) (c .if1 .taken))) (c .before .before .before .cross .ensures)
 
 -- what is followed after the first side
 abbrev rest : (t : ℕ) → sides-lts.Start (sides-calls t) (sides-at t) sides.Post → Sight
-rest t s = cell-tree (now (s .args .seen)) (now (s .args .lines)) (now (s .args .faces)) (s .args .unentered) (s .args .more - 1) (getD (now (s .args .lines)) (4 * s .args .f + 3) 0)
+rest t s = cell-tree (now (s .args .seen)) (now (s .args .lines)) (now (s .args .faces)) (s .args .reach) (s .args .unentered) (s .args .more - 1) (getD (now (s .args .lines)) (4 * s .args .f + 3) 0)
 
 is-both : (t : ℕ) (c : sides-lts.Else1 (sides-calls t) (sides-at t) sides.Post) → let s = c .before .before .before .before .before .before .before .before .before .before in all t s ≡ both (one t s) (rest t s)
-is-both t c = let s = c .before .before .before .before .before .before .before .before .before .before in one-side-and-more (now (s .args .seen)) (now (s .args .lines)) (now (s .args .faces)) (s .args .unentered) (s .args .f) (s .args .more) (c .if1 .left)
+is-both t c = let s = c .before .before .before .before .before .before .before .before .before .before in one-side-and-more (now (s .args .seen)) (now (s .args .lines)) (now (s .args .faces)) (s .args .reach) (s .args .unentered) (s .args .f) (s .args .more) (c .if1 .left)
 
 -- the first side's line is followed to its rows
 rest-remains : (t : ℕ) (c : sides-lts.Else1 (sides-calls t) (sides-at t) sides.Post) →
     let s = c .before .before .before .before .before .before .before .before .before .before in
     let x = c .before .before .before .cross in
-    Remains (now (s .args .table)) (s .args .at) (all t s) (x .last .1 .1 .0) (s .args .at + 3 * x .result .rows) (x .result .rows) (x .result .crossings) (rest t s)
+    Remains (now (s .args .table)) (s .args .at) (all t s) (x .last .1 .1 .1 .1 .0) (s .args .at + 4 * x .result .rows) (x .result .rows) (x .result .crossings) (rest t s)
 rest-remains t c =
     let s = c .before .before .before .before .before .before .before .before .before .before in
     let x = c .before .before .before .cross in
-    second-remains _ _ _ _ _ _ _ (all-remains _ _ _ (s .args .at) refl (s .pre .1 .1 .1 .0)) (is-both t c) (x .ensures) (x .kept .1 .1 .0) (omega arith) (omega arith) refl
+    second-remains _ _ _ _ _ _ _ (all-remains _ _ _ (s .args .at) refl (s .pre .1 .1 .1 .0)) (is-both t c) (x .ensures) (x .kept .1 .1 .1 .1 .0) (omega arith) (omega arith) refl
 
 rest-fits : (t : ℕ) (c : sides-lts.Else1 (sides-calls t) (sides-at t) sides.Post) →
     let s = c .before .before .before .before .before .before .before .before .before .before in
     let x = c .before .before .before .cross in
-    Room (s .args .at + 3 * x .result .rows) (length (x .last .1 .1 .0)) (rest t s) × (x .result .crossings + crossings (rest t s) < 2 ^ 63)
+    Room (s .args .at + 4 * x .result .rows) (length (x .last .1 .1 .1 .1 .0)) (rest t s) × (x .result .crossings + crossings (rest t s) < 2 ^ 63)
 rest-fits t c = room-remains _ _ _ _ _ _ _ (rest-remains t c) (c .before .before .before .before .before .before .before .before .before .before .pre .1 .1 .1)
 
 some-follow : (t : ℕ) (c : sides-lts.Else1 (sides-calls t) (sides-at t) sides.Post) → 1 ≤ c .before .before .before .before .before .before .before .before .before .before .args .more
 some-follow t c = let none = c .if1 .left in omega arith
 
 sides-mul-after : (t : ℕ) → sides-lts.Need-mul-after (sides-calls t) (sides-at t) sides.Post
-sides-mul-after t c = omega (arith, rest-fits t (c .before) .0 .1 .0, c .before .before .before .before .cross .kept .1 .1 .0)
+sides-mul-after t c = omega (arith, rest-fits t (c .before) .0 .1 .0, c .before .before .before .before .cross .kept .1 .1 .1 .1 .0)
 
 sides-add-after : (t : ℕ) → sides-lts.Need-add-after (sides-calls t) (sides-at t) sides.Post
-sides-add-after t c = omega (arith, rest-fits t (c .before) .0 .1 .0, c .before .before .before .before .cross .kept .1 .1 .0)
+sides-add-after t c = omega (arith, rest-fits t (c .before) .0 .1 .0, c .before .before .before .before .cross .kept .1 .1 .1 .1 .0)
 
 sides-mul-next : (t : ℕ) → sides-lts.Need-mul-next (sides-calls t) (sides-at t) sides.Post
 sides-mul-next t c = omega (arith, there t (c .before .before .before .before .before .before .before .before .before .before .before))
@@ -132,15 +132,15 @@ sides-sides-requires t c κs =
     let e = c .before .before .before in
     (omega (arith, s .pre .0, some-follow t e), (s .pre .1 .0, (s .pre .1 .0 .0 .next-exists _ (there t s), rest-fits t e .0)))
 
-sides-add-t15 : (t : ℕ) → sides-lts.Need-add-t15 (sides-calls t) (sides-at t) sides.Post
-sides-add-t15 t c =
-    omega (arith, c .before .before .before .before .before .before .before .before .before .before .before .before .before .before .before .before .before .before .good .1 .1 .1 .0 .0, c .before .before .before .before .before .before .before .before .before .before .before .cross .kept .1 .1 .0, rest-fits t (c .before .before .before .before .before .before .before .before) .0 .1 .0, c .before .before .before .before .sides .ensures .0)
-
 sides-add-t16 : (t : ℕ) → sides-lts.Need-add-t16 (sides-calls t) (sides-at t) sides.Post
-sides-add-t16 t c = omega (arith, rest-fits t (c .before .before .before .before .before .before .before .before .before .before) .1, c .before .before .before .before .before .before .sides .ensures .1 .0)
+sides-add-t16 t c =
+    omega (arith, c .before .before .before .before .before .before .before .before .before .before .before .before .before .before .before .before .before .before .good .1 .1 .1 .1 .0 .0, c .before .before .before .before .before .before .before .before .before .before .before .cross .kept .1 .1 .1 .1 .0, rest-fits t (c .before .before .before .before .before .before .before .before) .0 .1 .0, c .before .before .before .before .sides .ensures .0)
+
+sides-add-t17 : (t : ℕ) → sides-lts.Need-add-t17 (sides-calls t) (sides-at t) sides.Post
+sides-add-t17 t c = omega (arith, rest-fits t (c .before .before .before .before .before .before .before .before .before .before) .1, c .before .before .before .before .before .before .sides .ensures .1 .0)
 
 sides-same-length-2 : (t : ℕ) → sides-lts.Need-same-length-2 (sides-calls t) (sides-at t) sides.Post
-sides-same-length-2 t c = c .before .before .before .before .before .before .sides .kept .1 .1 .1 .0 ∙ c .before .before .before .before .before .before .before .before .before .before .before .before .before .cross .kept .1 .1 .0
+sides-same-length-2 t c = c .before .before .before .before .before .before .sides .kept .1 .1 .1 .1 .0 ∙ c .before .before .before .before .before .before .before .before .before .before .before .before .before .cross .kept .1 .1 .1 .1 .0
 
 sides-returns-2 : (t : ℕ) → sides-lts.Need-returns-2 (sides-calls t) (sides-at t) sides.Post
 sides-returns-2 t c = none-remains _ _ _ _ _ _ _ (rest-remains t (c .before .before .before .before .before .before .before .before .before .before)) (c .before .before .before .before .before .before .sides .ensures) refl refl
@@ -169,7 +169,7 @@ pub +sides-spec : {M : Type 1} → statement M
     (sides-cast-next t)
     (sides-sub-sides t)
     (sides-sides-requires t)
-    (sides-add-t15 t)
     (sides-add-t16 t)
+    (sides-add-t17 t)
     (sides-same-length-2 t)
     (sides-returns-2 t)

@@ -34,8 +34,8 @@ list-many-requires c κs = sym (c .before .before .before .before .before .measu
 returns-2 : tie.Need-returns-2
 returns-2 c =
     let a = c .before .before .before .before .before .before .before .args in
-    listing-refused (a .kind) (now (a .corners)) (now (a .cells)) (now (a .doors)) (a .setting) (a .stand) (now (a .table))
-    (sym (plan-refused (a .kind) (now (a .corners)) (now (a .cells)) (now (a .doors)) (a .setting) (a .stand)
+    listing-refused (a .kind) (now (a .corners)) (now (a .cells)) (now (a .doors)) (a .query) (now (a .table))
+    (sym (plan-refused (a .kind) (now (a .corners)) (now (a .cells)) (now (a .doors)) (a .query)
     (sym (refused-likewise (a .kind) (now (a .corners)) (now (a .cells)) (now (a .doors)) (c .before .before .before .measure .ensures) (c .before .r .given .1)))))
 
 same-length-2 : tie.Need-same-length-2

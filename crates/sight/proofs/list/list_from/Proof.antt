@@ -20,10 +20,10 @@ list-over-requires c κs =
     let stands = found-place-holds-the-stand _ (sound .numbered) _ _ _ (s .pre .1 .0 .1) in
     let lined = c .before .before .before .before .before .before .before .before .lines-of .ensures in
     let seen = c .before .before .before .before .see .ensures in (
-      (lined-is-lines (s .args .setting) sound near lined seen, starts-stand (s .args .setting) sound near lined seen, sound .numbered),
+      (lined-is-lines (s .args .setting) (s .args .reach) sound near lined seen, starts-stand (s .args .setting) (s .args .reach) sound near lined seen, s .pre .1 .1 .0 .1, sound .numbered),
       (
-        (stands-in-the-tables sound (s .args .setting) _ near lined seen _ stands, lined .whole),
-        (tree-is-whole sound (s .args .setting) _ near lined seen _ stands, (tree-has-room sound (s .args .setting) _ near lined seen _ stands _ (s .pre .1 .1 .0), few-crossings sound (s .args .setting) _ near lined seen _ stands)),
+        (stands-in-the-tables sound (s .args .setting) (s .args .reach) _ near lined seen _ stands, lined .whole),
+        (tree-is-whole sound (s .args .setting) (s .args .reach) _ near lined seen _ stands, (tree-has-room sound (s .args .setting) (s .args .reach) _ near lined seen _ stands _ (s .pre .1 .1 .0 .0), few-crossings sound (s .args .setting) (s .args .reach) _ near lined seen _ stands)),
       ),
     )
 
@@ -40,7 +40,7 @@ returns : tie.Need-returns
 returns c =
     let s = c .before .before .before .before .before .before .before .before .before .before .before .before .before .before .before .before .before .before .before in
     let sound = s .pre .0 .0 in
-    listing-written sound (s .args .setting) _ (s .pre .1 .0 .0) (c .before .before .before .before .before .before .before .before .before .before .before .lines-of .ensures) (c .before .before .before .before .before .before .before .see .ensures) _ (found-place-holds-the-stand _ (sound .numbered) _ _ _ (s .pre .1 .0 .1)) _ (c .before .before .list-over .ensures)
+    listing-written sound (s .args .setting) (s .args .reach) _ (s .pre .1 .0 .0) (c .before .before .before .before .before .before .before .before .before .before .before .lines-of .ensures) (c .before .before .before .before .before .before .before .see .ensures) _ (found-place-holds-the-stand _ (sound .numbered) _ _ _ (s .pre .1 .0 .1)) _ (c .before .before .list-over .ensures)
 
 pub list-from-spec : {M : Type 1} → statement M
 list-from-spec =

@@ -3,7 +3,7 @@ use mathlib.Core.Path.{sym, _∙_}
 use denote.Ref.{now}
 use borrow.Author.Needs.{needs}
 use Rattle.checking.proofs.Rooms.{drawn-cells, noted-backs, room-for-lines}
-use Rattle.sight.proofs.Views.{listing-refused, room-refused, listing-sound, listing-stands, listing-done}
+use Rattle.sight.proofs.Views.{listing-refused, room-refused, listing-sound, listing-stands, listing-in-range, listing-done}
 use Rattle.sight.proofs.list.list_in.Statement.{statement}
 use Rattle.sight.proofs.list.list_in.Tie as tie
 
@@ -31,20 +31,23 @@ same-length-3 c = search needs
 returns : tie.Need-returns
 returns c =
     let a = c .before .before .before .before .before .before .before .before .before .before .before .before .before .before .before .before .before .before .before .before .before .args in
-    room-refused (a .kind) (now (a .corners)) (now (a .cells)) (now (a .doors)) (a .setting) (a .stand) (now (a .table)) (sym (c .before .before .before .before .before .before .before .before .before .before .view-in .ensures .0) ∙ c .before .before .x .given .1) (c .if1 .taken)
+    room-refused (a .kind) (now (a .corners)) (now (a .cells)) (now (a .doors)) (a .query) (now (a .table)) (sym (c .before .before .before .before .before .before .before .before .before .before .view-in .ensures .0) ∙ c .before .before .x .given .1) (c .if1 .taken)
+
+range-requires : tie.Need-range-requires
+range-requires c κs = tt
 
 list-from-requires : tie.Need-list-from-requires
 list-from-requires c κs =
-    let a = c .before .before .before .before .before .before .before .before .before .before .before .before .before .before .before .before .before .before .before .before .before .before .before .before .before .before .before .args in
-    let p = c .before .before .before .before .before .before .before .before .before .before .before .before .before .before .before .before .before .before .before .before .before .before .before .before .before .before .before .pre in
-    let v = c .before .before .before .before .before .before .before .before .before .before .before .before .before .before .before .before .view-in .ensures in
+    let a = c .before .before .before .before .before .before .before .before .before .before .before .before .before .before .before .before .before .before .before .before .before .before .before .before .before .before .before .before .args in
+    let p = c .before .before .before .before .before .before .before .before .before .before .before .before .before .before .before .before .before .before .before .before .before .before .before .before .before .before .before .before .pre in
+    let v = c .before .before .before .before .before .before .before .before .before .before .before .before .before .before .before .before .before .view-in .ensures in
     let drawn = drawn-cells (a .kind) (now (a .cells)) (v .1 .0) (v .1 .1 .0) in
-    let view = sym (v .0) ∙ c .before .before .before .before .before .before .before .before .x .given .1 in
-    let sound = listing-sound (a .kind) (now (a .corners)) (now (a .cells)) (now (a .doors)) (a .setting) (a .stand) view drawn in (
+    let view = sym (v .0) ∙ c .before .before .before .before .before .before .before .before .before .x .given .1 in
+    let sound = listing-sound (a .kind) (now (a .corners)) (now (a .cells)) (now (a .doors)) (a .query) view drawn in (
       (sound, noted-backs (a .kind) (now (a .corners)) (now (a .cells)) (now (a .doors)) _ drawn (v .1 .1 .1) sound),
       (
-        listing-stands (a .kind) (now (a .corners)) (now (a .cells)) (now (a .doors)) (a .setting) (a .stand) view drawn,
-        (c .before .before .before .before .before .before .if1 .left, (room-for-lines (a .kind) (now (a .cells)) drawn (p .1 .1 .1 .1 .0), p .1 .1 .1 .1 .1)),
+        listing-stands (a .kind) (now (a .corners)) (now (a .cells)) (now (a .doors)) (a .query) view drawn,
+        ((c .before .before .before .before .before .before .before .if1 .left, listing-in-range (a .kind) (now (a .corners)) (now (a .cells)) (now (a .doors)) (a .query) view (c .before .before .before .before .before .before .range .ensures)), (room-for-lines (a .kind) (now (a .cells)) drawn (p .1 .1 .1 .1 .0), p .1 .1 .1 .1 .1)),
       ),
     )
 
@@ -60,7 +63,7 @@ same-length-6 c = search needs
 returns-2 : tie.Need-returns-2
 returns-2 c =
     let a = c .before .before .before .before .before .before .before .before .before .before .before .before .before .before .before .before .before .before .before .before .args in
-    listing-refused (a .kind) (now (a .corners)) (now (a .cells)) (now (a .doors)) (a .setting) (a .stand) (now (a .table)) (sym (c .before .before .before .before .before .before .before .before .before .view-in .ensures .0) ∙ c .before .r .given .1)
+    listing-refused (a .kind) (now (a .corners)) (now (a .cells)) (now (a .doors)) (a .query) (now (a .table)) (sym (c .before .before .before .before .before .before .before .before .before .view-in .ensures .0) ∙ c .before .r .given .1)
 
 same-length-7 : tie.Need-same-length-7
 same-length-7 c = search needs
@@ -82,10 +85,10 @@ same-length-12 c = search needs
 
 returns-3 : tie.Need-returns-3
 returns-3 c =
-    let a = c .before .before .before .before .before .before .before .before .before .before .before .before .before .before .before .before .before .before .before .before .before .before .before .before .before .before .before .before .before .before .before .before .before .args in
-    let v = c .before .before .before .before .before .before .before .before .before .before .before .before .before .before .before .before .before .before .before .before .before .before .view-in .ensures in
-    listing-done (a .kind) (now (a .corners)) (now (a .cells)) (now (a .doors)) (a .setting) (a .stand) (now (a .table)) (sym (v .0) ∙ c .before .before .before .before .before .before .before .before .before .before .before .before .before .before .x .given .1)
-    (drawn-cells (a .kind) (now (a .cells)) (v .1 .0) (v .1 .1 .0)) (c .before .before .before .before .before .before .before .before .before .before .before .before .if1 .left) (c .before .before .before .before .before .list-from .ensures)
+    let a = c .before .before .before .before .before .before .before .before .before .before .before .before .before .before .before .before .before .before .before .before .before .before .before .before .before .before .before .before .before .before .before .before .before .before .args in
+    let v = c .before .before .before .before .before .before .before .before .before .before .before .before .before .before .before .before .before .before .before .before .before .before .before .view-in .ensures in
+    listing-done (a .kind) (now (a .corners)) (now (a .cells)) (now (a .doors)) (a .query) (now (a .table)) (sym (v .0) ∙ c .before .before .before .before .before .before .before .before .before .before .before .before .before .before .before .x .given .1)
+    (drawn-cells (a .kind) (now (a .cells)) (v .1 .0) (v .1 .1 .0)) (c .before .before .before .before .before .before .before .before .before .before .before .before .range .ensures) (c .before .before .before .before .before .before .before .before .before .before .before .before .before .if1 .left) (c .before .before .before .before .before .list-from .ensures)
 
 pub list-in-spec : {M : Type 1} → statement M
 list-in-spec =
@@ -99,6 +102,7 @@ list-in-spec =
     same-length-2
     same-length-3
     returns
+    range-requires
     list-from-requires
     same-length-4
     same-length-5

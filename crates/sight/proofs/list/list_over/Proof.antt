@@ -16,10 +16,10 @@ enum-known-p-2 : tie.Need-enum-known-p-2
 enum-known-p-2 c = search needs
 
 mul-f : tie.Need-mul-f
-mul-f c = let h = rw (c .before .p2 .given .1) at (c .before .before .before .before .before .before .before .pre .1 .0 .0) in omega (arith, bounds (c .before .before .before .before .before .before .before .pre .0 .2) (h .0) refl .begin-stands)
+mul-f c = let h = rw (c .before .p2 .given .1) at (c .before .before .before .before .before .before .before .pre .1 .0 .0) in omega (arith, bounds (c .before .before .before .before .before .before .before .pre .0 .3) (h .0) refl .begin-stands)
 
 shared-slice-read-f : tie.Need-shared-slice-read-f
-shared-slice-read-f c = let h = rw (c .before .before .p2 .given .1) at (c .before .before .before .before .before .before .before .before .pre .1 .0 .0) in omega (arith, bounds (c .before .before .before .before .before .before .before .before .pre .0 .2) (h .0) refl .begin-stands)
+shared-slice-read-f c = let h = rw (c .before .before .p2 .given .1) at (c .before .before .before .before .before .before .before .before .pre .1 .0 .0) in omega (arith, bounds (c .before .before .before .before .before .before .before .before .pre .0 .3) (h .0) refl .begin-stands)
 
 cast-f : tie.Need-cast-f
 cast-f c = omega (arith, c .shared-slice-known4 .given (c .before .before .p2 .given .0 .0))
@@ -28,12 +28,12 @@ add-f : tie.Need-add-f
 add-f c = let h = rw (c .before .before .p2 .given .1) at (c .before .before .before .before .before .before .before .before .pre .1 .0 .0) in omega (arith, h .1, c .before .before .before .before .before .before .before .before .pre .0 .0 .few-faces)
 
 sub-list-within : tie.Need-sub-list-within
-sub-list-within c = omega (arith, c .before .before .before .before .before .before .before .before .before .pre .0 .2 .firsts-stand)
+sub-list-within c = omega (arith, c .before .before .before .before .before .before .before .before .before .pre .0 .3 .firsts-stand)
 
 list-within-requires : tie.Need-list-within-requires
 list-within-requires c κs =
     let h = rw (c .before .before .before .p2 .given .1) at (c .before .before .before .before .before .before .before .before .before .pre .1) in
-    ((c .before .before .before .before .before .before .before .before .before .pre .0 .0, c .before .before .before .before .before .before .before .before .before .pre .0 .1), ((h .0 .0 .1, h .0 .0 .2, h .0 .0 .3), h .1))
+    ((c .before .before .before .before .before .before .before .before .before .pre .0 .0, c .before .before .before .before .before .before .before .before .before .pre .0 .1, c .before .before .before .before .before .before .before .before .before .pre .0 .2), ((h .0 .0 .1, h .0 .0 .2, h .0 .0 .3), h .1))
 
 same-length : tie.Need-same-length
 same-length c = search needs

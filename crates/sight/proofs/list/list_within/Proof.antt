@@ -35,7 +35,7 @@ mul-after : tie.Need-mul-after
 mul-after c =
     let p = c .before .before .before .before .before .before .before .before .before .pre in
     let x = c .before .before .before .others in
-    omega (arith, second-part-fits _ _ (p .1 .1 .0, (omega (arith, p .1 .1 .1 .0), p .1 .1 .1 .1)) (x .ensures) (x .kept .1 .1 .1 .0) .0 .1 .0, x .kept .1 .1 .1 .0)
+    omega (arith, second-part-fits _ _ (p .1 .1 .0, (omega (arith, p .1 .1 .1 .0), p .1 .1 .1 .1)) (x .ensures) (x .kept .1 .1 .1 .1 .0) .0 .1 .0, x .kept .1 .1 .1 .1 .0, c .before .before .before .before .before .before .before .before .before .good .1 .1 .1 .1 .0 .0)
 
 sub-others-2 : tie.Need-sub-others-2
 sub-others-2 c = c .before .before .before .before .before .before .before .before .before .before .pre .1 .0 .2
@@ -44,19 +44,19 @@ others-requires-2 : tie.Need-others-requires-2
 others-requires-2 c κs =
     let p = c .before .before .before .before .before .before .before .before .before .before .pre in
     let x = c .before .before .before .before .others in
-    (p .0, (p .0 .0 .across-exists _ (p .1 .0 .0) (p .1 .0 .1), second-part-fits _ _ (p .1 .1 .0, (omega (arith, p .1 .1 .1 .0), p .1 .1 .1 .1)) (x .ensures) (x .kept .1 .1 .1 .0) .0))
-
-add-t11 : tie.Need-add-t11
-add-t11 c =
-    let p = c .before .before .before .before .before .before .before .before .before .before .before .before .before .before .before .pre in
-    let x = c .before .before .before .before .before .before .before .before .before .others in
-    omega (arith, c .before .before .before .before .before .before .before .before .before .before .before .before .before .before .before .good .1 .1 .1 .0 .0, x .kept .1 .1 .1 .0, second-part-fits _ _ (p .1 .1 .0, (omega (arith, p .1 .1 .1 .0), p .1 .1 .1 .1)) (x .ensures) (x .kept .1 .1 .1 .0) .0 .1 .0, c .before .before .before .before .others2 .ensures .0)
+    (p .0, (p .0 .0 .across-exists _ (p .1 .0 .0) (p .1 .0 .1), second-part-fits _ _ (p .1 .1 .0, (omega (arith, p .1 .1 .1 .0), p .1 .1 .1 .1)) (x .ensures) (x .kept .1 .1 .1 .1 .0) .0))
 
 add-t12 : tie.Need-add-t12
 add-t12 c =
+    let p = c .before .before .before .before .before .before .before .before .before .before .before .before .before .before .before .pre in
+    let x = c .before .before .before .before .before .before .before .before .before .others in
+    omega (arith, c .before .before .before .before .before .before .before .before .before .before .before .before .before .before .before .good .1 .1 .1 .1 .0 .0, x .kept .1 .1 .1 .1 .0, second-part-fits _ _ (p .1 .1 .0, (omega (arith, p .1 .1 .1 .0), p .1 .1 .1 .1)) (x .ensures) (x .kept .1 .1 .1 .1 .0) .0 .1 .0, c .before .before .before .before .others2 .ensures .0)
+
+add-t13 : tie.Need-add-t13
+add-t13 c =
     let p = c .before .before .before .before .before .before .before .before .before .before .before .before .before .before .before .before .before .pre in
     let x = c .before .before .before .before .before .before .before .before .before .before .before .others in
-    omega (arith, second-part-fits _ _ (p .1 .1 .0, (omega (arith, p .1 .1 .1 .0), p .1 .1 .1 .1)) (x .ensures) (x .kept .1 .1 .1 .0) .1, c .before .before .before .before .before .before .others2 .ensures .1 .0)
+    omega (arith, second-part-fits _ _ (p .1 .1 .0, (omega (arith, p .1 .1 .1 .0), p .1 .1 .1 .1)) (x .ensures) (x .kept .1 .1 .1 .1 .0) .1, c .before .before .before .before .before .before .others2 .ensures .1 .0)
 
 same-length : tie.Need-same-length
 same-length c = search needs
@@ -65,7 +65,7 @@ returns : tie.Need-returns
 returns c =
     let p = c .before .before .before .before .before .before .before .before .before .before .before .before .before .before .before .before .before .pre in
     let x = c .before .before .before .before .before .before .before .before .before .before .before .others in
-    none-remains _ _ _ _ _ _ _ (second-part-remains _ _ (p .1 .1 .0, (omega (arith, p .1 .1 .1 .0), p .1 .1 .1 .1)) (x .ensures) (x .kept .1 .1 .1 .0)) (c .before .before .before .before .before .before .others2 .ensures) refl refl
+    none-remains _ _ _ _ _ _ _ (second-part-remains _ _ (p .1 .1 .0, (omega (arith, p .1 .1 .1 .0), p .1 .1 .1 .1)) (x .ensures) (x .kept .1 .1 .1 .1 .0)) (c .before .before .before .before .before .before .others2 .ensures) refl refl
 
 pub list-within-spec : {M : Type 1} → statement M
 list-within-spec =
@@ -81,7 +81,7 @@ list-within-spec =
     mul-after
     sub-others-2
     others-requires-2
-    add-t11
     add-t12
+    add-t13
     same-length
     returns)

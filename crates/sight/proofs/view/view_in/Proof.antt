@@ -39,7 +39,7 @@ returns : tie.Need-returns
 returns c =
     let a = c .before .before .before .before .before .before .before .before .before .before .before .before .before .before .before .before .before .before .before .before .args in
     let e = c .before .before .before .before .before .before .before .before .before .before .before .check-into .ensures in (
-      setting-refused (a .kind) (now (a .corners)) (now (a .cells)) (now (a .doors)) (a .setting) (a .stand) (sym (e .0) ∙ c .before .before .before .plan .given .1) (c .before .is-wrong .ensures) (c .if1 .taken),
+      setting-refused (a .kind) (now (a .corners)) (now (a .cells)) (now (a .doors)) (a .query) (sym (e .0) ∙ c .before .before .before .plan .given .1) (c .before .is-wrong .ensures) (c .if1 .taken),
       e .1,
     )
 
@@ -62,7 +62,7 @@ returns-2 : tie.Need-returns-2
 returns-2 c =
     let a = c .before .before .before .before .before .before .before .before .before .before .before .before .before .before .before .before .before .before .args in
     let e = c .before .before .before .before .before .before .before .before .before .check-into .ensures in
-    (plan-refused (a .kind) (now (a .corners)) (now (a .cells)) (now (a .doors)) (a .setting) (a .stand) (sym (e .0) ∙ c .before .r .given .1), e .1)
+    (plan-refused (a .kind) (now (a .corners)) (now (a .cells)) (now (a .doors)) (a .query) (sym (e .0) ∙ c .before .r .given .1), e .1)
 
 same-length-7 : tie.Need-same-length-7
 same-length-7 c = search needs
@@ -78,8 +78,8 @@ returns-3 c =
     let a = c .before .before .before .before .before .before .before .before .before .before .before .before .before .before .before .before .before .before .before .before .before .before .before .before .args in
     let e = c .before .before .before .before .before .before .before .before .before .before .before .before .before .before .before .check-into .ensures in
     let drawn = drawn-cells (a .kind) (now (a .cells)) (e .1 .0) (e .1 .1 .0) in (
-      setting-accepted (a .kind) (now (a .corners)) (now (a .cells)) (now (a .doors)) (a .setting) (a .stand) (sym (e .0) ∙ c .before .before .before .before .before .before .before .plan .given .1) (c .before .before .before .before .before .is-wrong .ensures) (c .before .before .before .before .if1 .left)
-          (c .view-of-stand .ensures ∙ ap (λ (T : Cells). view-of-spot (now (a .corners)) T (now (a .doors)) (a .setting) (stood (now (a .corners)) (a .stand))) drawn),
+      setting-accepted (a .kind) (now (a .corners)) (now (a .cells)) (now (a .doors)) (a .query) (sym (e .0) ∙ c .before .before .before .before .before .before .before .plan .given .1) (c .before .before .before .before .before .is-wrong .ensures) (c .before .before .before .before .if1 .left)
+          (c .view-of-stand .ensures ∙ ap (λ (T : Cells). view-of-spot (now (a .corners)) T (now (a .doors)) (a .query .setting) (a .query .reach) (stood (now (a .corners)) (a .query .stand))) drawn),
       e .1,
     )
 

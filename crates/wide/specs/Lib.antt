@@ -1,0 +1,2 @@
+-- the number that two words are
+pub mod Wide
