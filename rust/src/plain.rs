@@ -1,8 +1,8 @@
 //! The check, the finding, the listings and the door change once more, by the
 //! steps that the proved library takes, as one writes them in Rust without a
 //! proof in mind: 64 bits wide, and a pair of functions that call each other. Where a
-//! reach is stated, the lines out of it are told before any is followed: that is
-//! faster than to ask at each crossing. What they cost is what the benchmarks hold the
+//! reach is stated, the lines out of it are told before any is followed, which is
+//! faster the more crossings there are. What they cost is what the benchmarks hold the
 //! proved library to.
 
 use crate::calls::{
@@ -53,8 +53,8 @@ pub enum Footing {
 struct View {
     q: Point,
     footing: Footing,
-    /// The square of the reach; 0 where that is unlimited.
-    square: i64,
+    /// In millimetres; 0 where it is unlimited.
+    reach: i64,
 }
 
 /// Row count and crossings.
@@ -175,11 +175,11 @@ pub fn change(
     Ok(plan.list_from(&lines, view, table))
 }
 
-/// The square of a reach; 0 where it is unlimited.
-fn square(reach: Reach) -> Result<i64, Refusal> {
+/// A reach in millimetres; 0 where it is unlimited.
+fn millimetres(reach: Reach) -> Result<i64, Refusal> {
     match reach {
         Reach::NotStated => Ok(0),
-        Reach::Stated(number) if REACHES.contains(&number) => Ok((number * number) as i64),
+        Reach::Stated(number) if REACHES.contains(&number) => Ok(number as i64),
         Reach::Stated(_) => Err(Refusal::Reach),
     }
 }
@@ -456,9 +456,9 @@ impl Plan<'_> {
     /// The stand where it is under a setting that is right.
     fn find(&self, query: Query) -> Result<View, Refusal> {
         let q = self.millimetres(query.stand)?;
-        let square = square(query.reach)?;
+        let reach = millimetres(query.reach)?;
         let footing = self.locate(query.setting, q)?;
-        Ok(View { q, footing, square })
+        Ok(View { q, footing, reach })
     }
 
     /// Whether a table is long enough for a listing.
@@ -471,15 +471,15 @@ impl Plan<'_> {
 
     /// Follows the sides of the stand's cell, or of both cells at its side.
     fn list_from(&self, lines: &[Line], view: View, table: &mut [u16]) -> Counts {
-        let View { q, footing, square } = view;
+        let View { q, footing, reach } = view;
         // A difference of two coordinates fits 32 bits.
         let from_stand = |&[x, y]: &[i32; 2]| [x - q[0] as i32, y - q[1] as i32];
         let corners: Vec<[i32; 2]> = self.corners.iter().map(from_stand).collect();
         let limited;
-        let lines = match square {
+        let lines = match reach {
             0 => lines,
             _ => {
-                limited = self.within_reach(lines, &corners, square);
+                limited = self.within_reach(lines, &corners, reach);
                 &limited
             }
         };
@@ -537,15 +537,15 @@ impl Plan<'_> {
         lines
     }
 
-    /// The lines, of which sight ends at those out of reach too. Most are told by their
-    /// ends, of which each is looked at once.
-    fn within_reach(&self, lines: &[Line], corners: &[[i32; 2]], square: i64) -> Vec<Line> {
-        let is_near = |&corner: &[i32; 2]| dot(point(corner), point(corner)) <= square;
+    /// The lines, of which sight ends at those out of reach too. Most that are in reach
+    /// have an end there; each corner is looked at once for that.
+    fn within_reach(&self, lines: &[Line], corners: &[[i32; 2]], reach: i64) -> Vec<Line> {
+        let is_near = |&at: &[i32; 2]| dot(point(at), point(at)) <= reach * reach;
         let near: Vec<bool> = corners.iter().map(is_near).collect();
         let within = |(&[start, _], &line): (&[u16; 2], &Line)| {
             let [a, b] = [start, line.left_end].map(usize::from);
             let at = |corner: usize| point(corners[corner]);
-            if near[a] || near[b] || !foot_is_far(at(a), at(b), square) {
+            if near[a] || near[b] || is_between_near(at(a), at(b), reach) {
                 return line;
             }
             Line {
@@ -569,17 +569,25 @@ impl Plan<'_> {
     }
 }
 
-/// Whether no point of a line is in reach, neither of whose ends is. Only where its
-/// nearest point is between the ends are squares of 128 bits needed.
-fn foot_is_far(a: Point, b: Point, square: i64) -> bool {
+/// Whether some point of a line is in reach, neither of whose ends is. Most that are
+/// not lie beside the square around the reach; only where the nearest point is between
+/// the ends are squares of 128 bits needed.
+fn is_between_near(a: Point, b: Point, reach: i64) -> bool {
+    let is_beside = |axis: usize| {
+        let (a, b) = (a[axis], b[axis]);
+        a.min(b) > reach || a.max(b) < -reach
+    };
+    if is_beside(0) || is_beside(1) {
+        return false;
+    }
     let both = dot(a, b);
     let (from_a, from_b) = (dot(a, a) - both, dot(b, b) - both);
     if from_a <= 0 || from_b <= 0 {
-        return true;
+        return false;
     }
     let value = i128::from(cross(a, b));
     let length = i128::from(from_a) + i128::from(from_b);
-    value * value > i128::from(square) * length
+    value * value <= i128::from(reach * reach) * length
 }
 
 /// The face of a cell with these ends whose neighbour is another cell.
