@@ -1,7 +1,7 @@
 #!/usr/bin/env bash
 # The paper program against the proved library and the printing program: compare.sh [SEED COUNT].
 # Has rt prove and make what is not there, runs every Rust test, then compares COUNT random cases. Where none are given,
-# the seed is 1, and as many are compared as take about half a minute: a tenth of them where an emulator is needed.
+# the seed is 1 and COUNT 200,000, or a tenth of that where an emulator is needed, which took two minutes.
 # Ends with an exit status other than 0 at the first mismatch, which it prints as small as it could be made.
 set -eu
 cd "$(dirname "$0")/.."
