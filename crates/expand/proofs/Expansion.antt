@@ -17,7 +17,7 @@ use Rattle.plane.specs.Side.{Point}
 use Rattle.plane.specs.Cone.{cross}
 use Rattle.limits.specs.Limits.{wall}
 use Rattle.reach.specs.Reach.{out-of-reach, far}
-use Rattle.reach.proofs.Reaching.{in-reach-is-0, out-of-reach-is-1}
+use Rattle.reach.proofs.Reaching.{out-of-reach-by-its-number}
 use Rattle.exact.proofs.Lent.{sets-append}
 use Rattle.fan.specs.Sight.{Floor, Sight, fan, follow, hand-on, numbers, row-count, crossings, Whole}
 use Rattle.fan.specs.Sight.Place.{between, right-of-r, left-of-l}
@@ -30,18 +30,10 @@ use Rattle.fan.proofs.Trees.{follow-a-wall, follow-too-far, follow-across, fan-
 
 -- ---- where sight ends
 
--- a line is out of reach where its number is 1
-pub told-by-its-number : (R : ℕ) (a b : Point) → eqb (far R a b) 1 ≡ out-of-reach R a b
-told-by-its-number R a b = by-test (out-of-reach R a b) refl
-  where
-    by-test : (t : Bool) → out-of-reach R a b ≡ t → eqb (far R a b) 1 ≡ t
-    by-test true e = ap (λ (k : ℕ). eqb k 1) (out-of-reach-is-1 R a b e)
-    by-test false e = ap (λ (k : ℕ). eqb k 1) (in-reach-is-0 R a b e)
-
 -- what is across a line, its number, and the test of both
 pub ends-as-tested : (across R : ℕ) (a b : Point) {k : ℕ} {t : Bool} → k ≡ far R a b → t ≡ (eqb across wall || eqb k 1) → (eqb across wall || out-of-reach R a b) ≡ t
 ends-as-tested across R a b h e =
-    sym (e ∙ ap (λ (k : ℕ). eqb across wall || eqb k 1) h ∙ ap (λ (b : Bool). eqb across wall || b) (told-by-its-number R a b))
+    sym (e ∙ ap (λ (k : ℕ). eqb across wall || eqb k 1) h ∙ ap (λ (b : Bool). eqb across wall || b) (out-of-reach-by-its-number R a b))
 
 pub no-wall-where-passed : (across : ℕ) (b : Bool) → (eqb across wall || b) ≡ false → across ≡ wall → ⊥
 no-wall-where-passed across b e = eqb-false _ _ (neither-true (eqb across wall) b e .0)

@@ -27,7 +27,7 @@ use Rattle.stand.specs.declared.locate.Found.the-variants as F
 use Rattle.stand.proofs.Located.{Stands, found-place-holds-the-stand}
 use Rattle.fan.specs.Sight.{Row}
 use Rattle.reach.specs.Reach.{range}
-use Rattle.reach.proofs.Reaching.{reaches, does-not-reach, in-reach-is-0, out-of-reach-is-1}
+use Rattle.reach.proofs.Reaching.{reaches, does-not-reach, reached-is-in-reach, not-reached-is-out-of-reach, in-reach-is-0, out-of-reach-is-1}
 use Rattle.fan.specs.Once.{At}
 use Rattle.sight.specs.Listing.{unreached, plan-floor, sight-from, viewed, refuse, no-room, rows-from, listing-rows, listing-numbers, listing-row-count, listing-crossings, listed-from, listed}
 use Rattle.fan.specs.Written.{written, row-at, OneRow}
@@ -46,9 +46,8 @@ use Rattle.runs.specs.Shutting.{runs, door-row}
 use Rattle.doors.specs.Change.{same-list, in-state, no-change, wished, wished-for, underfoot, changed}
 use Rattle.doors.proofs.Changed.{a-door-underfoot-is-refused, a-short-table-is-refused, a-door-that-is-not-there-is-refused, a-door-already-so-is-refused, a-list-that-is-not-true-is-refused, same-view, the-change-is-a-fresh-listing}
 use Rattle.doors.proofs.Changes.{true-is-same, is-the-same, listed-anew, change-refused}
-use Rattle.doors.proofs.Fresh.{numbers-are}
+use Rattle.doors.proofs.Fresh.{numbers-are-routed}
 use Rattle.doors.proofs.PlanDemand3.{untouched-rows-stand-in-both, rows-on-the-shut-door-are-the-runs, out-of-reach-nothing-changes, out-of-reach-no-runs}
-use Rattle.runs.proofs.Routes.{routed-numbers-are-the-numbers}
 use Rattle.manopluea.specs.Conditions.{inside-some, within-some, on-some-border, door-underfoot}
 use Rattle.manopluea.specs.Demands.{Demand-1, HoldsDirection, InReachOfStand, Says, Sighted, Demand-2, while-open, once-shut, RunByRun, Demand-3}
 use Rattle.manopluea.specs.Demands.Says.{wall-in-reach, out-of-reach}
@@ -130,19 +129,22 @@ module _ (kind : ℕ) (cs : List ℤ) (ts ds : List ℕ) (a : Query) (table : Li
 -- ---- demand 2
 
 -- a row's fourth number: its face ends the sight there, and the number is the floor's
-module _ (cs : List ℤ) (T : Cells) (ds : List ℕ) (w R : ℕ) (q : Point) (p : Footing) where
-  number-is-right : (f far : ℕ) → plan-floor cs T ds w R q .ends f ≡ true → far ≡ plan-floor cs T ds w R q .far f → Says cs T ds w R q p f far
-  number-is-right f far ends-there is-the-floors = subst (Says cs T ds w R q p f) (sym is-the-floors) (by-reach (unreached cs T R q f) refl)
+module _ (cs : List ℤ) (T : Cells) (ds : List ℕ) (w R : ℕ) (q : Point) where
+  number-is-right : (f far : ℕ) → plan-floor cs T ds w R q .ends f ≡ true → far ≡ plan-floor cs T ds w R q .far f → Says cs T ds w R q f far
+  number-is-right f far ends-there is-the-floors = subst (Says cs T ds w R q f) (sym is-the-floors) (by-reach (unreached cs T R q f) refl)
     where
       as-a-wall : unreached cs T R q f ≡ false → (ends T ds w f ≡ true) ⊎ (unreached cs T R q f ≡ true) → ends T ds w f ≡ true
       as-a-wall h (inl e) = e
       as-a-wall h (inr e) = absurd (false≢true (sym h ∙ e))
 
-      by-reach : (t : Bool) → unreached cs T R q f ≡ t → Says cs T ds w R q p f (plan-floor cs T ds w R q .far f)
-      by-reach true h = subst (Says cs T ds w R q p f) (sym (out-of-reach-is-1 R _ _ h)) (out-of-reach (does-not-reach R _ _ h))
-      by-reach false h = subst (Says cs T ds w R q p f) (sym (in-reach-is-0 R _ _ h)) (wall-in-reach (as-a-wall h (one-true _ _ ends-there)) (reaches R _ _ h))
+      by-reach : (t : Bool) → unreached cs T R q f ≡ t → Says cs T ds w R q f (plan-floor cs T ds w R q .far f)
+      by-reach true h = subst (Says cs T ds w R q f) (sym (out-of-reach-is-1 R _ _ h)) (out-of-reach (does-not-reach R _ _ h))
+      by-reach false h = subst (Says cs T ds w R q f) (sym (in-reach-is-0 R _ _ h)) (wall-in-reach (as-a-wall h (one-true _ _ ends-there)) (reaches R _ _ h))
 
 module _ (kind : ℕ) (cs : List ℤ) (ts ds : List ℕ) (a : Query) (table : List ℕ) {n k : ℕ} (e : listed kind cs ts ds a table .0 ≡ L.Rows n k) where
+  pub whole : listed kind cs ts ds a table ≡ (L.Rows n k, listed kind cs ts ds a table .1)
+  whole = λ j. (e j, listed kind cs ts ds a table .1)
+
   from-there : Seen kind cs ts ds a table
   from-there = rows-are-seen kind cs ts ds a table e
 
@@ -152,9 +154,6 @@ module _ (kind : ℕ) (cs : List ℤ) (ts ds : List ℕ) (a : Query) (table : Li
 
     abbrev rows : List Row
     rows = listing-rows cs (cells-of kind ts) ds (a .setting) (range (a .reach)) point p
-
-    whole : listed kind cs ts ds a table ≡ (L.Rows n k, listed kind cs ts ds a table .1)
-    whole = λ j. (e j, listed kind cs ts ds a table .1)
 
     count-is : n ≡ length rows
     count-is = row-count-is kind cs ts ds a table view room whole ∙ the-count-is-the-rows cs (cells-of kind ts) ds (a .setting) (range (a .reach)) point p
@@ -181,7 +180,7 @@ module _ (kind : ℕ) (cs : List ℤ) (ts ds : List ℕ) (a : Query) (table : Li
           said = λ i h.
               let at = subst (λ (t : List ℕ). At (row-at t i) rows i) (sym (the-table-holds-the-rows kind cs ts ds a table view room)) (row-stands-there rows (drop (4 * length rows) table) i (subst (λ (m : ℕ). i < m) count-is h)) in
               let seen = Sightings.row-is-seen (says .sound) (a .setting) (range (a .reach)) point p (stands-there kind cs ts ds a table view room) at in
-              number-is-right cs (cells-of kind ts) ds (a .setting) (range (a .reach)) point p _ _ (seen .ends) (seen .reached);
+              number-is-right cs (cells-of kind ts) ds (a .setting) (range (a .reach)) point _ _ (seen .ends) (seen .reached);
         }
 
     kept-beyond : drop (4 * n) (listed kind cs ts ds a table .1) ≡ drop (4 * n) table
@@ -272,7 +271,7 @@ module _ (kind : ℕ) (cs : List ℤ) (ts ds : List ℕ) (a : Query) (given : Li
     stands-anew = stands-there kind cs ts ds (wished-for b a i) table new-view room
 
     routed-are : (v : ℕ) → listing-numbers cs (cells-of kind ts) ds v (range (a .reach)) q₀ p ≡ row-numbers (routed (sight-from cs (cells-of kind ts) ds v (range (a .reach)) q₀ p))
-    routed-are v = numbers-are cs (cells-of kind ts) ds v (range (a .reach)) q₀ p ∙ sym (routed-numbers-are-the-numbers (sight-from cs (cells-of kind ts) ds v (range (a .reach)) q₀ p))
+    routed-are v = numbers-are-routed cs (cells-of kind ts) ds v (range (a .reach)) q₀ p
 
     -- the rows with their routes under a setting, and the door's two faces
     abbrev seen : ℕ → List Routed
@@ -285,7 +284,7 @@ module _ (kind : ℕ) (cs : List ℤ) (ts ds : List ℕ) (a : Query) (given : Li
     g₀ = back (cells-of kind ts) (getD ds i 0)
 
     abbrev Reached : Type 0
-    Reached = InReachOfStand cs (cells-of kind ts) ds (a .setting) (range (a .reach)) q₀ p f₀
+    Reached = InReachOfStand cs (cells-of kind ts) (range (a .reach)) q₀ f₀
 
     -- what demand 3 asks of two lists, with the door as it is wished in the second
     abbrev RowByRow : Bool → List Routed → List Routed → Type 0
@@ -299,25 +298,17 @@ module _ (kind : ℕ) (cs : List ℤ) (ts ds : List ℕ) (a : Query) (given : Li
     shut-and-open v there o = (
       untouched-rows-stand-in-both (holds .sound) R q₀ p i exists v there o,
       (
-        λ near. rows-on-the-shut-door-are-the-runs (holds .sound) R q₀ p i exists v there o (within (unreached cs (cells-of kind ts) R q₀ f₀) refl near),
+        λ near. rows-on-the-shut-door-are-the-runs (holds .sound) R q₀ p i exists v there o (reached-is-in-reach R _ _ near),
         λ away.
-            let beyond-reach = beyond (unreached cs (cells-of kind ts) R q₀ f₀) refl away in (
-              out-of-reach-no-runs (holds .sound) R q₀ p i exists v there o beyond-reach,
-              ap routed (out-of-reach-nothing-changes (holds .sound) R q₀ p i exists v there o beyond-reach),
+            let beyond = not-reached-is-out-of-reach R _ _ away in (
+              out-of-reach-no-runs (holds .sound) R q₀ p i exists v there o beyond,
+              ap routed (out-of-reach-nothing-changes (holds .sound) R q₀ p i exists v there o beyond),
             ),
       ),
     )
       where
         R : ℕ
         R = range (a .reach)
-
-        within : (t : Bool) → unreached cs (cells-of kind ts) R q₀ f₀ ≡ t → Reached → unreached cs (cells-of kind ts) R q₀ f₀ ≡ false
-        within true e near = absurd (does-not-reach R _ _ e near)
-        within false e near = e
-
-        beyond : (t : Bool) → unreached cs (cells-of kind ts) R q₀ f₀ ≡ t → (Reached → ⊥) → unreached cs (cells-of kind ts) R q₀ f₀ ≡ true
-        beyond true e away = e
-        beyond false e away = absurd (away (reaches R _ _ e))
 
     module _ (is-true : given ≡ listing-numbers cs (cells-of kind ts) ds (a .setting) (range (a .reach)) q₀ p) where
       fresh-from : changed kind cs ts ds a given i b table ≡ listed kind cs ts ds (wished-for b a i) table

@@ -33,6 +33,7 @@ use Rattle.stand.specs.declared.locate.Footing.the-variants.{Inside}
 use Rattle.stand.specs.declared.locate.Found.the-variants as F
 use Rattle.cells.proofs.Tables.{numbered}
 use Rattle.stand.proofs.Located.{found-place-holds-the-stand}
+use Rattle.stand.proofs.Unique.{a-stand-is-one-point, a-stand-has-one-place}
 use Rattle.fan.specs.Sight.{Row, follow, numbers, row-count, crossings, fan, sides, lines-around, unentered, lines-seen, seen-from}
 use Rattle.fan.specs.Walk.Among.{this, after as one-after}
 use Rattle.fan.specs.Walk.Begins.{in-the-cell}
@@ -109,19 +110,11 @@ walk-once-shut = record { side = 2; begins = in-the-cell (one-after (one-after t
 
 -- what demand 2 asks at the stand's point and cell
 module _ {kind : ℕ} {cs : List ℤ} {ts ds : List ℕ} {a : Query} {n k : ℕ} {table : List ℕ} (seen : Sighted kind cs ts ds a n k table) {x y : ℤ} {p : Footing} (at : stood cs (a .stand) ≡ At x y) (there : located cs (cells-of kind ts) ds (a .setting) (record { x = x; y = y }) ≡ F.At p) where
-  same-x : seen .x ≡ x
-  same-x = let e = seen .the-stand in let f : At (seen .x) (seen .y) ≡ At x y = sym e ∙ at in cc
-
-  same-y : seen .y ≡ y
-  same-y = let e = seen .the-stand in let f : At (seen .x) (seen .y) ≡ At x y = sym e ∙ at in cc
-
   same-point : _≡_ {A = Vector} (record { x = seen .x; y = seen .y }) (record { x = x; y = y })
-  same-point = ap₂ (λ (u v : ℤ). record { x = u; y = v }) same-x same-y
+  same-point = a-stand-is-one-point cs (a .stand) (seen .the-stand) at
 
   same-place : seen .place ≡ p
-  same-place =
-      let f : F.At (seen .place) ≡ F.At p = sym (seen .its-place) ∙ ap (located cs (cells-of kind ts) ds (a .setting)) same-point ∙ there in
-      cc
+  same-place = a-stand-has-one-place cs (a .stand) (seen .the-stand) at (cells-of kind ts) ds (a .setting) (seen .its-place) there
 
   held-there : (d : Vector) → Direction d → MeetsNoCorner cs (cells-of kind ts) ds (a .setting) (range (a .reach)) (record { x = x; y = y }) p d → HeldOnce cs (cells-of kind ts) ds (a .setting) (range (a .reach)) (record { x = x; y = y }) p n table d
   held-there d = subst (λ (v : Vector). Direction d → MeetsNoCorner cs (cells-of kind ts) ds (a .setting) (range (a .reach)) v p d → HeldOnce cs (cells-of kind ts) ds (a .setting) (range (a .reach)) v p n table d) same-point (subst (λ (f : Footing). Direction d → MeetsNoCorner cs (cells-of kind ts) ds (a .setting) (range (a .reach)) (record { x = seen .x; y = seen .y }) f d → HeldOnce cs (cells-of kind ts) ds (a .setting) (range (a .reach)) (record { x = seen .x; y = seen .y }) f n table d) same-place (seen .held d))

@@ -77,7 +77,7 @@ module _ (n : ℕ) (a b : List ℕ) (same : take (4 * n) a ≡ take (4 * n) b) w
             let once = seen .held d nonzero clear in
             record { row = once .row; one = same-one-row (once .one); met = once .met };
         said = λ i h.
-            subst (λ (r : Row). Says cs (cells-of kind ts) ds (query .setting) (range (query .reach)) (record { x = seen .x; y = seen .y }) (seen .place) (r .face) (r .far)) (same-row i h) (seen .said i h);
+            subst (λ (r : Row). Says cs (cells-of kind ts) ds (query .setting) (range (query .reach)) (record { x = seen .x; y = seen .y }) (r .face) (r .far)) (same-row i h) (seen .said i h);
       }
 
 -- ---- a stand's own reply, by its condition

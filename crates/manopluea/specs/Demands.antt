@@ -69,16 +69,16 @@ module _ (cs : List ℤ) (T : Cells) (ds : List ℕ) (w R : ℕ) (q : Point) (p 
     pub one : OneRow (HoldsDirection d) table n row
     pub met : WalkEndsAt d (row .face)
 
-  -- some point of the whole line of face f is in reach
-  abbrev pub InReachOfStand : ℕ → Type 0
-  InReachOfStand f = Reaches R (seen cs q (start T f)) (seen cs q (start T (next T f)))
+-- some point of the whole line of face f is in reach from q
+abbrev pub InReachOfStand : List ℤ → Cells → ℕ → Point → ℕ → Type 0
+InReachOfStand cs T R q f = Reaches R (seen cs q (start T f)) (seen cs q (start T (next T f)))
 
-  -- what a row's fourth number says of its face
-  pub data Says : ℕ → ℕ → Type 0 where
-    -- 0: it is a wall, or a shut door, in reach
-    wall-in-reach : {f : ℕ} → ends T ds w f ≡ true → InReachOfStand f → Says f 0
-    -- 1: it is out of reach, wall or not
-    out-of-reach : {f : ℕ} → (InReachOfStand f → ⊥) → Says f 1
+-- what a row's fourth number says of its face, seen from q
+pub data Says (cs : List ℤ) (T : Cells) (ds : List ℕ) (w R : ℕ) (q : Point) : ℕ → ℕ → Type 0 where
+  -- 0: it is a wall, or a shut door, in reach
+  wall-in-reach : {f : ℕ} → ends T ds w f ≡ true → InReachOfStand cs T R q f → Says cs T ds w R q f 0
+  -- 1: it is out of reach, wall or not
+  out-of-reach : {f : ℕ} → (InReachOfStand cs T R q f → ⊥) → Says cs T ds w R q f 1
 
 module _ (kind : ℕ) (cs : List ℤ) (ts ds : List ℕ) (a : Query) where
   -- n rows of a table and k crossings, seen from the very point that the stand is, where it is found
@@ -95,7 +95,7 @@ module _ (kind : ℕ) (cs : List ℤ) (ts ds : List ℕ) (a : Query) where
     -- every direction whose ray meets no corner is held by exactly one row, whose wall is the first met walking cell by cell
     pub held : (d : Point) → Direction d → MeetsNoCorner cs (cells-of kind ts) ds (a .setting) (range (a .reach)) (record { x = x; y = y }) place d → HeldOnce cs (cells-of kind ts) ds (a .setting) (range (a .reach)) (record { x = x; y = y }) place n table d
     -- each row's fourth number is right
-    pub said : (i : ℕ) → i < n → Says cs (cells-of kind ts) ds (a .setting) (range (a .reach)) (record { x = x; y = y }) place (row-at table i .face) (row-at table i .far)
+    pub said : (i : ℕ) → i < n → Says cs (cells-of kind ts) ds (a .setting) (range (a .reach)) (record { x = x; y = y }) (row-at table i .face) (row-at table i .far)
 
   -- whenever the answer is n rows, they are so, and beyond them the table is as it was
   pub record Demand-2 (before : List ℕ) (answer : Listed) (after : List ℕ) : Type 0 where
@@ -138,9 +138,9 @@ module _ (kind : ℕ) (cs : List ℤ) (ts ds : List ℕ) (a : Query) (given : Li
     pub old-seen : old ≡ routed (sight-from cs (cells-of kind ts) ds (a .setting) (range (a .reach)) (record { x = x; y = y }) place)
     pub new-seen : new ≡ routed (sight-from cs (cells-of kind ts) ds (wished b (a .setting) i) (range (a .reach)) (record { x = x; y = y }) place)
     -- of a door in reach, each run through the open door is one row on the shut one
-    pub runs-are-rows : InReachOfStand cs (cells-of kind ts) ds (a .setting) (range (a .reach)) (record { x = x; y = y }) place face → those (on-door face other-face) (once-shut b old new) ≡ map (door-row face other-face) (runs face other-face (while-open b old new))
+    pub runs-are-rows : InReachOfStand cs (cells-of kind ts) (range (a .reach)) (record { x = x; y = y }) face → those (on-door face other-face) (once-shut b old new) ≡ map (door-row face other-face) (runs face other-face (while-open b old new))
     -- one out of reach has no run behind it, and its rows are the same shut and open
-    pub kept-out-of-reach : (InReachOfStand cs (cells-of kind ts) ds (a .setting) (range (a .reach)) (record { x = x; y = y }) place face → ⊥) → (runs face other-face (while-open b old new) ≡ []) × (new ≡ old)
+    pub kept-out-of-reach : (InReachOfStand cs (cells-of kind ts) (range (a .reach)) (record { x = x; y = y }) face → ⊥) → (runs face other-face (while-open b old new) ≡ []) × (new ≡ old)
 
   pub record Demand-3 (before : List ℕ) (answer : Listed) (after : List ℕ) : Type 0 where
     -- whenever the answer is rows, answer and table are those of a fresh listing under the new setting

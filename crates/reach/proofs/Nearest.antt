@@ -1,4 +1,5 @@
--- Points of a line in reach: an end, or the foot of the perpendicular; and that none is nearer than the one that decides. A point is n·a + m·u, with u = b − a: n times as far as it is.
+-- Points of a line in reach: an end, or the foot of the perpendicular; and that none is nearer than the one that decides. A point is n·a + m·u, with u = b − a:
+-- n times as far as it is.
 use mathlib.Core.List.{List, [], _∷_}
 use mathlib.Core.Path.{_≡_}
 use Prim.Native.Nat.{ℕ, _*_, _≤_}

@@ -4,7 +4,7 @@ use mathlib.Core.Logic.{_⊎_, inl, inr}
 use mathlib.Core.Path.{_≡_, refl, sym, _∙_, ap, ap₂}
 use Prim.Native.Nat.{ℕ, zero, suc, _+_, _*_, _≤_}
 use native.Mathlib.Omega.{arith}
-use lib.Dec.{leb}
+use lib.Dec.{leb, eqb}
 use lib.IntN.{ℤ, pos, negsuc, natAbs, _+ℤ_, _-ℤ_, _*ℤ_}
 use lib.Signed.{leZ, _<ℤ_, _≤ℤ_}
 use borrow.Author.Tests.{leb-true, not-true, not-false}
@@ -90,6 +90,22 @@ unfolding out-of-reach
 does-not-reach zero a b e w = false≢true e
 does-not-reach (suc r) a b e w = false≢true (sym (not-true _ e) ∙ in-reach-is-found w)
 
+-- and the other way
+pub reached-is-in-reach : (R : ℕ) (a b : Point) → Reaches R a b → out-of-reach R a b ≡ false
+reached-is-in-reach R a b w = by-test (out-of-reach R a b) refl
+  where
+    by-test : (t : Bool) → out-of-reach R a b ≡ t → out-of-reach R a b ≡ false
+    by-test true e = absurd (does-not-reach R a b e w)
+    by-test false e = e
+
+pub not-reached-is-out-of-reach : (R : ℕ) (a b : Point) → (Reaches R a b → ⊥) → out-of-reach R a b ≡ true
+not-reached-is-out-of-reach R a b none = by-test (out-of-reach R a b) refl
+  where
+    by-test : (t : Bool) → out-of-reach R a b ≡ t → out-of-reach R a b ≡ true
+    by-test true e = e
+    by-test false e = absurd (none (reaches R a b e))
+
+-- a row's fourth number
 pub in-reach-is-0 : (R : ℕ) (a b : Point) → out-of-reach R a b ≡ false → far R a b ≡ 0
 unfolding far
 in-reach-is-0 R a b e = rw (e, far)
@@ -97,6 +113,23 @@ in-reach-is-0 R a b e = rw (e, far)
 pub out-of-reach-is-1 : (R : ℕ) (a b : Point) → out-of-reach R a b ≡ true → far R a b ≡ 1
 unfolding far
 out-of-reach-is-1 R a b e = rw (e, far)
+
+-- so the number tells
+pub out-of-reach-by-its-number : (R : ℕ) (a b : Point) → eqb (far R a b) 1 ≡ out-of-reach R a b
+unfolding far
+out-of-reach-by-its-number R a b = by-test (out-of-reach R a b)
+  where
+    by-test : (t : Bool) → eqb (elim t [ true ↦ 1 | false ↦ 0 ]) 1 ≡ t
+    by-test true = refl
+    by-test false = refl
+
+pub in-reach-by-its-number : (R : ℕ) (a b : Point) → eqb (far R a b) 0 ≡ not (out-of-reach R a b)
+unfolding far
+in-reach-by-its-number R a b = by-test (out-of-reach R a b)
+  where
+    by-test : (t : Bool) → eqb (elim t [ true ↦ 1 | false ↦ 0 ]) 0 ≡ not t
+    by-test true = refl
+    by-test false = refl
 
 -- ---- a longer reach
 

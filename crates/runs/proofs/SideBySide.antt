@@ -24,28 +24,27 @@ use Rattle.runs.proofs.Doors.{door-is-one-of-its-faces, another-is-neit
 
 module _ {N f₀ g₀ : ℕ} {F : Floor} {once-shut : ℕ → Bool} (S : Shuts N f₀ g₀ F once-shut) where
   -- while the door is open sight ends at both its faces or passes both
-  pub as-at-its-face : (f : ℕ) → is-door f₀ g₀ f ≡ true → F .ends f ≡ F .ends f₀
+  as-at-its-face : (f : ℕ) → is-door f₀ g₀ f ≡ true → F .ends f ≡ F .ends f₀
   as-at-its-face f e = by-face (door-is-one-of-its-faces f₀ g₀ f e)
     where
       by-face : (f ≡ f₀) ⊎ (f ≡ g₀) → F .ends f ≡ F .ends f₀
       by-face (inl p) = ap (F .ends) p
       by-face (inr p) = ap (F .ends) p ∙ S .alike-from-both
 
-  -- where sight passes the open door, no end is at it
-  pub an-end-is-no-door : F .ends f₀ ≡ false → (f : ℕ) → F .ends f ≡ true → is-door f₀ g₀ f ≡ false
-  an-end-is-no-door passed f e = by-door (is-door f₀ g₀ f) refl
+  -- a face at which sight does otherwise is no face of it
+  no-door-where-unlike : (f : ℕ) → (F .ends f ≡ F .ends f₀ → ⊥) → is-door f₀ g₀ f ≡ false
+  no-door-where-unlike f unlike = by-door (is-door f₀ g₀ f) refl
     where
       by-door : (b : Bool) → is-door f₀ g₀ f ≡ b → is-door f₀ g₀ f ≡ false
-      by-door true d = absurd (true≢false (sym e ∙ as-at-its-face f d ∙ passed))
+      by-door true d = absurd (unlike (as-at-its-face f d))
       by-door false d = d
 
-  -- where it does not, no passage is
+  -- so where sight passes the open door, no end is at it, and where it does not, no passage is
+  pub an-end-is-no-door : F .ends f₀ ≡ false → (f : ℕ) → F .ends f ≡ true → is-door f₀ g₀ f ≡ false
+  an-end-is-no-door passed f e = no-door-where-unlike f (λ same. true≢false (sym e ∙ same ∙ passed))
+
   pub a-passage-is-no-door : F .ends f₀ ≡ true → (f : ℕ) → F .ends f ≡ false → is-door f₀ g₀ f ≡ false
-  a-passage-is-no-door ended f e = by-door (is-door f₀ g₀ f) refl
-    where
-      by-door : (b : Bool) → is-door f₀ g₀ f ≡ b → is-door f₀ g₀ f ≡ false
-      by-door true d = absurd (true≢false (sym ended ∙ sym (as-at-its-face f d) ∙ e))
-      by-door false d = d
+  a-passage-is-no-door ended f e = no-door-where-unlike f (λ same. true≢false (sym ended ∙ sym same ∙ e))
 
   ended-once-shut : (f : ℕ) → is-door f₀ g₀ f ≡ true → once-shut f ≡ true
   ended-once-shut f e = by-face (door-is-one-of-its-faces f₀ g₀ f e)

@@ -10,5 +10,5 @@ mod Doorways
 pub mod Finds
 -- what each answer says of the stand, the cells and their sides; the cell found goes around the stand; a side that holds it
 pub mod Located
--- the promise of finding leaves one reply, as does every promise that is an equation
+-- the promise of finding leaves one reply, as does every promise that is an equation; a stand is one point, found at one place
 pub mod Unique
