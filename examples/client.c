@@ -18,9 +18,10 @@ int main(void)
     uint16_t table[4 * CORNERS]; /* rows never outnumber corners */
     uint64_t reply[MANOPLUEA_REPLY], row;
 
-    /* No doors: a list of no numbers may be null. No reach is stated: the number after `false` means nothing. */
+    /* No doors: a list of no numbers may be null. No reach is stated, and there is no ceiling: the number after `false`
+     * means nothing. */
     manopluea_list_point(corners, 2 * CORNERS, cells, 6 * CELLS, NULL, 0, MANOPLUEA_TRIANGLES, 0, 6.0, 3.0, false, 1,
-                         table, 4 * CORNERS, reply, MANOPLUEA_REPLY);
+                         false, 0, table, 4 * CORNERS, reply, MANOPLUEA_REPLY);
     if (reply[0] != MANOPLUEA_DONE) {
         printf("refused %" PRIu64 " %" PRIu64 "\n", reply[0], reply[1]);
         return 1;

@@ -21,11 +21,12 @@ def main(library):
     lists = *lend(ctypes.c_int32, CORNERS), *lend(ctypes.c_uint16, CELLS), *lend(ctypes.c_uint16, DOORS)
     kind, setting, x, y = ctypes.c_uint16(TRIANGLES), ctypes.c_uint64(0), ctypes.c_double(6), ctypes.c_double(3)
     stated, reach = ctypes.c_bool(False), ctypes.c_uint64(1)  # no reach is stated: the number means nothing
+    limited, ceiling = ctypes.c_bool(False), ctypes.c_uint64(0)  # nor a ceiling
     table, room = lend(ctypes.c_uint16, [0] * (4 * len(CORNERS) // 2))
     reply, seven = lend(ctypes.c_uint64, [0] * 7)
     listing = ctypes.CDLL(library).manopluea_list_point
     listing.restype = None
-    listing(*lists, kind, setting, x, y, stated, reach, table, room, reply, seven)
+    listing(*lists, kind, setting, x, y, stated, reach, limited, ceiling, table, room, reply, seven)
     number, place, rows, crossings, *_ = reply
     if number != 0:
         sys.exit(f"refused {number} {place}")

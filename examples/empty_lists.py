@@ -7,7 +7,7 @@ import sys
 
 from client import CELLS, CORNERS, TRIANGLES, lend
 
-FRAME, SIZE, ROOM, ROWS, REACH = 1, 2, 11, 13, 15
+FRAME, SIZE, ROOM, ROWS, REACH, CEILING = 1, 2, 11, 13, 15, 19
 NULL = None, ctypes.c_size_t(0)
 PLAN = *lend(ctypes.c_int32, CORNERS), *lend(ctypes.c_uint16, CELLS)
 ONE_DOOR = lend(ctypes.c_uint16, [2])
@@ -22,6 +22,8 @@ AT = ctypes.c_double(6), ctypes.c_double(3)
 STANDS = {"point": AT, "offset": (CORNER, *AT)}
 NO_REACH = ctypes.c_bool(False), ctypes.c_uint64(0)
 WRONG_REACH = ctypes.c_bool(True), ctypes.c_uint64(0)
+NO_CEILING = ctypes.c_bool(False), ctypes.c_uint64(0)
+LOWEST = ctypes.c_bool(True), ctypes.c_uint64(0)
 
 
 def main(library):
@@ -50,19 +52,24 @@ def main(library):
     expect(0, [4, 2, 0, TRIANGLES, 12], "read", *FILE, *PLAN, *NULL)
     for form, stand in STANDS.items():
         expect(0, none, f"find_{form}", *PLAN, *NULL, KIND, SETTING, *stand)
-        expect(ROOM, none, f"list_{form}", *PLAN, *NULL, KIND, SETTING, *stand, *NO_REACH, *NULL)
-        expect(0, listed, f"list_{form}", *PLAN, *NULL, KIND, SETTING, *stand, *NO_REACH, *TABLE)
-        expect(REACH, none, f"list_{form}", *PLAN, *NULL, KIND, SETTING, *stand, *WRONG_REACH, *NULL)
+        listing = f"list_{form}", *PLAN, *NULL, KIND, SETTING, *stand
+        expect(ROOM, none, *listing, *NO_REACH, *NO_CEILING, *NULL)
+        expect(0, listed, *listing, *NO_REACH, *NO_CEILING, *TABLE)
+        expect(REACH, none, *listing, *WRONG_REACH, *NO_CEILING, *NULL)
+        expect(ROOM, none, *listing, *NO_REACH, *LOWEST, *NULL)
+        expect(CEILING, none, *listing, *NO_REACH, *LOWEST, *TABLE)
         change = f"change_{form}", *PLAN, *ONE_DOOR, KIND, SETTING, *stand, *NO_REACH, *NULL, DOOR, SHUT
         expect(ROOM, none, *change, *NULL)
         expect(ROWS, none, *change, *TABLE)
     morning = "list_stands", *PLAN, *NULL, KIND, SETTING
-    expect(SIZE, none, "list_stands", *NULL, *NULL, *NULL, KIND, SETTING, *NULL, *NO_REACH, *NULL, *NULL)
-    expect(0, none, *morning, *NULL, *NO_REACH, *NULL, *NULL)
-    expect(ROOM, none, *morning, *MORNING, *NO_REACH, *NULL, *REPLIES)
-    expect(ROOM, none, *morning, *MORNING, *NO_REACH, *TABLE, *NULL)
-    expect(0, listed, *morning, *MORNING, *NO_REACH, *TABLE, *REPLIES)
-    expect(0, none, *morning, *MORNING, *WRONG_REACH, *TABLE, *REPLIES)
+    nowhere = "list_stands", *NULL, *NULL, *NULL, KIND, SETTING
+    expect(SIZE, none, *nowhere, *NULL, *NO_REACH, *NO_CEILING, *NULL, *NULL)
+    expect(0, none, *morning, *NULL, *NO_REACH, *NO_CEILING, *NULL, *NULL)
+    expect(ROOM, none, *morning, *MORNING, *NO_REACH, *NO_CEILING, *NULL, *REPLIES)
+    expect(ROOM, none, *morning, *MORNING, *NO_REACH, *NO_CEILING, *TABLE, *NULL)
+    expect(0, listed, *morning, *MORNING, *NO_REACH, *NO_CEILING, *TABLE, *REPLIES)
+    expect(0, none, *morning, *MORNING, *WRONG_REACH, *NO_CEILING, *TABLE, *REPLIES)
+    expect(0, none, *morning, *MORNING, *NO_REACH, *LOWEST, *TABLE, *REPLIES)
     expect(ROOM, none, "print", *NULL, *NULL)
     expect(0, [len("refused 1 0\n"), 0, 0, 0, 0], "print", *NULL, *TEXT)
 

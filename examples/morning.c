@@ -1,6 +1,6 @@
 /* Lists a morning's three stands in plan Q, a square of two cells, in one call: a point, one that lies outside, and an
- * offset from corner 2. The scanner has a reach, which goes to every wall from there. Prints for each what the printing
- * program prints for it.
+ * offset from corner 2. The scanner has a reach, which goes to every wall from there; there is no ceiling. Prints for
+ * each what the printing program prints for it.
  * C99 and C++17 alike; examples/run.sh compiles, links and runs it. */
 #include "manopluea.h"
 
@@ -30,7 +30,8 @@ int main(void)
     int stand;
 
     manopluea_list_stands(corners, 2 * CORNERS, cells, 6 * CELLS, NULL, 0, MANOPLUEA_TRIANGLES, 0, stands, 3 * STANDS,
-                          true, REACH, table, 4 * CORNERS * STANDS, replies, 3 * STANDS, reply, MANOPLUEA_REPLY);
+                          true, REACH, false, 0, table, 4 * CORNERS * STANDS, replies, 3 * STANDS, reply,
+                          MANOPLUEA_REPLY);
     if (reply[0] != MANOPLUEA_DONE) {
         printf("refused %" PRIu64 " %" PRIu64 "\n", reply[0], reply[1]);
         return 1;

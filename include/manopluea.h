@@ -14,8 +14,8 @@
  *   Stack. A call needs at most MANOPLUEA_STACK bytes. With less, the process may be ended by a signal at the guard
  *   page below its stack. Where lines are followed, calls go into one another no more often than the listing has rows.
  *   On a floor where they do so 2037 times, on one with 2999 lines behind one another, on one of cells with the most
- *   sides and on the fullest plan, with no reach stated and with the longest, no call took more than 1130 KiB, on
- *   x86-64 and on AArch64. The number stated is 1.8 times that.
+ *   sides and on the fullest plan, with no reach stated and with the longest, without a ceiling and with one that is
+ *   just kept to, no call took more than 1140 KiB, on x86-64 and on AArch64. The number stated is 1.8 times that.
  *
  * There is nothing else to keep: no list, number or setting is wrong input, and every call returns. A call is
  * reentrant and keeps no state: several threads may make calls at once.
@@ -49,13 +49,22 @@
  * longer reach, or none, keeps every row with 0 as it is and in its order, and has one row or more in place of each
  * with 1; crossings do not get fewer.
  *
+ * Ceiling. A listing and a morning may have a ceiling for their crossings, which is how often a free line is crossed:
+ * `limited` says whether they do. Where it is false there is none, and the number after it means nothing. Where it is
+ * true, any number may be the ceiling, 0 and the largest too. A listing is refused with 19 exactly when its crossings
+ * would exceed the ceiling, and just as many are allowed; otherwise it is the listing without a ceiling. So a higher
+ * ceiling, or none, never alters a list that was given. The work stops when the ceiling is passed, and the table keeps
+ * its contents. A morning has one ceiling for all stands, and each has it for itself: what one stand crosses takes
+ * nothing from the others. No other call has a ceiling.
+ *
  * Reply. Seven numbers: reply[0] number, reply[1] place, reply[2..6] up to five values; those that a call has no use
  * for are 0. On a refusal the five values are 0. Numbers beyond the seven keep their values. Where reply_length is
  * below 7, the call does nothing at all: no lent memory is touched, the reply neither.
  *
- * The lowest number that applies is the reply, but for 15, which goes after 8 and before 9. A refusal returns its
- * number and place only, and every lent table, list and file keeps its contents. On 0, numbers and bytes beyond those
- * written keep their old values. Each call checks its plan anew.
+ * The lowest number that applies is the reply, but for 15, which goes after 8 and before 9, and for 19, which goes
+ * after 11 and is the last of a listing's. A refusal returns its number and place only, and every lent table, list and
+ * file keeps its contents. On 0, numbers and bytes beyond those written keep their old values. Each call checks its
+ * plan anew.
  *
  * Each promise below is proved: crates/exports/specs/Reply.antt defines what a call leaves in the lent memory and in
  * the reply as a function of its input, and the call's contract says that it leaves exactly that. The stack is not
@@ -74,7 +83,7 @@ extern "C" {
 #endif
 
 /* Counts up where a function, a number or a promise of this header changes. */
-#define MANOPLUEA_VERSION 5
+#define MANOPLUEA_VERSION 6
 
 /* The limits of a plan. A coordinate lies between -MANOPLUEA_MOST_COORDINATE and MANOPLUEA_MOST_COORDINATE. */
 #define MANOPLUEA_LEAST_CORNERS 3
@@ -142,7 +151,8 @@ enum manopluea_number {
                                 3*stands; a file or a list below what is written; a text below MANOPLUEA_TEXT */
     MANOPLUEA_CHANGE = 12,   /* no such door, or already in that state */
     MANOPLUEA_ROWS = 13,     /* the given list differs from the true one, in length or any number */
-    MANOPLUEA_REACH = 15     /* a number is stated that is no reach; after MANOPLUEA_STAND, before MANOPLUEA_LINE */
+    MANOPLUEA_REACH = 15,    /* a number is stated that is no reach; after MANOPLUEA_STAND, before MANOPLUEA_LINE */
+    MANOPLUEA_CEILING = 19   /* more crossings than the ceiling; after MANOPLUEA_ROOM */
 };
 
 /* The plan check. Replies 0 to 6. On 0 the values are the counts of corners, cells and doors. Writes to the reply
@@ -198,9 +208,10 @@ void manopluea_find_offset(const int32_t *corners, size_t corners_length,
                            uint64_t setting, uint16_t corner, double dx, double dy,
                            uint64_t *reply, size_t reply_length);
 
-/* The listing. Replies 0 to 11 and 15. On 0 the first two values are row count and crossings, and the table holds four
- * numbers a row from its beginning on: face (on the side seen), right limit, left limit, and 0 in reach or 1 out of
- * reach. Rows never outnumber corners. Where no reach is stated every fourth number is 0.
+/* The listing. Replies 0 to 11, 15 and 19. On 0 the first two values are row count and crossings, and the table holds
+ * four numbers a row from its beginning on: face (on the side seen), right limit, left limit, and 0 in reach or 1 out
+ * of reach. Rows never outnumber corners. Where no reach is stated every fourth number is 0. Crossings are counted for
+ * the whole listing, from a side through both its cells, and 19 is the reply where they exceed the ceiling.
  *
  * Setting and stand are as for finding. From a stand strictly inside a cell, the sides of that cell are followed to
  * their rows in order. From a stand strictly within a free side, the other sides of the cell found are followed in
@@ -210,7 +221,7 @@ void manopluea_list_point(const int32_t *corners, size_t corners_length,
                           const uint16_t *cells, size_t cells_length,
                           const uint16_t *doors, size_t doors_length, uint16_t kind,
                           uint64_t setting, double x, double y,
-                          bool stated, uint64_t reach,
+                          bool stated, uint64_t reach, bool limited, uint64_t ceiling,
                           uint16_t *table, size_t table_length,
                           uint64_t *reply, size_t reply_length);
 
@@ -218,11 +229,11 @@ void manopluea_list_offset(const int32_t *corners, size_t corners_length,
                            const uint16_t *cells, size_t cells_length,
                            const uint16_t *doors, size_t doors_length, uint16_t kind,
                            uint64_t setting, uint16_t corner, double dx, double dy,
-                           bool stated, uint64_t reach,
+                           bool stated, uint64_t reach, bool limited, uint64_t ceiling,
                            uint16_t *table, size_t table_length,
                            uint64_t *reply, size_t reply_length);
 
-/* A morning's stands together. Replies 0 to 7 and 11; 8 to 10 and 15 are replies of single stands.
+/* A morning's stands together. Replies 0 to 7 and 11; 8 to 10, 15 and 19 are replies of single stands.
  *
  * Stands are three numbers each: corner, x, y. Where the first is MANOPLUEA_POINT the stand is the point (x, y), else
  * the offset (x, y) from that corner. Minus zero reads as corner 0; a stand whose first number is neither
@@ -233,19 +244,21 @@ void manopluea_list_offset(const int32_t *corners, size_t corners_length,
  * judged before any stand is looked at, also where every stand would be refused.
  *
  * One reach is stated for all stands, or none. A number that is no reach does not refuse the call: 15 is then the reply
- * of each stand, but for those that have 8.
+ * of each stand, but for those that have 8. The ceiling, where there is one, is each stand's own: 19 is the reply of a
+ * stand whose crossings exceed it, and the sum of all crossings may exceed it.
  *
- * On 0 the replies hold three numbers a stand from their beginning on: its own reply (0, 8, 15, 9 or 10), row count and
- * crossings. The table holds the rows of all stands from its beginning on, one stand after another in the order given.
- * A refused stand has counts 0 and no row, and stops no other. The first two values are the sums of the row counts and
- * of the crossings. Each stand's reply, counts and rows are those of the listing from it with the same reach and a
- * table of 4*corners numbers, wherever it is: strictly inside a cell, or strictly within a free side. */
+ * On 0 the replies hold three numbers a stand from their beginning on: its own reply (0, 8, 15, 9, 10 or 19), row count
+ * and crossings. The table holds the rows of all stands from its beginning on, one stand after another in the order
+ * given. A refused stand has counts 0 and no row, and stops no other. The first two values are the sums of the row
+ * counts and of the crossings. Each stand's reply, counts and rows are those of the listing from it with the same
+ * reach, the same ceiling and a table of 4*corners numbers, wherever it is: strictly inside a cell, or strictly within
+ * a free side. */
 void manopluea_list_stands(const int32_t *corners, size_t corners_length,
                            const uint16_t *cells, size_t cells_length,
                            const uint16_t *doors, size_t doors_length, uint16_t kind,
                            uint64_t setting,
                            const double *stands, size_t stands_length,
-                           bool stated, uint64_t reach,
+                           bool stated, uint64_t reach, bool limited, uint64_t ceiling,
                            uint16_t *table, size_t table_length,
                            uint64_t *replies, size_t replies_length,
                            uint64_t *reply, size_t reply_length);

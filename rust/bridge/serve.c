@@ -2,9 +2,9 @@
  * kit's emulator.
  * It reads requests from standard input and writes what each call leaves to standard output, until the input ends.
  *
- * A request is twenty numbers of eight bytes, call, kind, setting, corner, x, y, stated, reach, door, shut and the
- * lengths of reply, replies, stands, corners, cells, doors, given, table, file and text, then the contents of those ten
- * lists, back to back. The answer is the ten lists after the call. The file of PRINT is its input. */
+ * A request is twenty-two numbers of eight bytes, call, kind, setting, corner, x, y, stated, reach, limited, ceiling,
+ * door, shut and the lengths of reply, replies, stands, corners, cells, doors, given, table, file and text, then the
+ * contents of those ten lists, back to back. The answer is the ten lists after the call. The file of PRINT is its input. */
 #include "../../include/manopluea.h"
 
 enum {
@@ -80,7 +80,8 @@ static void serve_one(void)
     struct {
         uint64_t call, kind, setting, corner;
         double x, y;
-        uint64_t stated, reach, door, shut, reply, replies, stands, corners, cells, doors, given, table, file, text;
+        uint64_t stated, reach, limited, ceiling, door, shut;
+        uint64_t reply, replies, stands, corners, cells, doors, given, table, file, text;
     } asked;
     receive(&asked, sizeof asked);
     size_t r = asked.reply, o = asked.replies, s = asked.stands, n = asked.corners, m = asked.cells, k = asked.doors,
@@ -114,14 +115,16 @@ static void serve_one(void)
         manopluea_find_offset(corners, n, cells, m, doors, k, kind, asked.setting, corner, asked.x, asked.y, reply, r);
         break;
     case LIST_POINT:
-        manopluea_list_point(corners, n, cells, m, doors, k, kind, asked.setting, asked.x, asked.y, asked.stated, asked.reach, table, t, reply, r);
+        manopluea_list_point(corners, n, cells, m, doors, k, kind, asked.setting, asked.x, asked.y, asked.stated, asked.reach, asked.limited,
+                             asked.ceiling, table, t, reply, r);
         break;
     case LIST_OFFSET:
-        manopluea_list_offset(corners, n, cells, m, doors, k, kind, asked.setting, corner, asked.x, asked.y, asked.stated, asked.reach, table, t, reply,
-                              r);
+        manopluea_list_offset(corners, n, cells, m, doors, k, kind, asked.setting, corner, asked.x, asked.y, asked.stated, asked.reach, asked.limited,
+                              asked.ceiling, table, t, reply, r);
         break;
     case LIST_STANDS:
-        manopluea_list_stands(corners, n, cells, m, doors, k, kind, asked.setting, stands, s, asked.stated, asked.reach, table, t, replies, o, reply, r);
+        manopluea_list_stands(corners, n, cells, m, doors, k, kind, asked.setting, stands, s, asked.stated, asked.reach, asked.limited, asked.ceiling,
+                              table, t, replies, o, reply, r);
         break;
     case CHANGE_POINT:
         manopluea_change_point(corners, n, cells, m, doors, k, kind, asked.setting, asked.x, asked.y, asked.stated, asked.reach, given, g, asked.door,

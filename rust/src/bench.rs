@@ -1,8 +1,9 @@
-//! Times of the public calls on four floors, of listings with a reach there, and on
-//! one of them of a morning's stands and of its triangles merged into larger cells:
-//! of the proved library, of the second program and of plain Rust, side by side.
+//! Times of the public calls on four floors, of listings with a reach and up to a
+//! ceiling there, and on one of them of a morning's stands and of its triangles merged
+//! into larger cells: of the proved library, of the second program and of plain Rust,
+//! side by side.
 
-use crate::calls::{Calls, DoorChange, Lists, Morning, Plan, Query, Reach, Stand, ROW};
+use crate::calls::{Calls, DoorChange, Listing, Lists, Morning, Plan, Query, Reach, Stand, ROW};
 use crate::generate::{self, Dice, Merged, Mesh};
 use crate::paper::{self, Paper, DOORS, MOST_STANDS, REACHES};
 use crate::plain;
@@ -15,6 +16,9 @@ const TIME_EACH: Duration = Duration::from_secs(4);
 
 /// Fewest rounds behind a median, for listings that take long.
 const FEWEST_ROUNDS: usize = 51;
+
+/// A ceiling that every floor's listing passes.
+const CEILING: u64 = 1_000;
 
 /// So many stands are tried for the one that sees through most lines.
 const STANDS_TRIED: usize = 60;
@@ -50,6 +54,14 @@ impl Floor {
     fn reaches(&self) -> [u64; 3] {
         let most = *REACHES.end();
         [self.size / 10, self.size.min(most), most]
+    }
+
+    /// Its listing without a reach.
+    fn listing(&self, ceiling: Option<u64>) -> Listing {
+        Listing {
+            query: self.query(Reach::NotStated),
+            ceiling,
+        }
     }
 }
 
@@ -103,6 +115,8 @@ pub fn report(proved: &dyn Calls) -> String {
     let text: String = calls.collect();
     let reaches = floors.iter().map(|floor| report_reaches(floor, proved));
     let text = text + &reaches.collect::<String>();
+    let ceilings = floors.iter().map(|floor| report_ceilings(floor, proved));
+    let text = text + &ceilings.collect::<String>();
     text + &report_morning(&floors[0], proved) + "\n" + &report_merged(&floors[0], proved)
 }
 
@@ -113,6 +127,15 @@ fn report_reaches(floor: &Floor, proved: &dyn Calls) -> String {
         reaches_on(floor, plain::find, plain::list),
     ];
     describe_reaches(floor, medians(programs))
+}
+
+fn report_ceilings(floor: &Floor, proved: &dyn Calls) -> String {
+    let programs = [
+        ceilings_of(floor, proved),
+        ceilings_of(floor, &Paper),
+        ceilings_on(floor, plain::check, plain::find, plain::list),
+    ];
+    describe_ceilings(floor, medians(programs))
 }
 
 fn report_morning(floor: &Floor, proved: &dyn Calls) -> String {
@@ -209,7 +232,7 @@ fn cells(plan: &Plan) -> u64 {
 /// The rows and crossings that the second program lists.
 fn listing(plan: &Plan, query: Query) -> (Vec<u16>, u64) {
     let mut table = table(plan);
-    let reply = paper::list(plan.lists(), query, &mut table);
+    let reply = paper::list(plan.lists(), query.without_ceiling(), &mut table);
     table.truncate(ROW * reply.values[0] as usize);
     (table, reply.values[1])
 }
@@ -223,7 +246,7 @@ fn calls_of<'a>(floor: &'a Floor, calls: &'a dyn Calls) -> [Call<'a>; 5] {
         floor,
         |lists| calls.check(lists),
         |lists, setting, stand| calls.find(lists, setting, stand),
-        |lists, query, table| calls.list(lists, query, table),
+        |lists, listing, table| calls.list(lists, listing, table),
         |lists, change, table| calls.change(lists, change, table),
     )
 }
@@ -234,16 +257,13 @@ fn calls_on<'a, Checked, Found, Listed>(
     floor: &'a Floor,
     check: impl Fn(Lists<'a>) -> Checked + 'a,
     find: impl Fn(Lists<'a>, u64, Stand) -> Found + 'a,
-    list: impl Fn(Lists<'a>, Query, &mut [u16]) -> Listed + Copy + 'a,
+    list: impl Fn(Lists<'a>, Listing, &mut [u16]) -> Listed + Copy + 'a,
     change: impl Fn(Lists<'a>, DoorChange<'a>, &mut [u16]) -> Listed + 'a,
 ) -> [Call<'a>; 5] {
     let (lists, stand) = (floor.plan.lists(), floor.stand);
     let list_under = |setting| {
-        let mut table = table(&floor.plan);
-        move || {
-            let query = Query::without_reach(setting, stand);
-            black_box(list(lists, query, &mut table));
-        }
+        let listing = Query::without_reach(setting, stand).without_ceiling();
+        list_again(&floor.plan, listing, list)
     };
     let shutting = DoorChange {
         query: Query::without_reach(0, stand),
@@ -259,12 +279,24 @@ fn calls_on<'a, Checked, Found, Listed>(
         Box::new(move || {
             black_box(find(lists, 0, stand));
         }),
-        Box::new(list_under(0)),
-        Box::new(list_under(1 << floor.door)),
+        list_under(0),
+        list_under(1 << floor.door),
         Box::new(move || {
             black_box(change(lists, shutting, &mut changed));
         }),
     ]
+}
+
+/// A listing, into the same table each time.
+fn list_again<'a, Listed>(
+    plan: &'a Plan,
+    listing: Listing,
+    list: impl Fn(Lists<'a>, Listing, &mut [u16]) -> Listed + 'a,
+) -> Call<'a> {
+    let mut table = table(plan);
+    Box::new(move || {
+        black_box(list(plan.lists(), listing, &mut table));
+    })
 }
 
 fn morning_of<'a>(floor: &'a Floor, calls: &'a dyn Calls) -> [Call<'a>; 2] {
@@ -273,7 +305,7 @@ fn morning_of<'a>(floor: &'a Floor, calls: &'a dyn Calls) -> [Call<'a>; 2] {
         |lists, morning, stands, table, replies| {
             calls.list_stands(lists, morning, stands, table, replies)
         },
-        |lists, query, table| calls.list(lists, query, table),
+        |lists, listing, table| calls.list(lists, listing, table),
     )
 }
 
@@ -281,9 +313,9 @@ fn morning_of<'a>(floor: &'a Floor, calls: &'a dyn Calls) -> [Call<'a>; 2] {
 fn morning_on<'a, Listed>(
     floor: &'a Floor,
     together: impl Fn(Lists<'a>, Morning, &[f64], &mut [u16], &mut [u64]) -> Listed + 'a,
-    list: impl Fn(Lists<'a>, Query, &mut [u16]) -> Listed + 'a,
+    list: impl Fn(Lists<'a>, Listing, &mut [u16]) -> Listed + 'a,
 ) -> [Call<'a>; 2] {
-    let (lists, morning) = (floor.plan.lists(), Morning::without_reach(0));
+    let (lists, morning) = (floor.plan.lists(), Morning::under(0));
     let numbers = numbers(&floor.morning);
     let mut tables = table(&floor.plan).repeat(floor.morning.len());
     let mut replies = vec![0; numbers.len()];
@@ -300,7 +332,7 @@ fn morning_on<'a, Listed>(
         }),
         Box::new(move || {
             for &stand in &floor.morning {
-                black_box(list(lists, morning.query(stand), &mut table));
+                black_box(list(lists, morning.listing(stand), &mut table));
             }
         }),
     ]
@@ -310,7 +342,7 @@ fn reaches_of<'a>(floor: &'a Floor, calls: &'a dyn Calls) -> [Call<'a>; 5] {
     reaches_on(
         floor,
         |lists, setting, stand| calls.find(lists, setting, stand),
-        |lists, query, table| calls.list(lists, query, table),
+        |lists, listing, table| calls.list(lists, listing, table),
     )
 }
 
@@ -318,21 +350,18 @@ fn reaches_of<'a>(floor: &'a Floor, calls: &'a dyn Calls) -> [Call<'a>; 5] {
 fn reaches_on<'a, Found, Listed>(
     floor: &'a Floor,
     find: impl Fn(Lists<'a>, u64, Stand) -> Found + 'a,
-    list: impl Fn(Lists<'a>, Query, &mut [u16]) -> Listed + Copy + 'a,
+    list: impl Fn(Lists<'a>, Listing, &mut [u16]) -> Listed + Copy + 'a,
 ) -> [Call<'a>; 5] {
-    let lists = floor.plan.lists();
-    let list_within = |reach| -> Call<'a> {
-        let (query, mut table) = (floor.query(reach), table(&floor.plan));
-        Box::new(move || {
-            black_box(list(lists, query, &mut table));
-        })
+    let list_within = |reach| {
+        let listing = floor.query(reach).without_ceiling();
+        list_again(&floor.plan, listing, list)
     };
     let [tenth, size, most] = floor
         .reaches()
         .map(|reach| list_within(Reach::Stated(reach)));
     [
         Box::new(move || {
-            black_box(find(lists, 0, floor.stand));
+            black_box(find(floor.plan.lists(), 0, floor.stand));
         }),
         list_within(Reach::NotStated),
         tenth,
@@ -341,12 +370,44 @@ fn reaches_on<'a, Found, Listed>(
     ]
 }
 
+fn ceilings_of<'a>(floor: &'a Floor, calls: &'a dyn Calls) -> [Call<'a>; 5] {
+    ceilings_on(
+        floor,
+        |lists| calls.check(lists),
+        |lists, setting, stand| calls.find(lists, setting, stand),
+        |lists, listing, table| calls.list(lists, listing, table),
+    )
+}
+
+/// Check, finding, a listing without a ceiling, one that passes its ceiling, and one
+/// that just keeps to it.
+fn ceilings_on<'a, Checked, Found, Listed>(
+    floor: &'a Floor,
+    check: impl Fn(Lists<'a>) -> Checked + 'a,
+    find: impl Fn(Lists<'a>, u64, Stand) -> Found + 'a,
+    list: impl Fn(Lists<'a>, Listing, &mut [u16]) -> Listed + Copy + 'a,
+) -> [Call<'a>; 5] {
+    let lists = floor.plan.lists();
+    let list_up_to = |ceiling| list_again(&floor.plan, floor.listing(ceiling), list);
+    [
+        Box::new(move || {
+            black_box(check(lists));
+        }),
+        Box::new(move || {
+            black_box(find(lists, 0, floor.stand));
+        }),
+        list_up_to(None),
+        list_up_to(Some(CEILING)),
+        list_up_to(Some(floor.crossings)),
+    ]
+}
+
 fn merged_of<'a>(floor: &'a Floor, calls: &'a dyn Calls) -> [Call<'a>; 6] {
     merged_on(
         floor,
         |lists| calls.check(lists),
         |lists, setting, stand| calls.find(lists, setting, stand),
-        |lists, query, table| calls.list(lists, query, table),
+        |lists, listing, table| calls.list(lists, listing, table),
     )
 }
 
@@ -355,11 +416,10 @@ fn merged_on<'a, Checked, Found, Listed>(
     floor: &'a Floor,
     check: impl Fn(Lists<'a>) -> Checked + Copy + 'a,
     find: impl Fn(Lists<'a>, u64, Stand) -> Found + Copy + 'a,
-    list: impl Fn(Lists<'a>, Query, &mut [u16]) -> Listed + Copy + 'a,
+    list: impl Fn(Lists<'a>, Listing, &mut [u16]) -> Listed + Copy + 'a,
 ) -> [Call<'a>; 6] {
     let on = |plan: &'a Plan| -> [Call<'a>; 3] {
         let (lists, stand) = (plan.lists(), floor.stand);
-        let mut table = table(plan);
         [
             Box::new(move || {
                 black_box(check(lists));
@@ -367,10 +427,7 @@ fn merged_on<'a, Checked, Found, Listed>(
             Box::new(move || {
                 black_box(find(lists, 0, stand));
             }),
-            Box::new(move || {
-                let query = Query::without_reach(0, stand);
-                black_box(list(lists, query, &mut table));
-            }),
+            list_again(plan, floor.listing(None), list),
         ]
     };
     let [[a, b, c], [d, e, f]] = [on(&floor.plan), on(&floor.merged)];
@@ -443,11 +500,31 @@ fn describe_reaches(floor: &Floor, times: [[f64; 5]; 3]) -> String {
             rows.len()
         );
         text += &line("list", 0, list);
-        let against = |times: [f64; 3], none: [f64; 3]| [0, 1, 2].map(|i| times[i] / none[i]);
         text += &line("  / no reach", 2, against(list, none));
         let [with, without] = [list, none].map(|list| [0, 1, 2].map(|i| list[i] - find[i]));
         text += &line("  expansion / no reach", 2, against(with, without));
     }
+    text.push('\n');
+    text
+}
+
+/// A listing that passes its ceiling against the check and against the listing without
+/// one, and a listing that keeps to it against that one.
+fn describe_ceilings(floor: &Floor, times: [[f64; 5]; 3]) -> String {
+    let mut text = format!("{}, ceilings\n{}", floor.name, columns());
+    let of = |call: usize| times.map(|of| of[call]);
+    let [check, find, none, passed, kept] = [0, 1, 2, 3, 4].map(of);
+    text += &line("check", 0, check);
+    text += &line("find", 0, find);
+    text += &line("list, no ceiling", 0, none);
+    let crossings = floor.crossings;
+    text += &format!("ceiling {CEILING}: refused, of {crossings} crossings\n");
+    text += &line("list", 0, passed);
+    text += &line("  / check", 2, against(passed, check));
+    text += &line("  / no ceiling", 3, against(passed, none));
+    text += &format!("ceiling {crossings}: listed\n");
+    text += &line("list", 0, kept);
+    text += &line("  / no ceiling", 2, against(kept, none));
     text.push('\n');
     text
 }
@@ -497,10 +574,14 @@ fn describe_merged(floor: &Floor, times: [[f64; 6]; 3]) -> String {
     ] {
         let (before, after) = (triangles.map(figure), merged.map(figure));
         text += &line(name, 0, after);
-        let ratios = [0, 1, 2].map(|program| after[program] / before[program]);
-        text += &line("  merged / triangles", 2, ratios);
+        text += &line("  merged / triangles", 2, against(after, before));
     }
     text
+}
+
+/// The times of each program against others.
+fn against(times: [f64; 3], others: [f64; 3]) -> [f64; 3] {
+    [0, 1, 2].map(|program| times[program] / others[program])
 }
 
 fn heading(floor: &Floor) -> String {
@@ -535,7 +616,8 @@ fn line(name: &str, places: usize, [proved, second, plain]: [f64; 3]) -> String 
 #[cfg(test)]
 mod tests {
     use super::*;
-    use crate::calls::Reply;
+    use crate::calls::{Refusal, Reply};
+    use crate::proved::Proved;
 
     #[test]
     fn the_floors_are_of_their_sizes() {
@@ -554,27 +636,51 @@ mod tests {
         );
     }
 
+    /// What each program leaves for a listing: the same.
+    fn listed_alike(name: &str, plan: &Plan, listing: Listing) -> (Reply, Vec<u16>) {
+        let lists = plan.lists();
+        let [mut second, mut proved, mut plain] = [(); 3].map(|()| table(plan));
+        let left = (Paper.list(lists, listing, &mut second), second);
+        let reply = Proved.list(lists, listing, &mut proved);
+        assert_eq!((reply, proved), left, "{name}");
+        let reply = match plain::list(lists, listing, &mut plain) {
+            Ok(counts) => Reply::done([counts.rows as u64, counts.crossings]),
+            Err(refusal) => refusal.reply(),
+        };
+        assert_eq!((reply, plain), left, "{name}");
+        left
+    }
+
     /// What is timed is the same work: each program lists the same rows.
     #[test]
     fn the_floors_are_listed_alike() {
         for floor in floors() {
             let stated = floor.reaches().map(Reach::Stated);
             for reach in [Reach::NotStated].into_iter().chain(stated) {
-                let query = floor.query(reach);
-                let (given, crossings) = listing(&floor.plan, query);
-                let mut plain = table(&floor.plan);
-                let counts = plain::list(floor.plan.lists(), query, &mut plain);
-                let counts = counts.expect("a floor can be listed");
-                assert_eq!(counts.crossings, crossings, "{}", floor.name);
-                assert_eq!(plain[..ROW * counts.rows], given, "{}", floor.name);
-                let mut proved = table(&floor.plan);
-                let lists = floor.plan.lists();
-                let reply = crate::proved::Proved.list(lists, query, &mut proved);
-                assert_eq!(reply, Reply::done([counts.rows as u64, counts.crossings]));
-                assert_eq!(proved, plain, "{}", floor.name);
+                let listing = floor.query(reach).without_ceiling();
+                let (reply, _) = listed_alike(floor.name, &floor.plan, listing);
+                assert_eq!(reply.number, 0, "{}", floor.name);
             }
             let unlimited = listing(&floor.plan, floor.query(Reach::NotStated));
             assert_eq!(unlimited, (floor.given, floor.crossings), "{}", floor.name);
+        }
+    }
+
+    /// Every floor passes the ceiling, and is listed where it has just as many
+    /// crossings.
+    #[test]
+    fn the_ceilings_are_passed_and_kept_to() {
+        for floor in floors() {
+            let up_to = |ceiling| {
+                let listing = floor.listing(Some(ceiling));
+                listed_alike(floor.name, &floor.plan, listing)
+            };
+            for ceiling in [CEILING, floor.crossings - 1] {
+                let refused = (Refusal::Ceiling.reply(), table(&floor.plan));
+                assert_eq!(up_to(ceiling), refused, "{}", floor.name);
+            }
+            let unlimited = listed_alike(floor.name, &floor.plan, floor.listing(None));
+            assert_eq!(up_to(floor.crossings), unlimited, "{}", floor.name);
         }
     }
 
@@ -619,17 +725,8 @@ mod tests {
         assert_eq!(merged.0, triangles.0);
         assert!(merged.1 < triangles.1);
         assert!(cells(&floor.merged) < cells(&floor.plan) / 2);
-        let (lists, query) = (floor.merged.lists(), floor.query(Reach::NotStated));
-        let mut plain = table(&floor.merged);
-        let counts = plain::list(lists, query, &mut plain);
-        let counts = counts.expect("a floor can be listed");
-        let (given, crossings) = listing(&floor.merged, query);
-        assert_eq!(plain[..ROW * counts.rows], given);
-        assert_eq!(counts.crossings, crossings);
-        let mut proved = table(&floor.merged);
-        let reply = crate::proved::Proved.list(lists, query, &mut proved);
-        assert_eq!(reply, Reply::done([counts.rows as u64, crossings]));
-        assert_eq!(proved, plain);
+        let (reply, _) = listed_alike(floor.name, &floor.merged, floor.listing(None));
+        assert_eq!(reply, Reply::done([merged.0.len() as u64, merged.1]));
     }
 
     /// Each program lists the same rows for a morning, and every stand has some.
@@ -637,7 +734,7 @@ mod tests {
     fn the_mornings_are_listed_alike() {
         let floor = &floors()[0];
         let (lists, stands) = (floor.plan.lists(), numbers(&floor.morning));
-        let morning = Morning::without_reach(0);
+        let morning = Morning::under(0);
         let lent = || {
             (
                 table(&floor.plan).repeat(MOST_STANDS),
@@ -655,7 +752,7 @@ mod tests {
         let reply = Reply::done([counts.rows as u64, counts.crossings]);
         let plain = (reply, table, replies);
         assert_eq!(ask(&Paper), plain);
-        assert_eq!(ask(&crate::proved::Proved), plain);
+        assert_eq!(ask(&Proved), plain);
         let (own, _) = plain.2.as_chunks();
         assert_eq!(own.len(), MOST_STANDS);
         assert!(own.iter().all(|&[number, rows, _]| number == 0 && rows > 0));

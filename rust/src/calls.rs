@@ -110,6 +110,22 @@ impl Query {
             reach: Reach::NotStated,
         }
     }
+
+    /// Its listing, however many crossings that has.
+    pub fn without_ceiling(self) -> Listing {
+        Listing {
+            query: self,
+            ceiling: None,
+        }
+    }
+}
+
+/// A listing as it is asked for.
+#[derive(Clone, Copy, Debug)]
+pub struct Listing {
+    pub query: Query,
+    /// With more crossings than this it is refused. Any number may be one.
+    pub ceiling: Option<u64>,
 }
 
 /// What the stands of a morning share. How many they are is the length of their
@@ -118,24 +134,34 @@ impl Query {
 pub struct Morning {
     pub setting: u64,
     pub reach: Reach,
+    /// As of a listing: each stand has it for itself.
+    pub ceiling: Option<u64>,
 }
 
 impl Morning {
-    /// A morning that states no reach.
-    pub fn without_reach(setting: u64) -> Morning {
+    /// A morning that states no reach, and no ceiling.
+    pub fn under(setting: u64) -> Morning {
         Morning {
             setting,
             reach: Reach::NotStated,
+            ceiling: None,
         }
     }
 
     /// What is asked for one of its stands alone.
-    pub fn query(self, stand: Stand) -> Query {
-        let Morning { setting, reach } = self;
-        Query {
+    pub fn listing(self, stand: Stand) -> Listing {
+        let Morning {
             setting,
-            stand,
             reach,
+            ceiling,
+        } = self;
+        Listing {
+            query: Query {
+                setting,
+                stand,
+                reach,
+            },
+            ceiling,
         }
     }
 }
@@ -184,11 +210,13 @@ pub enum Refusal {
     Door(usize),
     Setting,
     Stand,
-    /// After STAND, although its number is the highest.
+    /// After STAND, although its number is higher than those that follow.
     Reach,
     Line,
     Outside,
     Room,
+    /// After ROOM, and the last of a listing's.
+    Ceiling,
     Change,
     Rows,
 }
@@ -208,6 +236,7 @@ impl Refusal {
             Refusal::Line => (9, 0),
             Refusal::Outside => (10, 0),
             Refusal::Room => (11, 0),
+            Refusal::Ceiling => (19, 0),
             Refusal::Change => (12, 0),
             Refusal::Rows => (13, 0),
         };
@@ -232,6 +261,7 @@ impl Refusal {
             12 => Refusal::Change,
             13 => Refusal::Rows,
             15 => Refusal::Reach,
+            19 => Refusal::Ceiling,
             _ => return None,
         })
     }
@@ -268,7 +298,7 @@ impl Reply {
             return Ok(self.values);
         }
         let refusal = Refusal::numbered(self.number, self.place as usize);
-        Err(refusal.expect("a reply's number is one of 0 to 13, or 15"))
+        Err(refusal.expect("a reply's number is one of 0 to 13, 15 or 19"))
     }
 }
 
@@ -284,7 +314,7 @@ pub trait Calls: Sync {
     fn find(&self, lists: Lists<'_>, setting: u64, stand: Stand) -> Reply;
 
     /// `ROW` numbers a row go into the table.
-    fn list(&self, lists: Lists<'_>, query: Query, table: &mut [u16]) -> Reply;
+    fn list(&self, lists: Lists<'_>, listing: Listing, table: &mut [u16]) -> Reply;
 
     /// A morning's stands, three numbers each: `POINT` or a corner, then x, y.
     /// Their rows go into the table one after another, and three numbers a

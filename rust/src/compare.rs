@@ -18,8 +18,8 @@ use std::thread;
 /// many is put to it.
 const PROGRAM_EVERY: u64 = 50;
 
-/// Reply numbers are below this one. There is no reply 14.
-pub const NUMBERS: usize = 16;
+/// Reply numbers are below this one. There is no reply 14, and none from 16 to 18.
+pub const NUMBERS: usize = 20;
 
 /// How often each reply number came up, for each call.
 #[derive(Clone, Debug, Default, PartialEq, Eq)]
@@ -40,6 +40,7 @@ pub struct Tally {
     pub crossings: u64,
     pub sides: Sides,
     pub reaches: Reaches,
+    pub ceilings: Ceilings,
 }
 
 /// How often stands on a side came up.
@@ -67,6 +68,27 @@ pub struct Reaches {
     /// cross more lines.
     pub longer: u64,
     pub further: u64,
+}
+
+/// How often ceilings came up.
+#[derive(Clone, Copy, Debug, Default, PartialEq, Eq)]
+pub struct Ceilings {
+    /// Listings and mornings that have one.
+    pub stated: u64,
+    /// Of those listings, with just as many crossings, with one more, and with one fewer.
+    pub equal: u64,
+    pub one_more: u64,
+    pub one_fewer: u64,
+    /// Of the listings that have more crossings, those that are refused for their room;
+    /// those where no side around the stand has more by itself; and those from a stand
+    /// on a side where neither of its two cells has more by itself.
+    pub without_room: u64,
+    pub by_sides: u64,
+    pub by_cells: u64,
+    /// Mornings where a stand has more between two that are listed, and such as have
+    /// more in all while none of their stands has.
+    pub between: u64,
+    pub in_all: u64,
 }
 
 /// The public calls, in the order of the tally.
@@ -107,8 +129,9 @@ impl Tally {
         }
     }
 
-    /// Counts the stands of a morning, by each one's own reply.
-    fn count_stands(&mut self, replies: &[[u64; 3]]) {
+    /// Counts the stands of a morning with or without a ceiling, by each one's own
+    /// reply.
+    fn count_stands(&mut self, replies: &[[u64; 3]], ceiling: Option<u64>) {
         for (at, &[number, ..]) in replies.iter().enumerate() {
             let place = match at {
                 0 => 0,
@@ -119,6 +142,13 @@ impl Tally {
                 *count += 1;
             }
         }
+        let over = u64::from(Refusal::Ceiling.reply().number);
+        let is_between = |stands: &[[u64; 3]]| stands.iter().map(|own| own[0]).eq([0, over, 0]);
+        self.ceilings.between += u64::from(replies.windows(3).any(is_between));
+        let crossings = replies.iter().map(|own| own[2]).sum();
+        let all_keep = !replies.iter().any(|own| own[0] == over);
+        let in_all = all_keep && ceiling.is_some_and(|most: u64| most < crossings);
+        self.ceilings.in_all += u64::from(in_all);
     }
 
     /// Both tallies as one.
@@ -143,6 +173,15 @@ impl Tally {
         self.reaches.changes += other.reaches.changes;
         self.reaches.longer += other.reaches.longer;
         self.reaches.further += other.reaches.further;
+        self.ceilings.stated += other.ceilings.stated;
+        self.ceilings.equal += other.ceilings.equal;
+        self.ceilings.one_more += other.ceilings.one_more;
+        self.ceilings.one_fewer += other.ceilings.one_fewer;
+        self.ceilings.without_room += other.ceilings.without_room;
+        self.ceilings.by_sides += other.ceilings.by_sides;
+        self.ceilings.by_cells += other.ceilings.by_cells;
+        self.ceilings.between += other.ceilings.between;
+        self.ceilings.in_all += other.ceilings.in_all;
         self
     }
 
@@ -212,6 +251,28 @@ impl fmt::Display for Tally {
             f,
             "with a longer reach: {} listings, {} of them with more crossings",
             reaches.longer, reaches.further
+        )?;
+        let (ceilings, refused) = (&self.ceilings, Refusal::Ceiling.reply().number as usize);
+        writeln!(
+            f,
+            "ceiling: {} listings and mornings have one; {} listings have just as many crossings, \
+             {} one more, {} one fewer; {} replies and {} of single stands are {refused}",
+            ceilings.stated,
+            ceilings.equal,
+            ceilings.one_more,
+            ceilings.one_fewer,
+            self.of_number(refused),
+            self.of_stands(refused)
+        )?;
+        writeln!(
+            f,
+            "over a ceiling: {} listings without room, {} by no side alone, {} from a side by neither \
+             cell alone; {} mornings by a stand between two listed, {} in all and by no stand",
+            ceilings.without_room,
+            ceilings.by_sides,
+            ceilings.by_cells,
+            ceilings.between,
+            ceilings.in_all
         )?;
         writeln!(f, "in either kind: {} plans of triangles", self.either)
     }
@@ -325,8 +386,14 @@ fn trials(case: Case) -> Vec<Trial> {
         Asked::Check,
         Asked::Write { bytes: case.bytes },
         Asked::Find,
-        Asked::List { table: case.table },
-        Asked::ListStands { room: case.morning },
+        Asked::List {
+            table: case.table,
+            ceiling: case.ceiling,
+        },
+        Asked::ListStands {
+            room: case.morning,
+            ceiling: case.morning_ceiling,
+        },
         Asked::Change {
             shut: case.shut,
             given: case.given,
@@ -336,6 +403,7 @@ fn trials(case: Case) -> Vec<Trial> {
         Asked::EitherKind {
             shut: case.shut,
             given: case.given,
+            ceiling: case.ceiling,
         },
         Asked::Demand2 {
             directions: case.directions,

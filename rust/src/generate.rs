@@ -1,6 +1,7 @@
 //! The seeded generator: from a seed and a case number to everything the
 //! public calls are asked with.
 
+mod ceilings;
 mod damage;
 mod dice;
 mod extremes;
@@ -12,16 +13,17 @@ mod morning;
 mod reaches;
 mod stands;
 
+pub use ceilings::Ceiling;
 pub use dice::Dice;
 pub use extremes::{fullest, longest_fans, most_splits};
-pub use floors::{cathedral, corridor, deepest, fence, largest, spot_at, steps_between};
+pub use floors::{cathedral, corridor, deepest, fence, largest, spot_at, steps_between, OCTAGON};
 pub use lines::{Lines, OnLine};
 pub use merge::{in_other_kind, Merged};
 pub use mesh::{Mesh, Spot};
 pub use stands::inside;
 
-use crate::calls::{Morning, Plan, Query, Reach, Stand, ROW};
-use crate::paper::{self, Direction, DOORS, MOST_INPUT, REACHES};
+use crate::calls::{Listing, Morning, Plan, Query, Reach, Stand, ROW};
+use crate::paper::{self, Direction, Floor, View, DOORS, MOST_INPUT, REACHES};
 
 /// A plan seen from a stand under a setting, as far as a reach goes, with a door to
 /// be changed, and the stands of a morning there.
@@ -38,21 +40,53 @@ pub struct Scene {
 
 impl Scene {
     pub fn query(&self) -> Query {
-        self.morning().query(self.stand)
+        Query {
+            setting: self.setting,
+            stand: self.stand,
+            reach: self.reach,
+        }
     }
 
-    pub fn morning(&self) -> Morning {
+    /// The listing of the scene's own stand.
+    pub fn listing(&self, ceiling: Ceiling) -> Listing {
+        Listing {
+            query: self.query(),
+            ceiling: ceiling.number(|| self.true_crossings([self.stand])),
+        }
+    }
+
+    /// The morning of the scene's stands.
+    pub fn morning(&self, ceiling: Ceiling) -> Morning {
+        let (stands, _) = self.stands.as_chunks();
+        let stands = stands.iter().copied().filter_map(paper::stand_of);
         Morning {
             setting: self.setting,
             reach: self.reach,
+            ceiling: ceiling.number(|| self.true_crossings(stands)),
         }
+    }
+
+    /// The crossings of each of these stands that is listed where there is no ceiling,
+    /// as the paper program counts them.
+    fn true_crossings(&self, stands: impl IntoIterator<Item = Stand>) -> Vec<u64> {
+        let Ok(floor) = Floor::check(self.plan.lists()) else {
+            return Vec::new();
+        };
+        let views = stands.into_iter().map(|stand| {
+            let query = Query {
+                stand,
+                ..self.query()
+            };
+            View::new(&floor, query)
+        });
+        views.flatten().map(|view| view.list().crossings).collect()
     }
 
     /// The true list of a query, as the paper program has it; a row of zeros where
     /// there is none.
     fn true_numbers(&self, query: Query) -> Vec<u16> {
         let mut table = vec![0; ROW * (self.plan.corners.len() / 2)];
-        let reply = paper::list(self.plan.lists(), query, &mut table);
+        let reply = paper::list(self.plan.lists(), query.without_ceiling(), &mut table);
         match reply.number {
             0 => table.truncate(ROW * reply.values[0] as usize),
             _ => table = vec![0; ROW],
@@ -139,8 +173,11 @@ pub struct Case {
     pub shut: bool,
     pub given: Given,
     pub table: Room,
+    /// Of the listing.
+    pub ceiling: Ceiling,
     /// The table and the replies of a morning.
     pub morning: [Room; 2],
+    pub morning_ceiling: Ceiling,
     /// A plan file for the reader, often a damaged one.
     pub file: Vec<u8>,
     pub lists: [Room; 3],
@@ -171,13 +208,14 @@ const BEYOND_REACH: i64 = 4 * *REACHES.end() as i64;
 /// The case with this number in the run with this seed.
 pub fn case(seed: u64, number: u64) -> Case {
     let dice = &mut Dice::for_case(seed, number);
-    // The morning has dice of its own, and so have stands on lines, and reaches with
-    // turned floors and stands beside lines: all else is what a seed gave before there
-    // were mornings, and a case without such floors and stands is what it gave before
-    // there were those.
+    // The morning has dice of its own, and so have stands on lines, reaches with turned
+    // floors and stands beside lines, and ceilings: all else is what a seed gave before
+    // there were mornings, and a case without such floors and stands is what it gave
+    // before there were those.
     let aside = &mut Dice::for_case(!seed, number);
     let other = &mut Dice::for_case(seed ^ 1 << 63, number);
     let far = &mut Dice::for_case(seed ^ 1 << 62, number);
+    let tablet = &mut Dice::for_case(seed ^ 1 << 61, number);
     let mut mesh = floor(dice);
     let on_lines = other.percent(ON_LINES);
     if on_lines && other.percent(40) {
@@ -263,7 +301,9 @@ pub fn case(seed: u64, number: u64) -> Case {
         shut,
         given,
         table: room(dice),
+        ceiling: ceilings::random(tablet),
         morning: [room(aside), room(aside)],
+        morning_ceiling: ceilings::random(tablet),
         file: file(&scene, dice),
         lists: [room(dice), room(dice), room(dice)],
         bytes: room(dice),
@@ -462,7 +502,7 @@ fn just_beside(q: Spot, c: Spot, dice: &mut Dice) -> Direction {
 mod tests {
     use super::*;
     use crate::calls::{POLYGONS, TRIANGLES};
-    use crate::paper::{cut_cells, Floor, CELLS, COORDINATES, CORNERS};
+    use crate::paper::{cut_cells, CELLS, COORDINATES, CORNERS};
 
     fn meshes(count: u64) -> impl Iterator<Item = (Mesh, Dice)> {
         (0..count).map(|number| {

@@ -8,6 +8,8 @@
 //! the one that `MANOPLUEA_ARCHIVE` names.
 
 pub mod bench;
+pub mod both;
+pub mod brute;
 pub mod calls;
 pub mod compare;
 pub mod examples;

@@ -3,7 +3,7 @@
 //! `include/manopluea.h` has the promise of each call. The lists say which kind
 //! their cells are in. A refusal leaves every lent list, table and file as it was.
 
-use crate::calls::{Calls, DoorChange, Lists, Morning, Query, Refusal, Reply, Stand};
+use crate::calls::{Calls, DoorChange, Listing, Lists, Morning, Refusal, Reply, Stand};
 use crate::proved::Proved;
 
 /// How many corners, cells and doors an accepted plan has.
@@ -91,9 +91,10 @@ pub fn find(lists: Lists<'_>, setting: u64, stand: Stand) -> Result<Footing, Ref
     })
 }
 
-/// The listing: `ROW` numbers a row, from the beginning of the table.
-pub fn list(lists: Lists<'_>, query: Query, table: &mut [u16]) -> Result<Listed, Refusal> {
-    listed(Proved.list(lists, query, table))
+/// The listing: `ROW` numbers a row, from the beginning of the table. It is given up
+/// as soon as its crossings exceed the ceiling, if there is one.
+pub fn list(lists: Lists<'_>, listing: Listing, table: &mut [u16]) -> Result<Listed, Refusal> {
+    listed(Proved.list(lists, listing, table))
 }
 
 /// A morning's stands together, up to 32 of them: the rows of each stand as
@@ -101,8 +102,8 @@ pub fn list(lists: Lists<'_>, query: Query, table: &mut [u16]) -> Result<Listed,
 /// beginning of the table. What is given back are the sums.
 ///
 /// Three numbers a stand go into the replies, from their beginning on, and
-/// `stand_listed` reads them. A stand that is refused has no rows, and stops no
-/// other.
+/// `stand_listed` reads them. A stand that is refused, also for its crossings, has
+/// no rows, and stops no other.
 pub fn list_stands(
     lists: Lists<'_>,
     morning: Morning,
@@ -140,7 +141,7 @@ pub fn change(
 #[cfg(test)]
 mod tests {
     use super::*;
-    use crate::calls::{Reach, POLYGONS, ROW, TRIANGLES};
+    use crate::calls::{Query, Reach, POLYGONS, ROW, TRIANGLES};
     use crate::examples::{self, plan_q, plan_q_as_one_cell, Expected};
 
     #[test]
@@ -148,7 +149,7 @@ mod tests {
         for example in examples::all() {
             let lists = example.plan.lists();
             let mut table = vec![0; ROW * (lists.corners.len() / 2)];
-            let answer = list(lists, example.query(), &mut table);
+            let answer = list(lists, example.query().without_ceiling(), &mut table);
             let found = match answer {
                 Ok(listed) => Expected::Listed {
                     rows: table.as_chunks().0[..listed.rows].to_vec(),
@@ -216,8 +217,8 @@ mod tests {
             rows: 4,
             crossings: 0,
         };
-        let query = Query::without_reach(0, Stand::Point(6.0, 3.0));
-        assert_eq!(list(plan.lists(), query, &mut table), Ok(seen));
+        let listing = Query::without_reach(0, Stand::Point(6.0, 3.0)).without_ceiling();
+        assert_eq!(list(plan.lists(), listing, &mut table), Ok(seen));
         assert_eq!(table, [0, 0, 1, 0, 1, 1, 2, 0, 2, 2, 3, 0, 3, 3, 0, 0]);
         let unknown = Lists {
             kind: 3,
@@ -259,7 +260,7 @@ mod tests {
                 reach,
                 ..Query::without_reach(0, Stand::Point(6.0, 3.0))
             };
-            let answer = list(plan.lists(), query, &mut table);
+            let answer = list(plan.lists(), query.without_ceiling(), &mut table);
             answer.map(|listed| (listed.crossings, table[..ROW * listed.rows].to_vec()))
         };
         let nothing = [0, 0, 1, 1, 1, 1, 2, 1, 2, 2, 0, 1].to_vec();
@@ -271,6 +272,28 @@ mod tests {
         assert_eq!(within(Reach::NotStated), Ok((1, all)));
         for wrong in [0, 262_145, u64::MAX] {
             assert_eq!(within(Reach::Stated(wrong)), Err(Refusal::Reach));
+        }
+    }
+
+    /// From (6, 3) plan Q has one crossing. A listing that is refused for it leaves
+    /// the table alone.
+    #[test]
+    fn a_listing_has_no_more_crossings_than_its_ceiling() {
+        let plan = plan_q();
+        let seen = Listed {
+            rows: 4,
+            crossings: 1,
+        };
+        let query = Query::without_reach(0, Stand::Point(6.0, 3.0));
+        for (ceiling, expected) in [
+            (None, Ok(seen)),
+            (Some(0), Err(Refusal::Ceiling)),
+            (Some(1), Ok(seen)),
+            (Some(u64::MAX), Ok(seen)),
+        ] {
+            let (mut table, listing) = ([7; 16], Listing { query, ceiling });
+            assert_eq!(list(plan.lists(), listing, &mut table), expected);
+            assert_eq!(table == [7; 16], expected.is_err(), "{ceiling:?}");
         }
     }
 
@@ -298,10 +321,11 @@ mod tests {
             let (own, _) = replies.as_chunks();
             own.iter().map(|&numbers| stand_listed(numbers)).collect()
         };
-        let morning = Morning::without_reach(0);
+        let morning = Morning::under(0);
         let answer = list_stands(plan.lists(), morning, &stands, &mut table, &mut replies);
         assert_eq!(answer, Ok(both));
-        let [stand, outside, reach] = [Refusal::Stand, Refusal::Outside, Refusal::Reach].map(Err);
+        let [stand, outside] = [Refusal::Stand, Refusal::Outside].map(Err);
+        let [reach, ceiling] = [Refusal::Reach, Refusal::Ceiling].map(Err);
         assert_eq!(own(&replies), [stand, Ok(seen), outside, Ok(seen)]);
         let rows = [0, 0, 1, 0, 1, 1, 2, 0, 4, 2, 3, 0, 5, 3, 0, 0];
         assert_eq!(table[..32], [rows, rows].concat());
@@ -317,6 +341,13 @@ mod tests {
         let answer = list_stands(plan.lists(), wrong, &stands, &mut table, &mut replies);
         assert_eq!(answer, Ok(none));
         assert_eq!(own(&replies), [stand, reach, reach, reach]);
+        let low = Morning {
+            ceiling: Some(0),
+            ..morning
+        };
+        let answer = list_stands(plan.lists(), low, &stands, &mut table, &mut replies);
+        assert_eq!(answer, Ok(none));
+        assert_eq!(own(&replies), [stand, ceiling, outside, ceiling]);
         let short = &mut replies[1..];
         let answer = list_stands(plan.lists(), morning, &stands, &mut table, short);
         assert_eq!(answer, Err(Refusal::Room));

@@ -5,7 +5,8 @@
 //! the check turns into a table of opposite faces; the expansion keeps an
 //! explicit stack of lines still to be followed, and gives each other side of a
 //! cell its part of the whole cone; side values are 128 bits wide. Whether a line
-//! is in reach is asked of the one point of it that is nearest, wherever that is.
+//! is in reach is asked of the one point of it that is nearest, wherever that is. A
+//! ceiling is held against the crossings of the whole listing, once it is made.
 
 mod file;
 mod morning;
@@ -22,10 +23,12 @@ pub use plan::{cut_cells, Cell, Floor, Point, CELLS, COORDINATES, CORNERS, DOORS
 pub use printing::{print, query, MOST_INPUT};
 pub use reach::{SquaredDistance, REACHES};
 pub use runs::change_by_runs;
-pub use sight::{Direction, Line, Listing, Row, View, Walk};
+pub use sight::{Direction, Line, Listed, Row, View, Walk};
 pub use stand::{is_within, millimetres, Place};
 
-use crate::calls::{Calls, DoorChange, Lists, Morning, Query, Refusal, Reply, Stand, Values, ROW};
+use crate::calls::{
+    Calls, DoorChange, Listing, Lists, Morning, Query, Refusal, Reply, Stand, Values, ROW,
+};
 use morning::Answers;
 
 /// The paper program as an implementor of the public calls.
@@ -54,8 +57,8 @@ impl Calls for Paper {
         find(lists, setting, stand)
     }
 
-    fn list(&self, lists: Lists<'_>, query: Query, table: &mut [u16]) -> Reply {
-        list(lists, query, table)
+    fn list(&self, lists: Lists<'_>, listing: Listing, table: &mut [u16]) -> Reply {
+        list(lists, listing, table)
     }
 
     fn list_stands(
@@ -94,8 +97,8 @@ pub fn find(lists: Lists<'_>, setting: u64, stand: Stand) -> Reply {
     reply(find_checked(lists, setting, stand))
 }
 
-pub fn list(lists: Lists<'_>, query: Query, table: &mut [u16]) -> Reply {
-    reply(list_checked(lists, query, table))
+pub fn list(lists: Lists<'_>, listing: Listing, table: &mut [u16]) -> Reply {
+    reply(list_checked(lists, listing, table))
 }
 
 pub fn list_stands(
@@ -164,11 +167,12 @@ fn find_checked(lists: Lists<'_>, setting: u64, stand: Stand) -> Result<Values, 
     Ok([cell as u64, on_side as u64, side as u64, 0, 0])
 }
 
-fn list_checked(lists: Lists<'_>, query: Query, table: &mut [u16]) -> Result<Values, Refusal> {
+fn list_checked(lists: Lists<'_>, listing: Listing, table: &mut [u16]) -> Result<Values, Refusal> {
     let floor = Floor::check(lists)?;
-    let view = View::new(&floor, query)?;
+    let view = View::new(&floor, listing.query)?;
     room_for_rows(&floor, table)?;
-    Ok(hand_back(&view.list(), table))
+    let listed = view.list().up_to(listing.ceiling)?;
+    Ok(hand_back(&listed, table))
 }
 
 fn change_checked(
@@ -212,10 +216,10 @@ fn room_for_rows(floor: &Floor, table: &[u16]) -> Result<(), Refusal> {
     Ok(())
 }
 
-fn hand_back(listing: &Listing, table: &mut [u16]) -> Values {
-    let numbers = listing.rows.as_flattened();
+fn hand_back(listed: &Listed, table: &mut [u16]) -> Values {
+    let numbers = listed.rows.as_flattened();
     table[..numbers.len()].copy_from_slice(numbers);
-    [listing.rows.len() as u64, listing.crossings, 0, 0, 0]
+    [listed.rows.len() as u64, listed.crossings, 0, 0, 0]
 }
 
 /// Gives back the sums.

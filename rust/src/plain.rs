@@ -2,11 +2,12 @@
 //! steps that the proved library takes, as one writes them in Rust without a
 //! proof in mind: 64 bits wide, and a pair of functions that call each other. Where a
 //! reach is stated, the lines out of it are told before any is followed, which is
-//! faster the more crossings there are. What they cost is what the benchmarks hold the
-//! proved library to.
+//! faster the more crossings there are. Where there is a ceiling, a listing is given up
+//! as soon as it is passed. What they cost is what the benchmarks hold the proved
+//! library to.
 
 use crate::calls::{
-    DoorChange, Lists, Morning, Query, Reach, Refusal, Stand, POLYGONS, ROW, TRIANGLES,
+    DoorChange, Listing, Lists, Morning, Query, Reach, Refusal, Stand, POLYGONS, ROW, TRIANGLES,
 };
 use crate::paper::{
     stand_of, CELLS, COORDINATES, CORNERS, DOORS, MOST_STANDS, REACHES, SIDES, WALL,
@@ -101,12 +102,13 @@ pub fn find(lists: Lists<'_>, setting: u64, stand: Stand) -> Result<Footing, Ref
     Ok(view.footing)
 }
 
-pub fn list(lists: Lists<'_>, query: Query, table: &mut [u16]) -> Result<Counts, Refusal> {
+pub fn list(lists: Lists<'_>, listing: Listing, table: &mut [u16]) -> Result<Counts, Refusal> {
+    let Listing { query, ceiling } = listing;
     let plan = check(lists)?;
     plan.check_setting(query.setting)?;
     let view = plan.find(query)?;
     plan.check_room(table)?;
-    Ok(plan.list_from(&plan.lines(query.setting), view, table))
+    plan.list_up_to(ceiling, &plan.lines(query.setting), view, table)
 }
 
 pub fn list_stands(
@@ -134,12 +136,15 @@ pub fn list_stands(
     let mut sums = Counts::default();
     let (replies, _) = replies.as_chunks_mut();
     for (&numbers, reply) in stands.iter().zip(replies) {
-        let found = stand_of(numbers)
+        let listed = stand_of(numbers)
             .ok_or(Refusal::Stand)
-            .and_then(|stand| plan.find(morning.query(stand)));
-        *reply = match found {
-            Ok(view) => {
-                let counts = plan.list_from(&lines, view, &mut table[ROW * sums.rows..]);
+            .and_then(|stand| plan.find(morning.listing(stand).query))
+            .and_then(|view| {
+                let rest = &mut table[ROW * sums.rows..];
+                plan.list_up_to(morning.ceiling, &lines, view, rest)
+            });
+        *reply = match listed {
+            Ok(counts) => {
                 sums.rows += counts.rows;
                 sums.crossings += counts.crossings;
                 [0, counts.rows as u64, counts.crossings]
@@ -167,12 +172,12 @@ pub fn change(
         return Err(Refusal::Change);
     }
     let mut old = vec![0; ROW * plan.corners.len()];
-    let Counts { rows, .. } = plan.list_from(&plan.lines(setting), view, &mut old);
+    let Counts { rows, .. } = plan.list_up_to(None, &plan.lines(setting), view, &mut old)?;
     if old[..ROW * rows] != *asked.given {
         return Err(Refusal::Rows);
     }
     let lines = plan.lines(setting ^ 1 << asked.door);
-    Ok(plan.list_from(&lines, view, table))
+    plan.list_up_to(None, &lines, view, table)
 }
 
 /// A reach in millimetres; 0 where it is unlimited.
@@ -469,8 +474,32 @@ impl Plan<'_> {
         Ok(())
     }
 
-    /// Follows the sides of the stand's cell, or of both cells at its side.
-    fn list_from(&self, lines: &[Line], view: View, table: &mut [u16]) -> Counts {
+    /// The listing, which writes nothing where it is refused: rows that a ceiling can
+    /// still refuse go to a table of their own first.
+    fn list_up_to(
+        &self,
+        ceiling: Option<u64>,
+        lines: &[Line],
+        view: View,
+        table: &mut [u16],
+    ) -> Result<Counts, Refusal> {
+        let Some(ceiling) = ceiling else {
+            return Ok(self.list_from(u64::MAX, lines, view, table));
+        };
+        let mut own = vec![0; ROW * self.corners.len()];
+        // No listing has as many crossings as the largest number.
+        let counts = self.list_from(ceiling.saturating_add(1), lines, view, &mut own);
+        if counts.crossings > ceiling {
+            return Err(Refusal::Ceiling);
+        }
+        let written = ROW * counts.rows;
+        table[..written].copy_from_slice(&own[..written]);
+        Ok(counts)
+    }
+
+    /// Follows the sides of the stand's cell, or of both cells at its side, until so
+    /// many lines are crossed.
+    fn list_from(&self, most: u64, lines: &[Line], view: View, table: &mut [u16]) -> Counts {
         let View { q, footing, reach } = view;
         // A difference of two coordinates fits 32 bits.
         let from_stand = |&[x, y]: &[i32; 2]| [x - q[0] as i32, y - q[1] as i32];
@@ -487,11 +516,12 @@ impl Plan<'_> {
             corners: &corners,
             lines,
             table,
-            counts: Counts::default(),
+            rows: 0,
         };
+        let mut left = most;
         let mut follow = |face: usize| {
             let [start, _] = self.faces[face];
-            sight.cross(face as u16, start, lines[face].left_end);
+            left = sight.cross(face as u16, start, lines[face].left_end, left);
         };
         match footing {
             Footing::Inside { cell } => self.faces_of(cell).for_each(follow),
@@ -506,7 +536,10 @@ impl Plan<'_> {
                 }
             }
         }
-        sight.counts
+        Counts {
+            rows: sight.rows,
+            crossings: most - left,
+        }
     }
 
     /// The line of each face, under a setting.
@@ -643,39 +676,43 @@ struct Sight<'a> {
     corners: &'a [[i32; 2]],
     lines: &'a [Line],
     table: &'a mut [u16],
-    counts: Counts,
+    rows: usize,
 }
 
 impl Sight<'_> {
-    /// Follows the line of a face with limits r and l to its rows.
-    fn cross(&mut self, face: u16, r: u16, l: u16) {
+    /// Follows the line of a face with limits r and l to its rows. No more lines are
+    /// crossed than are left, and it gives back how many are left then; where none is,
+    /// nothing beyond the last one was looked at.
+    fn cross(&mut self, face: u16, r: u16, l: u16, left: u64) -> u64 {
         let Line { beyond, more, .. } = self.lines[usize::from(face)];
         if beyond == WALL {
-            let at = ROW * self.counts.rows;
+            let at = ROW * self.rows;
             self.table[at..at + ROW].copy_from_slice(&[face, r, l, more]);
-            self.counts.rows += 1;
-        } else {
-            self.counts.crossings += 1;
-            self.hand_on(beyond, more, r, l);
+            self.rows += 1;
+            return left;
         }
+        if left <= 1 {
+            return 0;
+        }
+        self.hand_on(beyond, more, r, l, left - 1)
     }
 
     /// Hands on a side of the cell that is entered, and the sides after it, so
     /// many of them.
-    fn hand_on(&mut self, side: u16, more: u16, r: u16, l: u16) {
+    fn hand_on(&mut self, side: u16, more: u16, r: u16, l: u16, left: u64) -> u64 {
         if more == 0 {
-            return self.cross(side, r, l);
+            return self.cross(side, r, l, left);
         }
         let Line {
             left_end: v, next, ..
         } = self.lines[usize::from(side)];
         if !self.is_left(r, v) {
-            self.hand_on(next, more - 1, r, l);
+            self.hand_on(next, more - 1, r, l, left)
         } else if !self.is_left(v, l) {
-            self.cross(side, r, l);
+            self.cross(side, r, l, left)
         } else {
-            self.cross(side, r, v);
-            self.hand_on(next, more - 1, v, l);
+            let left = self.cross(side, r, v, left);
+            self.hand_on(next, more - 1, v, l, left)
         }
     }
 
@@ -721,7 +758,7 @@ mod tests {
 
     #[test]
     fn plain_replies_are_the_paper_programs() {
-        let (mut changed, mut on_side, mut far) = (0, 0, 0);
+        let (mut changed, mut on_side, mut far, mut passed) = (0, 0, 0, 0);
         for number in 0..4_000 {
             let case = generate::case(17, number);
             let (scene, lists) = (&case.scene, case.scene.plan.lists());
@@ -738,15 +775,15 @@ mod tests {
             on_side += found.map_or(0, |[_, on_side, ..]| on_side);
             assert_eq!(reply(found), paper::find(lists, setting, stand), "{number}");
             let query = scene.query();
-            assert_eq!(
-                with_table(&case, |table| counts(list(lists, query, table))),
-                with_table(&case, |table| paper::list(lists, query, table)),
-                "{number}"
-            );
+            let listing = scene.listing(case.ceiling);
+            let plain = with_table(&case, |table| counts(list(lists, listing, table)));
+            let paper = with_table(&case, |table| paper::list(lists, listing, table));
+            assert_eq!(plain, paper, "{number}");
+            passed += usize::from(plain.0.number == 19);
             let numbers = Given::True.numbers(scene);
             let (rows, _) = numbers.as_chunks::<ROW>();
             far += rows.iter().filter(|&&[.., far]| far == 1).count();
-            let (morning, stands) = (scene.morning(), &scene.stands);
+            let (morning, stands) = (scene.morning(case.morning_ceiling), &scene.stands);
             let plain = with_replies(&case, |table, replies| {
                 counts(list_stands(lists, morning, stands, table, replies))
             });
@@ -768,5 +805,6 @@ mod tests {
         assert!(changed > 500, "only {changed} changes");
         assert!(on_side > 300, "only {on_side} stands on a side");
         assert!(far > 3_000, "only {far} rows out of reach");
+        assert!(passed > 300, "only {passed} over a ceiling");
     }
 }

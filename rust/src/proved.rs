@@ -12,7 +12,7 @@ mod c;
 
 pub use c::on_stack;
 
-use crate::calls::{Calls, DoorChange, Lists, Morning, Query, Reply, Stand};
+use crate::calls::{Calls, DoorChange, Listing, Lists, Morning, Reply, Stand};
 
 /// The proved library.
 pub struct Proved;
@@ -29,6 +29,12 @@ pub const REPLY: usize = 7;
 
 /// The seven numbers before a call: every one of them has to be written.
 const UNWRITTEN: [u64; REPLY] = [u64::MAX; REPLY];
+
+/// The number of a ceiling that passes to C. Where there is none it means nothing
+/// there, and is the one that would refuse most if it did.
+fn number_of(ceiling: Option<u64>) -> u64 {
+    ceiling.unwrap_or(0)
+}
 
 /// What a function put there, as a reply.
 fn reply([number, place, values @ ..]: [u64; REPLY]) -> Reply {
@@ -70,8 +76,8 @@ impl Calls for Proved {
         replied(|seven| c::find(lists, setting, stand, seven))
     }
 
-    fn list(&self, lists: Lists<'_>, query: Query, table: &mut [u16]) -> Reply {
-        replied(|seven| c::list(lists, query, table, seven))
+    fn list(&self, lists: Lists<'_>, listing: Listing, table: &mut [u16]) -> Reply {
+        replied(|seven| c::list(lists, listing, table, seven))
     }
 
     fn list_stands(
@@ -128,10 +134,19 @@ mod tests {
             c::write(lists, &mut bytes, &mut short);
             for stand in [Stand::Point(6.0, 3.0), Stand::Offset(0, 6.0, 3.0)] {
                 c::find(lists, 0, stand, &mut short);
-                for reach in [Reach::NotStated, Reach::Stated(9), Reach::Stated(0)] {
-                    let morning = Morning { setting: 0, reach };
-                    let query = morning.query(stand);
-                    c::list(lists, query, &mut table, &mut short);
+                for (reach, ceiling) in [
+                    (Reach::NotStated, None),
+                    (Reach::Stated(9), Some(1)),
+                    (Reach::Stated(9), Some(0)),
+                    (Reach::Stated(0), Some(1)),
+                ] {
+                    let morning = Morning {
+                        reach,
+                        ceiling,
+                        ..Morning::under(0)
+                    };
+                    let listing = morning.listing(stand);
+                    c::list(lists, listing, &mut table, &mut short);
                     let stands = stand.numbers();
                     c::list_stands(
                         lists,
@@ -142,7 +157,7 @@ mod tests {
                         &mut short,
                     );
                     let asked = DoorChange {
-                        query,
+                        query: listing.query,
                         given: &[0, 0, 1, 0, 1, 1, 2, 0, 4, 2, 3, 0, 5, 3, 0, 0],
                         door: 0,
                         shut: true,

@@ -1,10 +1,11 @@
 //! Every function of `include/manopluea.h` on the deepest floor known, in either
 //! kind, on those with the longest fans and the most splits and on the fullest
 //! plan, inside the cell that all is seen from and on its free side, with no reach
-//! stated and with the longest, which goes through every free line there, with a
-//! stack of so many bytes. A stack that is too small ends the process.
+//! stated and with the longest, which goes through every free line there, without a
+//! ceiling and up to one that is just kept to, with a stack of so many bytes. A stack
+//! that is too small ends the process.
 
-use crate::calls::{Calls, DoorChange, Morning, Plan, Query, Reach, Stand, POINT, ROW};
+use crate::calls::{Calls, DoorChange, Listing, Morning, Plan, Query, Reach, Stand, POINT, ROW};
 use crate::generate::{self, in_other_kind, query_record, spot_at, steps_between, Spot};
 use crate::paper::{self, Floor, Paper, Place, View, DOORS, MOST_STANDS, REACHES, WALL};
 use crate::proved::{on_stack, Proved};
@@ -55,9 +56,9 @@ fn ask_on(name: &str, plan: &Plan, inside: Spot, bytes: usize) -> Result<(), Str
     let (lists, last) = (plan.lists(), DOORS.end() - 1);
     let file = paper::encode(lists);
     let table = || vec![0; ROW * (plan.corners.len() / 2)];
-    let rows = |query| {
+    let rows = |query: Query| {
         let mut table = table();
-        let reply = paper::list(lists, query, &mut table);
+        let reply = paper::list(lists, query.without_ceiling(), &mut table);
         table.truncate(ROW * reply.values[0] as usize);
         table
     };
@@ -83,21 +84,22 @@ fn ask_on(name: &str, plan: &Plan, inside: Spot, bytes: usize) -> Result<(), Str
     for stand in [point(inside), offset(inside), point(on_side)] {
         same("find", bytes, |calls| calls.find(lists, 0, stand))?;
         let reaches = [Reach::NotStated, Reach::Stated(*REACHES.end())];
-        let [unlimited, longest] = reaches.map(|reach| {
-            let query = Morning { setting: 0, reach }.query(stand);
-            paper::list(lists, query, &mut table())
-        });
+        let within = |reach| Query {
+            reach,
+            ..Query::without_reach(0, stand)
+        };
+        let [unlimited, longest] =
+            reaches.map(|reach| paper::list(lists, within(reach).without_ceiling(), &mut table()));
         if longest != unlimited {
             return Err("some free line is out of reach".to_string());
         }
+        let [_, crossings, ..] = unlimited.values;
         for reach in reaches {
-            let under = |setting| Morning { setting, reach };
-            same("list", bytes, |calls| {
-                let mut table = table();
-                (calls.list(lists, under(0).query(stand), &mut table), table)
-            })?;
             for (setting, shut) in [(0, true), (1 << last, false)] {
-                let query = under(setting).query(stand);
+                let query = Query {
+                    setting,
+                    ..within(reach)
+                };
                 let given = rows(query);
                 let asked = DoorChange {
                     query,
@@ -113,12 +115,26 @@ fn ask_on(name: &str, plan: &Plan, inside: Spot, bytes: usize) -> Result<(), Str
             // As many as there may be; one listing is as deep as many.
             let mut stands = [POINT, f64::NAN, f64::NAN].repeat(MOST_STANDS - 1);
             stands.extend(stand.numbers());
-            same("list_stands", bytes, |calls| {
-                let mut table = table().repeat(MOST_STANDS);
-                let mut replies = vec![0; stands.len()];
-                let reply = calls.list_stands(lists, under(0), &stands, &mut table, &mut replies);
-                (reply, table, replies)
-            })?;
+            for ceiling in [None, Some(crossings)] {
+                let query = within(reach);
+                same("list", bytes, |calls| {
+                    let mut table = table();
+                    let listing = Listing { query, ceiling };
+                    (calls.list(lists, listing, &mut table), table)
+                })?;
+                let morning = Morning {
+                    setting: 0,
+                    reach,
+                    ceiling,
+                };
+                same("list_stands", bytes, |calls| {
+                    let mut table = table().repeat(MOST_STANDS);
+                    let mut replies = vec![0; stands.len()];
+                    let reply =
+                        calls.list_stands(lists, morning, &stands, &mut table, &mut replies);
+                    (reply, table, replies)
+                })?;
+            }
         }
         let input = [query_record(0, stand), file.clone()].concat();
         same("print", bytes, |calls| calls.print(&input))?;

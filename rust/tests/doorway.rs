@@ -1,25 +1,18 @@
 //! Stands on a side, request A4 of document 02: the paper program against the
 //! request's own words, by brute force, on the plans of seeded runs. No reach is
-//! stated.
+//! stated, and no ceiling.
 
+use manopluea_compare::brute::{cross, first_met, minus, overlap, Spot};
 use manopluea_compare::calls::{DoorChange, Plan, Query, Reply, Stand, ROW};
-use manopluea_compare::generate::{self, Dice, Lines, Merged, Scene, Spot};
+use manopluea_compare::generate::{self, Dice, Lines, Merged, Scene};
 use manopluea_compare::paper::{self, Direction, Floor, Place, Row, View, WALL};
 
 /// A face of a checked plan, with all that the words ask about it.
 struct Face {
     cell: u64,
     side: u64,
-    ends: [[i128; 2]; 2],
+    ends: [Spot; 2],
     is_free: bool,
-}
-
-fn cross(a: [i128; 2], b: [i128; 2]) -> i128 {
-    a[0] * b[1] - a[1] * b[0]
-}
-
-fn minus(a: [i128; 2], b: [i128; 2]) -> [i128; 2] {
-    [a[0] - b[0], a[1] - b[1]]
 }
 
 /// Every face, in the order of the numbers.
@@ -42,13 +35,13 @@ fn faces(floor: &Floor, setting: u64) -> Vec<Face> {
 
 impl Face {
     /// The side value of the ends and a spot.
-    fn value(&self, q: [i128; 2]) -> i128 {
+    fn value(&self, q: Spot) -> i128 {
         let [a, b] = self.ends;
         cross(minus(b, a), minus(q, a))
     }
 
     /// On the line, and nearer to each end than the other end is.
-    fn holds(&self, q: [i128; 2]) -> bool {
+    fn holds(&self, q: Spot) -> bool {
         let [a, b] = self.ends;
         let far = |a, b| {
             let [x, y] = minus(a, b);
@@ -63,7 +56,7 @@ fn query(scene: &Scene) -> Query {
 }
 
 /// What finding has to reply, in the words of the request.
-fn found(faces: &[Face], q: [i128; 2]) -> Result<[u64; 3], u32> {
+fn found(faces: &[Face], q: Spot) -> Result<[u64; 3], u32> {
     let cells = faces.chunk_by(|a, b| a.cell == b.cell);
     let least = |cell: &[Face]| cell.iter().map(|face| face.value(q)).min();
     if let Some(cell) = cells.clone().find(|cell| least(cell) > Some(0)) {
@@ -77,7 +70,7 @@ fn found(faces: &[Face], q: [i128; 2]) -> Result<[u64; 3], u32> {
 }
 
 /// Scenes of a run whose plan and setting are right and whose stand is accepted.
-fn each_scene(seed: u64, count: u64, mut look: impl FnMut(&Scene, &Floor, [i128; 2])) {
+fn each_scene(seed: u64, count: u64, mut look: impl FnMut(&Scene, &Floor, Spot)) {
     for number in 0..count {
         let scene = generate::case(seed, number).scene;
         let found = paper::find(scene.plan.lists(), scene.setting, scene.stand);
@@ -209,7 +202,11 @@ fn doors_are_changed_from_a_side_as_the_request_says() {
         let faces = faces(floor, scene.setting);
         let (on_side, corners) = (reply.values[1] == 1, floor.corners().len());
         let mut table = vec![0; ROW * corners];
-        let listed = paper::list(scene.plan.lists(), query(scene), &mut table);
+        let listed = paper::list(
+            scene.plan.lists(),
+            query(scene).without_ceiling(),
+            &mut table,
+        );
         let given = &table[..ROW * listed.values[0] as usize];
         let line = floor.doors().get(scene.door).copied();
         let holds = line.is_some_and(|face| faces[usize::from(face)].holds(q));
@@ -258,7 +255,7 @@ fn doors_are_changed_from_a_side_as_the_request_says() {
 }
 
 /// The rows that hold a direction.
-fn holding(floor: &Floor, rows: &[Row], q: [i128; 2], d: [i128; 2]) -> Vec<Row> {
+fn holding(floor: &Floor, rows: &[Row], q: Spot, d: Spot) -> Vec<Row> {
     let from_stand = |corner| {
         let at = floor.corner(corner);
         minus([at.x, at.y].map(i128::from), q)
@@ -267,33 +264,6 @@ fn holding(floor: &Floor, rows: &[Row], q: [i128; 2], d: [i128; 2]) -> Vec<Row> 
         cross(from_stand(right), d) > 0 && cross(d, from_stand(left)) > 0
     };
     rows.iter().filter(holds).copied().collect()
-}
-
-/// Whether two cells have a point strictly inside both: no side of either has
-/// all corners of the other on it or beyond it.
-fn overlap(a: &[Face], b: &[Face]) -> bool {
-    let parts = |a: &[Face], b: &[Face]| {
-        let beyond = |side: &Face| b.iter().all(|face| side.value(face.ends[0]) <= 0);
-        a.iter().any(beyond)
-    };
-    !parts(a, b) && !parts(b, a)
-}
-
-/// The first wall that a ray meets, of all the walls of a plan: none of them is
-/// looked for cell by cell.
-fn first_wall(faces: &[Face], q: [i128; 2], d: [i128; 2]) -> Option<usize> {
-    let mut first: Option<(i128, i128, usize)> = None;
-    for (number, face) in faces.iter().enumerate().filter(|(_, face)| !face.is_free) {
-        let [a, b] = face.ends.map(|end| minus(end, q));
-        if cross(a, d) > 0 && cross(d, b) > 0 && cross(a, b) > 0 {
-            // It is met at far/fast of the direction.
-            let (far, fast) = (cross(a, b), cross(d, minus(b, a)));
-            if first.is_none_or(|(other, pace, _)| far * pace < other * fast) {
-                first = Some((far, fast, number));
-            }
-        }
-    }
-    first.map(|(_, _, number)| number)
 }
 
 /// Demand 2 by brute force: whatever direction is taken whose ray meets no corner,
@@ -310,8 +280,17 @@ fn one_row_holds_each_direction_from_a_side() {
             return;
         }
         let faces = faces(floor, scene.setting);
-        let cells: Vec<&[Face]> = faces.chunk_by(|a, b| a.cell == b.cell).collect();
-        let on_top = (1..cells.len()).any(|b| (0..b).any(|a| overlap(cells[a], cells[b])));
+        let cells: Vec<Vec<[Spot; 2]>> = faces
+            .chunk_by(|a, b| a.cell == b.cell)
+            .map(|cell| cell.iter().map(|face| face.ends).collect())
+            .collect();
+        let on_top = (1..cells.len()).any(|b| (0..b).any(|a| overlap(&cells[a], &cells[b])));
+        let seen = |face: &Face| face.ends.map(|end| minus(end, q));
+        let numbered = (0..).zip(&faces);
+        let walls: Vec<(u16, [Spot; 2])> = numbered
+            .filter(|(_, face)| !face.is_free)
+            .map(|(number, face)| (number, seen(face)))
+            .collect();
         let rows = view.list().rows;
         assert!(rows.len() <= floor.corners().len());
         let dice = &mut Dice::new(rows.len() as u64);
@@ -341,8 +320,8 @@ fn one_row_holds_each_direction_from_a_side() {
             let walk = view.walk(d).expect("the ray meets no corner");
             assert_eq!(row[0], walk.end, "{d:?} in {scene:?}");
             if !on_top {
-                let first = first_wall(&faces, q, [x, y].map(i128::from));
-                assert_eq!(first, Some(row[0].into()), "{d:?} in {scene:?}");
+                let first = first_met(&walls, [x, y].map(i128::from));
+                assert_eq!(first, Some(row[0]), "{d:?} in {scene:?}");
             }
             match (view.place(), on_top) {
                 (Place::Inside(_), _) => from_inside += 1,
@@ -391,7 +370,7 @@ fn the_order_of_the_rows_is_that_of_the_sides() {
     assert!(compared > 1_000, "{compared}");
 }
 
-fn stand_at([x, y]: Spot) -> Stand {
+fn stand_at([x, y]: [i64; 2]) -> Stand {
     Stand::Point(x as f64, y as f64)
 }
 

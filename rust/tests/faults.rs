@@ -3,8 +3,8 @@
 //! find every one of them.
 
 use manopluea_compare::calls::{
-    Calls, DoorChange, Lists, Morning, Plan, Query, Reach, Reply, Stand, POINT, POLYGONS, ROW,
-    TRIANGLES,
+    Calls, DoorChange, Listing, Lists, Morning, Plan, Query, Reach, Reply, Stand, POINT, POLYGONS,
+    ROW, TRIANGLES,
 };
 use manopluea_compare::compare::{compare, compare_program, Asked, Mismatch, Trial};
 use manopluea_compare::generate::in_other_kind;
@@ -103,7 +103,25 @@ faults! {
         ReachComesBeforeStand,
         ReachComesAfterLine,
         RoomComesBeforeReach,
+        // Over the ceiling.
+        CeilingIsExclusive,
+        CeilingIsOfRows,
+        CeilingIsForEachSide,
+        CeilingIsForEachCell,
+        LineStoodOnCountsForTheCeiling,
+        CeilingComesBeforeRoom,
+        RowsAreLeftOverTheCeiling,
+        CrossingsAreSaidOverTheCeiling,
+        ZeroIsNoCeiling,
+        LargestCeilingWrapsRound,
+        CeilingHasASign,
+        CeilingIsCutTo32Bits,
         // In a morning's stands.
+        CeilingIsSharedOut,
+        CeilingIsForTheFirstStand,
+        CeilingRefusesTheMorning,
+        StandOverTheCeilingHasCounts,
+        StandOverTheCeilingLeavesItsRows,
         RefusedStandStopsTheRest,
         RefusedStandLeavesAGap,
         RefusedStandHasRows,
@@ -269,10 +287,20 @@ impl Calls for Faulty {
         }
     }
 
-    fn list(&self, lists: Lists<'_>, mut query: Query, table: &mut [u16]) -> Reply {
+    fn list(&self, lists: Lists<'_>, mut listing: Listing, table: &mut [u16]) -> Reply {
         let before = table.to_vec();
-        query.stand = self.stand(lists, query.stand);
-        query.reach = self.reach(query.reach);
+        listing.query.stand = self.stand(lists, listing.query.stand);
+        listing.query.reach = self.reach(listing.query.reach);
+        listing.ceiling = self.ceiling(listing.ceiling);
+        let Listing { query, ceiling } = listing;
+        let exceeds = |count: u64| ceiling.is_some_and(|most| count > most);
+        let hand_up_to = |rows: &[Row], crossings: u64, table: &mut [u16]| {
+            if exceeds(crossings) {
+                table.copy_from_slice(&before);
+                return refused(19);
+            }
+            hand_back(rows, crossings, &before, table)
+        };
         let is_short = table.len() < ROW * (lists.corners.len() / 2);
         let found = found_by(self.0, lists, query.setting, query.stand);
         if let Some((q, place)) = found.filter(|_| !is_wrong(query.reach)) {
@@ -280,16 +308,16 @@ impl Calls for Faulty {
                 return refused(11);
             }
             let (rows, crossings) = expand_from(lists, query, q, place, self.0);
-            return hand_back(&rows, crossings, &before, table);
+            return hand_up_to(&rows, crossings, table);
         }
-        let mut reply = Paper.list(lists, query, table);
+        let mut reply = Paper.list(lists, listing, table);
         match self.0 {
             RefusalClearsTable if reply.number != 0 => table.fill(0),
             RoomIsAskedForRowsOnly if reply.number == 11 => {
                 let mut long = vec![0; ROW * lists.corners.len() / 2];
-                let full = Paper.list(lists, query, &mut long);
+                let full = Paper.list(lists, listing, &mut long);
                 let asked = ROW * full.values[0] as usize;
-                if asked <= table.len() {
+                if full.number == 0 && asked <= table.len() {
                     table[..asked].copy_from_slice(&long[..asked]);
                     return full;
                 }
@@ -297,7 +325,7 @@ impl Calls for Faulty {
             RoomIsThreeNumbersACorner if reply.number == 11 => {
                 if table.len() >= 3 * (lists.corners.len() / 2) {
                     let (rows, crossings) = listed(lists, query);
-                    return hand_back(&rows, crossings, &before, table);
+                    return hand_up_to(&rows, crossings, table);
                 }
             }
             RoomComesBeforeStand if [8, 9, 10, 15].contains(&reply.number) && is_short => {
@@ -311,11 +339,57 @@ impl Calls for Faulty {
             }
             ReachComesAfterLine | RoomComesBeforeReach if reply.number == 15 => {
                 let unlimited = Query::without_reach(query.setting, query.stand);
+                let unlimited = unlimited.without_ceiling();
                 let other = Paper.list(lists, unlimited, &mut before.clone());
                 let is_room = other.number == 11;
                 if other.number != 0 && is_room == (self.0 == RoomComesBeforeReach) {
                     return other;
                 }
+            }
+            CeilingComesBeforeRoom if reply.number == 11 => {
+                let (_, crossings) = listed(lists, query);
+                if exceeds(crossings) {
+                    return refused(19);
+                }
+            }
+            CeilingIsExclusive | CeilingIsOfRows | LineStoodOnCountsForTheCeiling
+                if [0, 19].contains(&reply.number) =>
+            {
+                let (rows, crossings) = listed(lists, query);
+                let count = match self.0 {
+                    CeilingIsOfRows => rows.len() as u64,
+                    CeilingIsExclusive => crossings + 1,
+                    _ => {
+                        let [_, on_side, ..] = Paper.find(lists, query.setting, query.stand).values;
+                        crossings + on_side
+                    }
+                };
+                if exceeds(count) {
+                    table.copy_from_slice(&before);
+                    return refused(19);
+                }
+                return hand_back(&rows, crossings, &before, table);
+            }
+            CeilingIsForEachSide | CeilingIsForEachCell if reply.number == 19 => {
+                let floor = Floor::check(lists).expect("it passed the check");
+                let view = View::new(&floor, query).expect("the stand was found");
+                let cells = view.crossings_around();
+                let counts: Vec<u64> = match self.0 {
+                    CeilingIsForEachSide => cells.concat(),
+                    _ => cells.iter().map(|cell| cell.iter().sum()).collect(),
+                };
+                if !counts.into_iter().any(exceeds) {
+                    let (rows, crossings) = listed(lists, query);
+                    return hand_back(&rows, crossings, &before, table);
+                }
+            }
+            RowsAreLeftOverTheCeiling if reply.number == 19 => {
+                let (rows, crossings) = listed(lists, query);
+                hand_back(&rows, crossings, &before, table);
+            }
+            CrossingsAreSaidOverTheCeiling if reply.number == 19 => {
+                let (_, crossings) = listed(lists, query);
+                reply.values[1] = crossings;
             }
             _ if reply.number != 0 => {}
             NothingIsWritten => table.copy_from_slice(&before),
@@ -327,11 +401,11 @@ impl Calls for Faulty {
             RestOfTableIsCleared => table[ROW * reply.values[0] as usize..].fill(0),
             AdjacentRowsAreJoined => {
                 let rows = joined(table, reply.values[0] as usize);
-                return hand_back(&rows, reply.values[1], &before, table);
+                return hand_up_to(&rows, reply.values[1], table);
             }
             slip => {
                 if let Some((rows, crossings)) = expand(lists, query, slip) {
-                    return hand_back(&rows, crossings, &before, table);
+                    return hand_up_to(&rows, crossings, table);
                 }
             }
         }
@@ -350,6 +424,7 @@ impl Calls for Faulty {
         let (corners, count) = (lists.corners.len() / 2, stands.len() / 3);
         let mut read = self.stands(stands);
         morning.reach = self.reach(morning.reach);
+        morning.ceiling = self.ceiling(morning.ceiling);
         if self.0 == MorningKnowsNoSides {
             move_to_corners(lists, morning.setting, &mut read);
         }
@@ -376,10 +451,50 @@ impl Calls for Faulty {
                 return Left::listed(lists, morning, &read).hand_back(table, replies);
             }
             ReachIsForTheFirstStand if reply.number == 0 && count > 1 => {
-                let unlimited = Morning::without_reach(morning.setting);
+                let unlimited = Morning {
+                    reach: Reach::NotStated,
+                    ..morning
+                };
                 let first = Left::listed(lists, morning, &read[..3]);
                 let rest = Left::listed(lists, unlimited, &read[3..]);
                 return first.then(rest).hand_back(table, replies);
+            }
+            CeilingIsForTheFirstStand if reply.number == 0 && count > 1 => {
+                let ceiling = None;
+                let first = Left::listed(lists, morning, &read[..3]);
+                let rest = Left::listed(lists, Morning { ceiling, ..morning }, &read[3..]);
+                return first.then(rest).hand_back(table, replies);
+            }
+            CeilingIsSharedOut if reply.number == 0 && count > 1 => {
+                let (stands, _) = read.as_chunks::<3>();
+                let mut left = Left::listed(lists, morning, &[]);
+                for stand in stands {
+                    let [_, used, ..] = left.reply.values;
+                    let ceiling = morning.ceiling.map(|most| most - used);
+                    left = left.then(Left::listed(lists, Morning { ceiling, ..morning }, stand));
+                }
+                return left.hand_back(table, replies);
+            }
+            CeilingRefusesTheMorning
+                if reply.number == 0
+                    && replies[..3 * count].iter().step_by(3).any(|&n| n == 19) =>
+            {
+                before.hand_back(table, replies);
+                return refused(19);
+            }
+            StandOverTheCeilingHasCounts | StandOverTheCeilingLeavesItsRows
+                if reply.number == 0 =>
+            {
+                let ceiling = None;
+                let all = Left::listed(lists, Morning { ceiling, ..morning }, &read);
+                before.hand_back(table, replies);
+                let full = Left::listed(lists, morning, &read);
+                let own = full.over_the_ceiling(&all, self.0, table);
+                return Left {
+                    replies: own,
+                    ..full
+                }
+                .hand_back(table, replies);
             }
             WrongReachRefusesTheMorning
                 if reply.number == 0 && count > 0 && is_wrong(morning.reach) =>
@@ -489,13 +604,13 @@ impl Calls for Faulty {
                 reply = hand_back(&rows, reply.values[1], &before, table);
             }
             GivenListIsTrusted if reply.number == 13 => {
-                reply = Paper.list(lists, changed(door), table);
+                reply = Paper.list(lists, changed(door).without_ceiling(), table);
             }
             GivenListIsTheUnlimitedOne if [0, 13].contains(&reply.number) => {
                 let (rows, _) = listed(lists, Query::without_reach(setting, stand));
                 table.copy_from_slice(&before);
                 reply = match rows.as_flattened() == given {
-                    true => Paper.list(lists, changed(door), table),
+                    true => Paper.list(lists, changed(door).without_ceiling(), table),
                     false => refused(13),
                 };
             }
@@ -503,7 +618,7 @@ impl Calls for Faulty {
                 let (rows, _) = listed(lists, query);
                 let lines: Vec<u16> = rows.iter().flat_map(|row| row[..3].to_vec()).collect();
                 if lines == given {
-                    reply = Paper.list(lists, changed(door), table);
+                    reply = Paper.list(lists, changed(door).without_ceiling(), table);
                 }
             }
             DoorOutOfReachStays if reply.number == 0 && has_row_out_of_reach(lists, asked) => {
@@ -591,6 +706,29 @@ impl Left {
         let sums = self.reply.values.iter_mut().zip(other.reply.values);
         sums.for_each(|(sum, value)| *sum += value);
         self
+    }
+
+    /// Of a morning whose stands are listed without a ceiling in `all`: the stands' own
+    /// replies, where one over the ceiling has its counts, or has left its rows where
+    /// those of the next stand begin.
+    fn over_the_ceiling(&self, all: &Left, slip: Fault, table: &mut [u16]) -> Vec<u64> {
+        let mut replies = self.replies.clone();
+        let (own, _) = replies.as_chunks_mut::<3>();
+        let (true_own, _) = all.replies.as_chunks::<3>();
+        let (mut from, mut to) = (0, 0);
+        for (own, &[_, rows, crossings]) in own.iter_mut().zip(true_own) {
+            let length = ROW * rows as usize;
+            if own[0] == 19 && slip == StandOverTheCeilingHasCounts {
+                *own = [19, rows, crossings];
+            } else if own[0] == 19 {
+                let left = &all.table[from..from + length];
+                table[to..to + length].copy_from_slice(left);
+            } else {
+                to += length;
+            }
+            from += length;
+        }
+        replies
     }
 
     fn accepted(&self) -> usize {
@@ -683,6 +821,16 @@ impl Faulty {
                 }
             }
             _ => stand,
+        }
+    }
+
+    fn ceiling(&self, ceiling: Option<u64>) -> Option<u64> {
+        match (self.0, ceiling?) {
+            (ZeroIsNoCeiling, 0) => None,
+            (LargestCeilingWrapsRound, u64::MAX) => Some(0),
+            (CeilingHasASign, number) if number > i64::MAX as u64 => Some(0),
+            (CeilingIsCutTo32Bits, number) => Some(u64::from(number as u32)),
+            _ => ceiling,
         }
     }
 
@@ -1308,6 +1456,9 @@ fn a_mismatch_is_made_small() {
         SquareIsCutTo64Bits,
         OutOfReachLineIsCrossed,
         GivenListIsTheUnlimitedOne,
+        CeilingIsExclusive,
+        CeilingIsForEachSide,
+        CeilingIsForEachCell,
     ] {
         match mismatch(fault).trial {
             Trial::Lists(scene, _) => {
@@ -1331,6 +1482,8 @@ fn a_morning_is_made_small() {
         (MinusZeroIsNoCorner, 1),
         (ReachIsForTheFirstStand, 2),
         (WrongReachRefusesTheMorning, 1),
+        (CeilingIsSharedOut, 2),
+        (CeilingRefusesTheMorning, 1),
         (MorningIsOneShorter, MOST_STANDS),
     ] {
         match mismatch(fault).trial {

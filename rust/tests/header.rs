@@ -92,6 +92,7 @@ fn the_reply_numbers() {
         Refusal::Change,
         Refusal::Rows,
         Refusal::Reach,
+        Refusal::Ceiling,
     ];
     let expected = refusals.map(|refusal| {
         let name = format!("{refusal:?}").replace("(0)", "").to_uppercase();

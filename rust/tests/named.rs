@@ -1,28 +1,21 @@
 //! The named cases: each reply is the one the documents give, of the paper
 //! program and of the proved library, and both leave the same lent memory. No query
-//! here states a reach; `reach.rs` has those that do.
+//! here states a reach or a ceiling; `reach.rs` and `ceiling.rs` have those that do.
 
+use manopluea_compare::both::{both, FILL};
 use manopluea_compare::calls::{
-    Calls, DoorChange, Lists, Morning, Plan, Query, Reply, Stand, POINT, POLYGONS, ROW, TRIANGLES,
+    DoorChange, Lists, Morning, Plan, Query, Reply, Stand, POINT, POLYGONS, ROW, TRIANGLES,
 };
-use manopluea_compare::examples::{all, plan_q, plan_q_as_one_cell, Example};
+use manopluea_compare::examples::{
+    all, hall, one_cell, plan_q, plan_q_as_one_cell, polygons, row_of_cells, widest, Example,
+};
 use manopluea_compare::generate::{
     fullest, in_other_kind, longest_fans, most_splits, query_record,
 };
-use manopluea_compare::paper::{cut_cells, encode, Paper, WALL};
-use manopluea_compare::proved::Proved;
+use manopluea_compare::paper::{cut_cells, encode, WALL};
 
 /// The end of the coordinate range.
 const LIMIT: i32 = 536_870_912;
-
-const FILL: u8 = 0xa5;
-
-/// What both implementors answer.
-fn both<T: PartialEq + std::fmt::Debug>(ask: impl Fn(&dyn Calls) -> T) -> T {
-    let paper = ask(&Paper);
-    assert_eq!(paper, ask(&Proved), "paper program, proved library");
-    paper
-}
 
 fn find_under(plan: &Plan, setting: u64, stand: Stand) -> Reply {
     both(|calls| calls.find(plan.lists(), setting, stand))
@@ -36,8 +29,8 @@ fn find(plan: &Plan, stand: Stand) -> Reply {
 fn list(plan: &Plan, setting: u64, stand: Stand, room: usize) -> (Reply, Vec<u16>) {
     both(|calls| {
         let mut table = vec![u16::from(FILL); room];
-        let query = Query::without_reach(setting, stand);
-        (calls.list(plan.lists(), query, &mut table), table)
+        let listing = Query::without_reach(setting, stand).without_ceiling();
+        (calls.list(plan.lists(), listing, &mut table), table)
     })
 }
 
@@ -543,13 +536,6 @@ fn numbers_of_a_stand() {
     assert_eq!(find(&plan, Stand::Point(6.0, 0.0)), Reply::refused(9, 0));
 }
 
-/// A square of two cells from one end of the coordinates to the other.
-fn widest() -> Plan {
-    let mut plan = plan_q();
-    plan.corners = vec![-LIMIT, -LIMIT, LIMIT, -LIMIT, LIMIT, LIMIT, -LIMIT, LIMIT];
-    plan
-}
-
 #[test]
 fn offsets() {
     let limit = f64::from(LIMIT);
@@ -706,7 +692,7 @@ fn list_stands(plan: &Plan, setting: u64, stands: &[f64], room: [usize; 2]) -> L
     both(|calls| {
         let mut left = Left::refused(0, 0, room);
         let (table, replies) = (&mut left.table, &mut left.replies);
-        let morning = Morning::without_reach(setting);
+        let morning = Morning::under(setting);
         left.reply = calls.list_stands(plan.lists(), morning, stands, table, replies);
         left
     })
@@ -1063,24 +1049,6 @@ fn toggle(plan: &Plan, setting: u64, stand: Stand, door: usize) -> Vec<u16> {
     rows(plan, setting ^ bit, stand)
 }
 
-/// A hall whose far door, face 10, lies behind a corner of the plan: its cell is
-/// entered on the corner's right and on its left. Faces 1 and 2 are doors too.
-fn hall() -> Plan {
-    Plan {
-        corners: vec![-10, 0, 10, 0, 0, 10, 10, 20, -10, 20, 1, 30],
-        cells: [
-            [0, 1, 2, WALL, 1, 2],
-            [1, 3, 2, WALL, 3, 0],
-            [0, 2, 4, 0, 3, WALL],
-            [2, 3, 4, 1, 4, 2],
-            [4, 3, 5, 3, WALL, WALL],
-        ]
-        .concat(),
-        doors: vec![10, 1, 2],
-        kind: TRIANGLES,
-    }
-}
-
 #[test]
 fn a_door_that_fills_two_adjacent_rows() {
     let (plan, stand) = (hall(), Stand::Point(0.0, 5.0));
@@ -1166,61 +1134,6 @@ fn changes_that_are_refused() {
         ..shutting
     };
     assert_eq!(change(&plan, no_such_bit).0, Reply::refused(7, 0));
-}
-
-/// A plan of cells of 3 to 8 corners, with no doors.
-fn polygons(corners: &[[i32; 2]], cells: &[(&[u16], &[u16])]) -> Plan {
-    let numbers = |&(corners, neighbours): &(&[u16], &[u16])| {
-        [&[corners.len() as u16], corners, neighbours].concat()
-    };
-    Plan {
-        corners: corners.as_flattened().to_vec(),
-        cells: cells.iter().flat_map(numbers).collect(),
-        doors: vec![],
-        kind: POLYGONS,
-    }
-}
-
-/// One cell between walls with its corners at these spots, in this order.
-fn one_cell(spots: &[[i32; 2]]) -> Plan {
-    let numbers: Vec<u16> = (0..spots.len() as u16).collect();
-    polygons(spots, &[(&numbers, &vec![WALL; spots.len()])])
-}
-
-/// A triangle, a cell of four corners, one of eight and one of five, from west to
-/// east, with a door between each and the next. Their faces begin at 0, 3, 7 and
-/// 15; the lines between them are faces 1 and 6, 4 and 14, 10 and 19.
-fn row_of_cells() -> Plan {
-    let corners = [
-        [0, 0],
-        [10, -10],
-        [10, 10],
-        [20, -10],
-        [20, 10],
-        [30, -20],
-        [40, -20],
-        [50, -10],
-        [50, 10],
-        [40, 20],
-        [30, 20],
-        [60, -10],
-        [70, 0],
-        [60, 10],
-    ];
-    let mut plan = polygons(
-        &corners,
-        &[
-            (&[0, 1, 2], &[WALL, 1, WALL]),
-            (&[1, 3, 4, 2], &[WALL, 2, WALL, 0]),
-            (
-                &[3, 5, 6, 7, 8, 9, 10, 4],
-                &[WALL, WALL, WALL, 3, WALL, WALL, WALL, 1],
-            ),
-            (&[7, 11, 12, 13, 8], &[WALL, WALL, WALL, WALL, 2]),
-        ],
-    );
-    plan.doors = vec![1, 4, 19];
-    plan
 }
 
 #[test]

@@ -2,13 +2,16 @@
 //! program and of the proved library; and the paper program against the request's own
 //! words, by brute force, on the plans of seeded runs.
 
-use manopluea_compare::calls::{
-    Calls, DoorChange, Morning, Plan, Query, Reach, Reply, Stand, POINT, POLYGONS, TRIANGLES,
+use manopluea_compare::both::{
+    self, both, list_each, list_stands, listed, refused_as_ever, room, Listed,
 };
-use manopluea_compare::examples::{plan_q, plan_q_as_one_cell};
-use manopluea_compare::generate::{self, in_other_kind, query_record, Dice, Scene};
-use manopluea_compare::paper::{encode, Direction, Floor, Paper, Place, Row, View, WALL};
-use manopluea_compare::proved::Proved;
+use manopluea_compare::brute::{cross, dot, first_met, minus, overlap, Spot};
+use manopluea_compare::calls::{DoorChange, Morning, Plan, Query, Reach, Reply, Stand, POLYGONS};
+use manopluea_compare::examples::{
+    hall, one_cell, plan_q, plan_q_as_one_cell, row_of_cells, widest, STANDS_IN_Q,
+};
+use manopluea_compare::generate::{self, in_other_kind, query_record, Dice, Scene, OCTAGON};
+use manopluea_compare::paper::{encode, Direction, Floor, Place, Row, View, WALL};
 
 /// The end of the coordinate range.
 const LIMIT: i32 = 536_870_912;
@@ -30,15 +33,6 @@ const WRONG: [u64; 9] = [
     1 << 19,
 ];
 
-const FILL: u16 = 0xa5;
-
-/// What both implementors answer.
-fn both<T: PartialEq + std::fmt::Debug>(ask: impl Fn(&dyn Calls) -> T) -> T {
-    let paper = ask(&Paper);
-    assert_eq!(paper, ask(&Proved), "paper program, proved library");
-    paper
-}
-
 fn at(x: i32, y: i32) -> Stand {
     Stand::Point(x.into(), y.into())
 }
@@ -51,35 +45,8 @@ fn query(stand: Stand, reach: u64) -> Query {
     }
 }
 
-/// Rows and crossings, or the number of the refusal.
-type Listed = Result<(Vec<Row>, u64), u32>;
-
-/// What a call that lists made of a table of so many numbers. What is not written
-/// keeps its values, and a refusal has no place.
-fn listed(room: usize, ask: impl Fn(&dyn Calls, &mut [u16]) -> Reply) -> Listed {
-    let (reply, table) = both(|calls| {
-        let mut table = vec![FILL; room];
-        (ask(calls, &mut table), table)
-    });
-    let written = 4 * reply.values[0] as usize;
-    assert!(table[written..].iter().all(|&number| number == FILL));
-    if reply.number != 0 {
-        assert_eq!(reply, Reply::refused(reply.number, 0));
-        return Err(reply.number);
-    }
-    let (rows, _) = table[..written].as_chunks();
-    Ok((rows.to_vec(), reply.values[1]))
-}
-
-/// The numbers of a table that is just long enough.
-fn room(plan: &Plan) -> usize {
-    4 * (plan.corners.len() / 2)
-}
-
 fn list(plan: &Plan, query: Query) -> Listed {
-    listed(room(plan), |calls, table| {
-        calls.list(plan.lists(), query, table)
-    })
+    both::list(plan, query.without_ceiling())
 }
 
 fn change(plan: &Plan, asked: DoorChange<'_>) -> Listed {
@@ -143,19 +110,6 @@ fn plan_q_with_every_reach() {
     assert_eq!(unlimited, rows([0; 4]));
 }
 
-/// One cell between walls with its corners at these spots.
-fn one_cell(spots: &[[i32; 2]]) -> Plan {
-    let count = spots.len() as u16;
-    let corners: Vec<u16> = (0..count).collect();
-    let walls = vec![WALL; spots.len()];
-    Plan {
-        corners: spots.as_flattened().to_vec(),
-        cells: [vec![count], corners, walls].concat(),
-        doors: vec![],
-        kind: POLYGONS,
-    }
-}
-
 /// The fourth numbers of the rows of a plan that is one cell.
 fn marks(plan: &Plan, stand: Stand, reach: u64) -> Vec<u16> {
     let (rows, crossings) = list(plan, query(stand, reach)).expect("the stand is inside");
@@ -197,14 +151,6 @@ fn a_reach_that_is_the_distance_of_a_foot_between_whole_points() {
         (26, [0, 0, 0]),
     ] {
         assert_eq!(marks(&plan, at(4, 2), reach), expected, "{reach}");
-    }
-}
-
-/// A square of two cells from one end of the coordinates to the other.
-fn widest() -> Plan {
-    Plan {
-        corners: vec![-LIMIT, -LIMIT, LIMIT, -LIMIT, LIMIT, LIMIT, -LIMIT, LIMIT],
-        ..plan_q()
     }
 }
 
@@ -338,10 +284,10 @@ fn a_wrong_reach_goes_after_the_stand_and_before_the_line() {
         (&plan, 0, in_doorway, 15, 11),
     ] {
         let unlimited = Query::without_reach(setting, stand);
-        let ask = |query| {
+        let ask = |query: Query| {
             // A table that is one number short.
             listed(room(plan) - 1, |calls, table| {
-                calls.list(plan.lists(), query, table)
+                calls.list(plan.lists(), query.without_ceiling(), table)
             })
         };
         assert_eq!(ask(unlimited), Err(without), "{stand:?}");
@@ -472,24 +418,6 @@ fn three_numbers_a_row_are_not_the_true_list() {
     let given = &[0, 0, 1, 0, 1, 1, 2, 0, 4, 2, 3, 0, 5, 3, 0, 0];
     let shut = vec![[0, 0, 1, 0], [1, 1, 2, 0], [2, 2, 0, 0]];
     assert_eq!(change(&plan, DoorChange { given, ..asked }), Ok((shut, 0)));
-}
-
-/// A hall whose far door, face 10, lies behind a corner of the plan: its cell is
-/// entered on the corner's right and on its left. Faces 1 and 2 are doors too.
-fn hall() -> Plan {
-    Plan {
-        corners: vec![-10, 0, 10, 0, 0, 10, 10, 20, -10, 20, 1, 30],
-        cells: [
-            [0, 1, 2, WALL, 1, 2],
-            [1, 3, 2, WALL, 3, 0],
-            [0, 2, 4, 0, 3, WALL],
-            [2, 3, 4, 1, 4, 2],
-            [4, 3, 5, 3, WALL, WALL],
-        ]
-        .concat(),
-        doors: vec![10, 1, 2],
-        kind: TRIANGLES,
-    }
 }
 
 /// From (0, 5) the far door is 15 mm away. It has a row for each route, in reach or
@@ -628,41 +556,6 @@ fn reaches_in_larger_cells() {
     }
 }
 
-/// A triangle, a cell of four corners, one of eight and one of five, from west to
-/// east, with a door between each and the next: faces 1, 4 and 19, which is 10 from
-/// the other side.
-fn row_of_cells() -> Plan {
-    let corners = [
-        [0, 0],
-        [10, -10],
-        [10, 10],
-        [20, -10],
-        [20, 10],
-        [30, -20],
-        [40, -20],
-        [50, -10],
-        [50, 10],
-        [40, 20],
-        [30, 20],
-        [60, -10],
-        [70, 0],
-        [60, 10],
-    ];
-    let w = WALL;
-    Plan {
-        corners: corners.as_flattened().to_vec(),
-        cells: [
-            &[3, 0, 1, 2, w, 1, w][..],
-            &[4, 1, 3, 4, 2, w, 2, w, 0],
-            &[8, 3, 5, 6, 7, 8, 9, 10, 4, w, w, w, 3, w, w, w, 1],
-            &[5, 7, 11, 12, 13, 8, w, w, w, w, 2],
-        ]
-        .concat(),
-        doors: vec![1, 4, 19],
-        kind: POLYGONS,
-    }
-}
-
 /// The line stood on is in every reach: what is around the stand is what is around it
 /// without one.
 #[test]
@@ -719,7 +612,9 @@ fn a_table_of_four_numbers_a_corner() {
         for (room, number) in [(0, 11), (12, 11), (15, 11), (16, 0), (17, 0)] {
             let lists = plan.lists();
             for listed in [
-                listed(room, |calls, table| calls.list(lists, query, table)),
+                listed(room, |calls, table| {
+                    calls.list(lists, query.without_ceiling(), table)
+                }),
                 listed(room, |calls, table| calls.change(lists, asked, table)),
             ] {
                 assert_eq!(listed.map_or_else(|number| number, |_| 0), number, "{room}");
@@ -727,16 +622,7 @@ fn a_table_of_four_numbers_a_corner() {
         }
     }
     // As many rows as corners: a table that is just filled.
-    let octagon = one_cell(&[
-        [2, -1],
-        [2, 1],
-        [1, 2],
-        [-1, 2],
-        [-2, 1],
-        [-2, -1],
-        [-1, -2],
-        [1, -2],
-    ]);
+    let octagon = one_cell(&OCTAGON.map(|at| at.map(|number| number as i32)));
     // The slanting sides are 3 divided by the square root of 2 away, the others 2.
     for (reach, expected) in [
         (1, [1, 1, 1, 1, 1, 1, 1, 1]),
@@ -747,66 +633,29 @@ fn a_table_of_four_numbers_a_corner() {
     }
 }
 
-/// The stands' own replies, and the rows, of a morning with a table and replies that
-/// are just long enough.
-fn morning(plan: &Plan, morning: Morning, stands: &[[f64; 3]]) -> (Vec<[u64; 3]>, Vec<Row>) {
-    let (reply, table, replies) = both(|calls| {
-        let mut table = vec![FILL; room(plan) * stands.len()];
-        let mut replies = vec![u64::from(FILL); 3 * stands.len()];
-        let stands = stands.as_flattened();
-        let reply = calls.list_stands(plan.lists(), morning, stands, &mut table, &mut replies);
-        (reply, table, replies)
-    });
-    let (own, _) = replies.as_chunks();
-    let sums = [1, 2].map(|at| own.iter().map(|own: &[u64; 3]| own[at]).sum());
-    assert_eq!(reply, Reply::done(sums));
-    let (rows, _) = table.as_chunks();
-    let (rows, rest) = rows.split_at(sums[0] as usize);
-    assert_eq!(rest, vec![[FILL; 4]; rest.len()]);
-    (own.to_vec(), rows.to_vec())
-}
-
-/// Stands with each reply that they can have.
-const STANDS: [[f64; 3]; 7] = [
-    [POINT, 6.0, 3.0],
-    [POINT, 6.5, 3.0],
-    [POINT, 5.0, 5.0],
-    [POINT, 5.0, 0.0],
-    [9.0, 1.0, 1.0],
-    [POINT, 11.0, 5.0],
-    [2.0, -4.0, -7.0],
-];
-
 /// One reach serves all stands, and each is answered as it would be alone.
 #[test]
 fn one_reach_for_a_morning() {
     let plan = plan_q();
     for setting in [0, 1] {
         for reach in (1..=8).chain([MOST]).map(Reach::Stated) {
-            let all = Morning { setting, reach };
-            let (own, rows) = morning(&plan, all, &STANDS);
-            let (mut alone, mut own_alone) = (Vec::new(), Vec::new());
-            for numbers in STANDS {
-                let stand = match numbers {
-                    [POINT, x, y] => Stand::Point(x, y),
-                    [corner, dx, dy] => Stand::Offset(corner as u16, dx, dy),
-                };
-                own_alone.push(match list(&plan, all.query(stand)) {
-                    Ok((rows, crossings)) => {
-                        alone.extend(rows.clone());
-                        [0, rows.len() as u64, crossings]
-                    }
-                    Err(number) => [number.into(), 0, 0],
-                });
-            }
-            assert_eq!((own, rows), (own_alone, alone), "{reach:?}");
+            let all = Morning {
+                reach,
+                ..Morning::under(setting)
+            };
+            let (own, rows) = list_stands(&plan, all, &STANDS_IN_Q);
+            assert_eq!(
+                (own, rows),
+                list_each(&plan, all, &STANDS_IN_Q),
+                "{reach:?}"
+            );
         }
     }
     let all = Morning {
-        setting: 0,
         reach: Reach::Stated(4),
+        ..Morning::under(0)
     };
-    let (own, rows) = morning(&plan, all, &STANDS);
+    let (own, rows) = list_stands(&plan, all, &STANDS_IN_Q);
     let numbers: Vec<u64> = own.iter().map(|own| own[0]).collect();
     assert_eq!(numbers, [0, 8, 0, 9, 8, 10, 0]);
     let marks: Vec<u16> = rows.iter().map(|row| row[3]).collect();
@@ -820,32 +669,15 @@ fn a_wrong_reach_of_a_morning() {
     let plan = plan_q();
     for number in WRONG {
         let wrong = Morning {
-            setting: 0,
             reach: Reach::Stated(number),
+            ..Morning::under(0)
         };
-        let (own, rows) = morning(&plan, wrong, &STANDS);
+        let (own, rows) = list_stands(&plan, wrong, &STANDS_IN_Q);
         let numbers: Vec<u64> = own.iter().map(|own| own[0]).collect();
         assert_eq!(numbers, [15, 8, 15, 15, 8, 15, 15], "{number}");
         assert!(own.iter().all(|own| own[1..] == [0, 0]) && rows.is_empty());
-        assert_eq!(morning(&plan, wrong, &[]), (vec![], vec![]));
-        let refused = |setting, stands: &[f64], rooms: [usize; 2]| {
-            both(|calls| {
-                let morning = Morning { setting, ..wrong };
-                let (mut table, mut replies) = (vec![FILL; rooms[0]], vec![7; rooms[1]]);
-                let lists = plan.lists();
-                let reply = calls.list_stands(lists, morning, stands, &mut table, &mut replies);
-                assert!(table.iter().all(|&number| number == FILL));
-                assert!(replies.iter().all(|&number| number == 7));
-                reply.number
-            })
-        };
-        let stands = STANDS.as_flattened();
-        assert_eq!(refused(0, stands, [16 * 7 - 1, 21]), 11);
-        assert_eq!(refused(0, stands, [12 * 7, 21]), 11);
-        assert_eq!(refused(0, stands, [16 * 7, 20]), 11);
-        assert_eq!(refused(2, stands, [0, 0]), 7);
-        assert_eq!(refused(0, &stands[1..], [0, 0]), 1);
-        assert_eq!(refused(0, &[POINT; 99], [0, 0]), 2);
+        assert_eq!(list_stands(&plan, wrong, &[]), (vec![], vec![]));
+        refused_as_ever(wrong);
     }
 }
 
@@ -909,20 +741,6 @@ fn a_longer_reach_only_adds() {
 }
 
 // What follows asks the paper program alone, about the plans of seeded runs.
-
-type Spot = [i128; 2];
-
-fn minus(a: Spot, b: Spot) -> Spot {
-    [a[0] - b[0], a[1] - b[1]]
-}
-
-fn cross(a: Spot, b: Spot) -> i128 {
-    a[0] * b[1] - a[1] * b[0]
-}
-
-fn dot(a: Spot, b: Spot) -> i128 {
-    a[0] * b[0] + a[1] * b[1]
-}
 
 /// Whether no point of a line is so near to the stand, which its ends are seen from:
 /// the line then lies beyond one that is farther. That one goes through an end of it,
@@ -1073,34 +891,6 @@ fn reaches_of_every_kind_are_stated() {
     assert!(counts[0] > 2_000 && counts[7] > 3_000, "{counts:?}");
 }
 
-/// Whether two cells have a point strictly inside both: no side of either has all
-/// corners of the other on it or beyond it.
-fn overlap(a: &[[Spot; 2]], b: &[[Spot; 2]]) -> bool {
-    let parts = |a: &[[Spot; 2]], b: &[[Spot; 2]]| {
-        a.iter().any(|&[from, to]| {
-            let value = |at| cross(minus(to, from), minus(at, from));
-            b.iter().all(|&[at, _]| value(at) <= 0)
-        })
-    };
-    !parts(a, b) && !parts(b, a)
-}
-
-/// The first line that ends sight in a direction, of all the lines of a plan: none is
-/// looked for cell by cell.
-fn first_end(ends: &[(u16, [Spot; 2])], d: Spot) -> Option<u16> {
-    let mut first: Option<(i128, i128, u16)> = None;
-    for &(face, [a, b]) in ends {
-        if cross(a, d) > 0 && cross(d, b) > 0 && cross(a, b) > 0 {
-            // It is met at far/fast of the direction.
-            let (far, fast) = (cross(a, b), cross(d, minus(b, a)));
-            if first.is_none_or(|(other, pace, _)| far * pace < other * fast) {
-                first = Some((far, fast, face));
-            }
-        }
-    }
-    first.map(|(_, _, face)| face)
-}
-
 /// Demand 2 by brute force: whatever direction is taken whose ray meets no corner, one
 /// row holds it, on the first line that is wall or out of reach; its fourth number says
 /// which. In plans whose cells lie on top of each other it is where the walk ends.
@@ -1150,7 +940,7 @@ fn one_row_holds_each_direction() {
                 by_walk += 1;
                 continue;
             }
-            let first = first_end(&ends, [x, y].map(i128::from));
+            let first = first_met(&ends, [x, y].map(i128::from));
             assert_eq!(first, Some(face), "{d:?} in {scene:?}");
             match (mark, is_wall(face)) {
                 (0, _) => walls += 1,

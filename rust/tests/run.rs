@@ -18,14 +18,14 @@ fn every_reply_number_comes_up_in_every_call_that_has_it() {
     };
     for kind in [0, 1] {
         let numbers = |call: usize| came_up(tally.replies[kind][call]);
-        let up_to = |last: usize| (0..=last).chain([15]).collect::<Vec<_>>();
+        let up_to = |last: usize, then: &[usize]| [(0..=last).collect(), then.to_vec()].concat();
         assert_eq!(numbers(0), [0, 1, 2, 3, 4, 5, 6], "check");
         assert_eq!(numbers(1), [0, 1, 2, 3, 4, 5, 6, 11], "read");
         assert_eq!(numbers(2), [0, 1, 2, 3, 4, 5, 6, 11], "write");
         assert_eq!(numbers(3), (0..=10).collect::<Vec<_>>(), "find");
-        assert_eq!(numbers(4), up_to(11), "list");
+        assert_eq!(numbers(4), up_to(11, &[15, 19]), "list");
         assert_eq!(numbers(5), [0, 1, 2, 3, 4, 5, 6, 7, 11], "stands");
-        assert_eq!(numbers(6), up_to(13), "change");
+        assert_eq!(numbers(6), up_to(13, &[15]), "change");
         assert_eq!(numbers(7), (0..=10).collect::<Vec<_>>(), "print");
     }
     // Any other kind is a fault of the frame, in every call that takes lists.
@@ -49,6 +49,12 @@ fn every_reply_number_comes_up_in_every_call_that_has_it() {
         reaches.longer > 1_000 && reaches.further > 500,
         "{reaches:?}"
     );
+    let of = tally.ceilings;
+    assert!(of.stated > 6_000, "{of:?}");
+    let of_listings = [of.equal, of.one_more, of.one_fewer, of.without_room];
+    let in_parts = [of.by_sides, of.by_cells, of.between, of.in_all];
+    let mut ties = of_listings.iter().chain(&in_parts);
+    assert!(ties.all(|&count| count > 20), "{of:?}");
 }
 
 /// At the first place of a morning, at those between, and at the last.
@@ -58,7 +64,7 @@ fn every_reply_of_a_stand_comes_up_at_every_place() {
         let numbers = (0..NUMBERS).filter(|&number| replies[number] > 20);
         assert_eq!(
             numbers.collect::<Vec<usize>>(),
-            [0, 8, 9, 10, 15],
+            [0, 8, 9, 10, 15, 19],
             "{replies:?}"
         );
     }

@@ -2,7 +2,7 @@
 use mathlib.Core.Bool.{Bool, true, false, _||_}
 use mathlib.Core.List.{List}
 use mathlib.Core.Path.{_≡_, refl, ap, ap₂, sym, subst, _∙_}
-use Prim.Native.Nat.{ℕ, zero, suc, _+_, _*_, _-_, _^_, _<_, _≤_}
+use Prim.Native.Nat.{ℕ, zero, suc, _+_, _*_, _-_, _<_, _≤_}
 use native.Mathlib.Numerals.{add-one, sub-one}
 use native.Mathlib.Omega.{arith}
 use borrow.Author.Tests.{eqb-false}
@@ -25,7 +25,7 @@ use Rattle.fan.specs.Sight.Sight.{row, pass, both, cut}
 use Rattle.fan.specs.Sight.Whole.{whole-row, whole-pass, whole-both}
 use Rattle.expand.specs.Floor.{seen-at, placed}
 use Rattle.expand.specs.Narrows.{Narrows}
-use Rattle.expand.specs.Remains.{Remains}
+use Rattle.expand.specs.Remains.{Remains, Follows}
 use Rattle.fan.proofs.Trees.{follow-a-wall, follow-too-far, follow-across, fan-last, fan-both, fan-skips, fan-ends, four-numbers-a-row}
 
 -- ---- where sight ends
@@ -115,7 +115,7 @@ module _ (F : Floor) (n e r l : ℕ) where
 -- ---- the room that a tree's rows take in a table of n numbers, from `at` on
 
 abbrev pub Room : ℕ → ℕ → Sight → Type 0
-Room at n t = Whole t × ((at + 4 * row-count t ≤ n) × (crossings t < 2 ^ 63))
+Room at n t = Whole t × (at + 4 * row-count t ≤ n)
 
 whole-beyond : {f r l : ℕ} {t : Sight} → Whole (pass f r l t) → Whole t
 whole-beyond (whole-pass w) = w
@@ -126,83 +126,119 @@ whole-halves (whole-both w x) = (w, x)
 module _ (at n : ℕ) {s : Sight} where
   pub room-for-a-row : {f r l k : ℕ} → s ≡ row f r l k → Room at n s → at + 4 ≤ n
   unfolding row-count
-  room-for-a-row e h = subst (Room at n) e h .1 .0
+  room-for-a-row e h = subst (Room at n) e h .1
 
   pub room-for-the-first : {t u : Sight} → s ≡ both t u → Room at n s → Room at n t
-  unfolding row-count crossings
-  room-for-the-first {t} {u} e h =
-      let j : Whole (both t u) × ((at + 4 * (row-count t + row-count u) ≤ n) × (crossings t + crossings u < 2 ^ 63)) = subst (Room at n) e h in
-      (whole-halves (j .0) .0, (omega (arith, j .1 .0), omega (arith, j .1 .1)))
+  unfolding row-count
+  room-for-the-first {t} {u} e h = let j : Whole (both t u) × (at + 4 * (row-count t + row-count u) ≤ n) = subst (Room at n) e h in (whole-halves (j .0) .0, omega (arith, j .1))
 
--- ---- what is written
+-- ---- what is followed
 
--- the table `new` is the table `old` with the tree's rows, k of them, from `at` on, and the tree has m crossings
-abbrev pub Written : List ℕ → List ℕ → ℕ → ℕ → ℕ → Sight → Type 0
-Written old new at k m t = (k ≡ row-count t) × ((m ≡ crossings t) × (new ≡ sets old at (numbers t)))
-
-pub row-written : (old : List ℕ) (at : ℕ) {f r l k : ℕ} {s : Sight} → s ≡ row f r l k → Written old (set (set (set (set old at f) (at + 1) r) (at + 2) l) (at + 3) k) at 1 0 s
+pub row-follows : (old : List ℕ) (at left : ℕ) {f r l k : ℕ} {s : Sight} → s ≡ row f r l k → Follows old at left s (set (set (set (set old at f) (at + 1) r) (at + 2) l) (at + 3) k) 1 left
 unfolding numbers row-count crossings
-row-written old at {f} {r} {l} {k} e =
+row-follows old at left {f} {r} {l} {k} e =
     let d₂ : at + 2 ≡ suc (suc at) = omega arith in
     let d₃ : at + 3 ≡ suc (suc (suc at)) = omega arith in
-    subst (Written old (set (set (set (set old at f) (at + 1) r) (at + 2) l) (at + 3) k) at 1 0) (sym e) (refl, (refl, rw (add-one, d₂, d₃)))
+    subst (λ (s : Sight). Follows old at left s (set (set (set (set old at f) (at + 1) r) (at + 2) l) (at + 3) k) 1 left) (sym e) (record { passages = omega arith; no-more = omega arith; rows = λ i. refl; same = λ i. rw (add-one, d₂, d₃) })
+
+-- of two lines the first takes all passages
+pub ends-in-the-first : {old new : List ℕ} {at left i j : ℕ} {t a b : Sight} → t ≡ both a b → Follows old at left a new i j → j ≡ 0 → Follows old at left t new i j
+unfolding row-count crossings
+ends-in-the-first {t = t} {a} {b} e w z =
+    let c : crossings t ≡ crossings a + crossings b = ap crossings e in
+    let r : row-count t ≡ row-count a + row-count b = ap row-count e in
+    record {
+      passages = omega (arith, c, w .passages, z);
+      no-more = omega (arith, r, w .no-more);
+      rows = λ some. absurd (omega (arith, some, z));
+      same = λ some. absurd (omega (arith, some, z));
+    }
 
 -- ---- what remains to be followed
 
-pub all-remains : (old : List ℕ) (at : ℕ) (t : Sight) (p : ℕ) → p ≡ at → Whole t → Remains old at t old p 0 0 t
-all-remains old at t p d w =
+pub all-remains : (old : List ℕ) (at left : ℕ) (t : Sight) (p : ℕ) → p ≡ at → Whole t → Remains old at left t old p 0 left t
+all-remains old at left t p d w =
     record { whole = w; same-length = refl; from = omega (arith, d); rows = omega arith; passages = omega arith; same = ap (λ (i : ℕ). sets old i (numbers t)) d }
 
-module _ (old : List ℕ) (at : ℕ) (t : Sight) (new : List ℕ) (p k m : ℕ) {u : Sight} (h : Remains old at t new p k m u) where
+module _ (old : List ℕ) (at left : ℕ) (t : Sight) (new : List ℕ) (p k n : ℕ) {u : Sight} (h : Remains old at left t new p k n u) where
   -- a line is passed
-  pub beyond-remains : {f r l : ℕ} {s : Sight} → u ≡ pass f r l s → Remains old at t new p k (m + 1) s
+  pub beyond-remains : {f r l : ℕ} {s : Sight} → u ≡ pass f r l s → 0 < n → Remains old at left t new p k (n - 1) s
   unfolding numbers row-count crossings
-  beyond-remains {s = s} e =
-      let j = subst (Remains old at t new p k m) e h in
+  beyond-remains {s = s} e i =
+      let j = subst (Remains old at left t new p k n) e h in
       record {
         whole = whole-beyond (j .whole);
         same-length = j .same-length;
         from = j .from;
         rows = j .rows;
-        passages = let q : crossings t ≡ m + (crossings s + 1) = j .passages in omega (arith, q);
+        passages = let q : crossings t + n ≡ left + (crossings s + 1) = j .passages in omega (arith, q);
         same = j .same;
       }
 
   -- of what remains, some is followed
-  pub less-remains : {newer : List ℕ} {o i j q x y : ℕ} {s : Sight} → Remains new p u newer o i j s → x ≡ k + i → y ≡ m + j → q ≡ at + 4 * x → Remains old at t newer q x y s
-  less-remains {newer} {o} {q = q} {s = s} g c d f =
+  pub less-remains : {newer : List ℕ} {o i j q x : ℕ} {s : Sight} → Remains new p n u newer o i j s → x ≡ k + i → q ≡ at + 4 * x → Remains old at left t newer q x j s
+  less-remains {newer} {o} {q = q} {s = s} g c f =
       let from-there : q ≡ o = omega (arith, c, f, g .from, h .from) in
       record {
         whole = g .whole;
         same-length = g .same-length ∙ h .same-length;
         from = f;
         rows = omega (arith, c, g .rows, h .rows);
-        passages = omega (arith, d, g .passages, h .passages);
+        passages = omega (arith, g .passages, h .passages);
         same = ap (λ (i : ℕ). sets newer i (numbers s)) from-there ∙ g .same ∙ h .same;
       }
 
   -- the first of two lines is followed to its rows
   pub second-remains :
-      {a b : Sight} {newer : List ℕ} {i j q x y : ℕ} → u ≡ both a b → Written new newer p i j a → length newer ≡ length new → x ≡ k + i → y ≡ m + j → q ≡ at + 4 * x → Remains old at t newer q x y b
+      {a b : Sight} {newer : List ℕ} {i j q x : ℕ} → u ≡ both a b → Follows new p n a newer i j → 0 < j → length newer ≡ length new → x ≡ k + i → q ≡ at + 4 * x → Remains old at left t newer q x j b
   unfolding numbers row-count crossings
-  second-remains {a} {b} {newer} {i} {j} {q} e w n c d f =
-      let g = subst (Remains old at t new p k m) e h in
-      let behind : q ≡ p + length (numbers a) = omega (arith, c, f, g .from, w .0, four-numbers-a-row a) in
+  second-remains {a} {b} {newer} {i} {j} {q} e w some same-length c f =
+      let g = subst (Remains old at left t new p k n) e h in
+      let count : i ≡ row-count a = w .rows some in
+      let behind : q ≡ p + length (numbers a) = omega (arith, c, f, g .from, count, four-numbers-a-row a) in
       record {
         whole = whole-halves (g .whole) .1;
-        same-length = n ∙ g .same-length;
+        same-length = same-length ∙ g .same-length;
         from = f;
-        rows = let v : row-count t ≡ k + (row-count a + row-count b) = g .rows in omega (arith, c, v, w .0);
-        passages = let v : crossings t ≡ m + (crossings a + crossings b) = g .passages in omega (arith, d, v, w .1 .0);
-        same = ap₂ (λ (o : List ℕ) (i : ℕ). sets o i (numbers b)) (w .1 .1) behind ∙ sets-append new p (numbers a) (numbers b) ∙ g .same;
+        rows = let v : row-count t ≡ k + (row-count a + row-count b) = g .rows in omega (arith, c, v, count);
+        passages = let v : crossings t + n ≡ left + (crossings a + crossings b) = g .passages in omega (arith, v, w .passages, some);
+        same = ap₂ (λ (o : List ℕ) (i : ℕ). sets o i (numbers b)) (w .same some) behind ∙ sets-append new p (numbers a) (numbers b) ∙ g .same;
       }
 
-  -- what remains is followed to its rows
-  pub none-remains : {newer : List ℕ} {i j x y : ℕ} → Written new newer p i j u → x ≡ k + i → y ≡ m + j → Written old newer at x y t
-  none-remains w d e = (omega (arith, d, h .rows, w .0), (omega (arith, e, h .passages, w .1 .0), w .1 .1 ∙ h .same))
+  -- what remains is followed
+  pub none-remains : {newer : List ℕ} {i j x : ℕ} → Follows new p n u newer i j → x ≡ k + i → Follows old at left t newer x j
+  none-remains w d =
+      record {
+        passages = omega (arith, h .passages, w .passages);
+        no-more = omega (arith, d, h .rows, w .no-more);
+        rows = λ i. omega (arith, d, h .rows, w .rows i);
+        same = λ i. w .same i ∙ h .same;
+      }
 
   -- what remains has room
-  pub room-remains : Room at (length old) t → Room p (length new) u × (m + crossings u < 2 ^ 63)
-  room-remains r =
-      let few : m + crossings u < 2 ^ 63 = omega (arith, r .1 .1, h .passages) in
-      ((h .whole, (omega (arith, r .1 .0, h .from, h .rows, h .same-length), omega arith)), few)
+  pub room-remains : Room at (length old) t → Room p (length new) u
+  room-remains r = (h .whole, omega (arith, r .1, h .from, h .rows, h .same-length))
+
+  -- ---- following ends where no passage is left
+
+  -- the last that was left is taken
+  pub last-is-taken : {f r l : ℕ} {s : Sight} → u ≡ pass f r l s → n - 1 ≡ 0 → n ≤ crossings u
+  unfolding crossings
+  last-is-taken {s = s} e z = let c : crossings u ≡ crossings s + 1 = ap crossings e in omega (arith, c, z)
+
+  -- the first of two lines takes all
+  pub first-takes-all : {a b : Sight} {newer : List ℕ} {i j : ℕ} → u ≡ both a b → Follows new p n a newer i j → j ≡ 0 → n ≤ crossings u
+  unfolding crossings
+  first-takes-all {a} {b} e w z = let c : crossings u ≡ crossings a + crossings b = ap crossings e in omega (arith, c, w .passages, z)
+
+  pub all-is-taken : n ≤ crossings u → left ≤ crossings t
+  all-is-taken i = omega (arith, i, h .passages)
+
+  pub ends-there : n ≤ crossings u → {newer : List ℕ} → Follows old at left t newer k 0
+  ends-there i =
+      record {
+        passages = omega (arith, i, h .passages);
+        no-more = omega (arith, h .rows);
+        rows = λ z. absurd (omega (arith, z));
+        same = λ z. absurd (omega (arith, z));
+      }

@@ -2,5 +2,5 @@
 pub mod Floor
 -- where handing on begins
 pub mod Narrows
--- what remains to be followed
+-- what remains to be followed, and what is followed
 pub mod Remains

@@ -1,30 +1,30 @@
 // The pair: crossing a line enters a cell, and a cell hands on lines; each line handed on is followed to its rows before the next is taken. The last line of
-// a cell is gone on with in a loop, so that the stack grows only by the others. A line out of reach is not crossed (document 02, A5).
+// a cell is gone on with in a loop, so that the stack grows only by the others. A line out of reach is not crossed (document 02, A5). Each passage takes one of
+// those that are left, and where none is left following ends at once (A13).
 // `seen` has two numbers a corner: x and y, less the stand's. `lines` has four numbers a face: the corner at which it ends; the face on its other side, or
 // wall; how many sides of its cell follow the next one before it comes round again; and the next side of its cell. `faces` has two numbers a face, first the
 // corner at which it starts. `reach` is in millimetres, 0 where it is unlimited.
-ghost use Prim.Native.Nat.{ℕ, _+_, _*_, _/_, _^_, _<_, _≤_};
+ghost use Prim.Native.Nat.{ℕ, _+_, _*_, _/_, _<_, _≤_};
 ghost use mathlib.Core.Bool.{_||_};
 ghost use mathlib.Core.List.{List};
 ghost use mathlib.Core.Path.{_≡_};
 ghost use lib.Dec.{eqb};
 ghost use lib.ListN.{length, getD};
-ghost use lib.Seq.{sets};
 ghost use Rattle.plane.specs.Cone.{cross as Cone·cross};
 ghost use Rattle.limits.specs.Limits.{most-reach, wall};
 ghost use Rattle.reach.specs.Reach.{far as Reach·far};
-ghost use Rattle.fan.specs.Sight.{fan, follow, numbers, row-count, crossings, Whole};
+ghost use Rattle.fan.specs.Sight.{fan, follow, row-count, crossings, Whole};
 ghost use Rattle.expand.specs.Floor.{seen-at, placed, Near, floor-of, Lines, Starts};
 ghost use Rattle.expand.specs.Narrows.{Narrows, Splits};
-ghost use Rattle.expand.specs.Remains.{Remains};
+ghost use Rattle.expand.specs.Remains.{Remains, Follows};
 use cells::corner;
 use limits::Plan;
 use reach::is_in_reach;
 
-// How many rows were written and how many free lines were passed.
-pub struct Counts {
+// How many rows were written, and how many passages are left; where none is, following has ended before the last row.
+pub struct Followed {
     pub rows: usize,
-    pub crossings: usize,
+    pub left: usize,
 }
 
 // The cross product of two corners seen from the stand: positive where the second is left of the first.
@@ -101,7 +101,8 @@ fn is_end(across: u16, mark: u16) -> bool
     mark == 1
 }
 
-// Follows the line of face f with limits r and l to its rows, which go to the table from `at` on; `unentered` is how many cells are not yet entered.
+// Follows the line of face f with limits r and l to its rows, which go to the table from `at` on; `unentered` is how many cells are not yet entered, and
+// `left` how many free lines may be passed before following ends.
 pub fn cross(
     seen: &[i32],
     lines: &[u16],
@@ -113,21 +114,19 @@ pub fn cross(
     l: u16,
     at: usize,
     unentered: usize,
-) -> Counts
+    left: usize,
+) -> Followed
     requires { ⌜ Lines (now seen) (now lines) × Starts (now seen) (now lines) (now faces) × (reach ≤ most-reach) ⌝ }
-    requires { ⌜ (4 * f + 3 < length (now lines)) × (r < length (now seen) / 2) × (l < length (now seen) / 2) ⌝ }
+    requires { ⌜ (4 * f + 3 < length (now lines)) × (r < length (now seen) / 2) × (l < length (now seen) / 2) × (0 < left) ⌝ }
     requires { ⌜ Whole (follow (floor-of (now seen) (now lines) (now faces) reach) unentered f r l) ⌝ }
     requires { ⌜ at + 4 * row-count (follow (floor-of (now seen) (now lines) (now faces) reach) unentered f r l) ≤ length (now table) ⌝ }
-    requires { ⌜ crossings (follow (floor-of (now seen) (now lines) (now faces) reach) unentered f r l) < 2 ^ 63 ⌝ }
-    ensures { λ c. ⌜ c .rows ≡ row-count (follow (floor-of (now (seen .entry)) (now (lines .entry)) (now (faces .entry)) reach) unentered f r l) ⌝ }
-    ensures { λ c. ⌜ c .crossings ≡ crossings (follow (floor-of (now (seen .entry)) (now (lines .entry)) (now (faces .entry)) reach) unentered f r l) ⌝ }
-    ensures { λ c. ⌜ now (table .exit) ≡ sets (now (table .entry)) at (numbers (follow (floor-of (now (seen .entry)) (now (lines .entry)) (now (faces .entry)) reach) unentered f r l)) ⌝ }
+    ensures { λ c. ⌜ Follows (now (table .entry)) at left (follow (floor-of (now (seen .entry)) (now (lines .entry)) (now (faces .entry)) reach) unentered f r l) (now (table .exit)) (c .rows) (c .left) ⌝ }
 {
     let mut face = f;
     let mut right = r;
     let mut cells = unentered;
     let mut rows = 0;
-    let mut crossings = 0;
+    let mut passages = left;
     loop {
         let end = at + 4 * rows;
         let across = lines[4 * face + 1];
@@ -139,13 +138,16 @@ pub fn cross(
             table[end + 1] = right;
             table[end + 2] = l;
             table[end + 3] = mark;
-            return Counts {
+            return Followed {
                 rows: rows + 1,
-                crossings,
+                left: passages,
             };
         }
         cells -= 1;
-        crossings += 1;
+        passages -= 1;
+        if passages == 0 {
+            return Followed { rows, left: 0 };
+        }
         let g = 4 * (across as usize);
         let more = lines[g + 2] as usize;
         let e = lines[g + 3] as usize;
@@ -161,19 +163,23 @@ pub fn cross(
             l,
             end,
             cells,
+            passages,
         );
+        if handed.left == 0 {
+            return Followed { rows, left: 0 };
+        }
         rows += handed.rows;
-        crossings += handed.crossings;
+        passages = handed.left;
         face = handed.last;
         right = handed.right;
     }
 }
 
-// What was handed on of a cell but for its last line: how many rows were written and how many free lines were passed; the last line, and the right limit
-// that is left for it.
+// What was handed on of a cell but for its last line: how many rows were written and how many passages are left; the last line, and the right limit that is
+// left for it.
 struct Handed {
     rows: usize,
-    crossings: usize,
+    left: usize,
     last: usize,
     right: u16,
 }
@@ -191,27 +197,28 @@ fn hand_on(
     l: u16,
     at: usize,
     unentered: usize,
+    left: usize,
 ) -> Handed
     requires { ⌜ Lines (now seen) (now lines) × Starts (now seen) (now lines) (now faces) × (reach ≤ most-reach) ⌝ }
-    requires { ⌜ (4 * e + 3 < length (now lines)) × (r < length (now seen) / 2) × (l < length (now seen) / 2) ⌝ }
+    requires { ⌜ (4 * e + 3 < length (now lines)) × (r < length (now seen) / 2) × (l < length (now seen) / 2) × (0 < left) ⌝ }
     requires { ⌜ Whole (fan (floor-of (now seen) (now lines) (now faces) reach) (follow (floor-of (now seen) (now lines) (now faces) reach) unentered) more e r l) ⌝ }
     requires { ⌜ at + 4 * row-count (fan (floor-of (now seen) (now lines) (now faces) reach) (follow (floor-of (now seen) (now lines) (now faces) reach) unentered) more e r l) ≤ length (now table) ⌝ }
-    requires { ⌜ crossings (fan (floor-of (now seen) (now lines) (now faces) reach) (follow (floor-of (now seen) (now lines) (now faces) reach) unentered) more e r l) < 2 ^ 63 ⌝ }
-    ensures { λ h. ⌜ Remains (now (table .entry)) at (fan (floor-of (now (seen .entry)) (now (lines .entry)) (now (faces .entry)) reach) (follow (floor-of (now (seen .entry)) (now (lines .entry)) (now (faces .entry)) reach) unentered) more e r l) (now (table .exit)) (at + 4 * h .rows) (h .rows) (h .crossings) (follow (floor-of (now (seen .entry)) (now (lines .entry)) (now (faces .entry)) reach) unentered (h .last) (h .right) l) ⌝ }
+    ensures { λ h. ⌜ (h .left ≡ 0 → left ≤ crossings (fan (floor-of (now (seen .entry)) (now (lines .entry)) (now (faces .entry)) reach) (follow (floor-of (now (seen .entry)) (now (lines .entry)) (now (faces .entry)) reach) unentered) more e r l)) ⌝ }
+    ensures { λ h. ⌜ (0 < h .left → Remains (now (table .entry)) at left (fan (floor-of (now (seen .entry)) (now (lines .entry)) (now (faces .entry)) reach) (follow (floor-of (now (seen .entry)) (now (lines .entry)) (now (faces .entry)) reach) unentered) more e r l) (now (table .exit)) (at + 4 * h .rows) (h .rows) (h .left) (follow (floor-of (now (seen .entry)) (now (lines .entry)) (now (faces .entry)) reach) unentered (h .last) (h .right) l)) ⌝ }
     ensures { λ h. ⌜ (4 * h .last + 3 < length (now (lines .entry))) × (h .right < length (now (seen .entry)) / 2) ⌝ }
 {
     let mut side = e;
     let mut after = more;
     let mut right = r;
     let mut rows = 0;
-    let mut crossings = 0;
+    let mut passages = left;
     loop {
         let sides = narrow(seen, lines, side, after, right, l);
         let here = sides.side;
         if sides.more == 0 {
             return Handed {
                 rows,
-                crossings,
+                left: passages,
                 last: here,
                 right,
             };
@@ -228,9 +235,18 @@ fn hand_on(
             v,
             at + 4 * rows,
             unentered,
+            passages,
         );
+        if one.left == 0 {
+            return Handed {
+                rows,
+                left: 0,
+                last: here,
+                right,
+            };
+        }
         rows += one.rows;
-        crossings += one.crossings;
+        passages = one.left;
         side = lines[4 * here + 3] as usize;
         after = sides.more - 1;
         right = v;

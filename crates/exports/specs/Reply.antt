@@ -13,6 +13,8 @@ use Rattle.reach.specs.declared.Reach.{Reach}
 use Rattle.reach.specs.declared.Reach.the-variants.{NotStated, Stated}
 use Rattle.stand.specs.declared.spot.Stand.{Stand}
 use Rattle.sight.specs.declared.view.Query.{Query}
+use Rattle.sight.specs.declared.ceiling.Ceiling.{Ceiling}
+use Rattle.sight.specs.declared.ceiling.Ceiling.the-variants as C
 use Rattle.stands.specs.Numbered.{stands-of}
 use Rattle.manopluea.specs.Calls.{check-replies, read-replies, write-replies, find-replies, list-replies, change-replies, list-stands-replies}
 use Rattle.printing.specs.Reply.{print-replies}
@@ -64,14 +66,19 @@ abbrev pub reach-of : Bool → ℕ → Reach
 reach-of true n = Stated n
 reach-of false n = NotStated
 
+-- a ceiling likewise
+abbrev pub ceiling-of : Bool → ℕ → Ceiling
+ceiling-of true n = C.Stated n
+ceiling-of false n = C.NotStated
+
 -- what is asked: setting, stand, whether a reach is stated, and which
 abbrev pub query : ℕ → Stand → Bool → ℕ → Query
 query w s stated n = record { setting = w; stand = s; reach = reach-of stated n }
 
-unfoldable pub list-left : ℕ → List ℤ → List ℕ → List ℕ → ℕ → Stand → Bool → ℕ → List ℕ → List ℕ → List ℕ × List ℕ
-list-left kind cs ts ds w s stated n table reply = (
-  left (has-seven reply) table (list-replies kind cs ts ds (query w s stated n) table .1),
-  replied (has-seven reply) reply (numbers-of (list-replies kind cs ts ds (query w s stated n) table .0)),
+unfoldable pub list-left : ℕ → List ℤ → List ℕ → List ℕ → ℕ → Stand → Bool → ℕ → Bool → ℕ → List ℕ → List ℕ → List ℕ × List ℕ
+list-left kind cs ts ds w s stated n limited m table reply = (
+  left (has-seven reply) table (list-replies kind cs ts ds (query w s stated n) (ceiling-of limited m) table .1),
+  replied (has-seven reply) reply (numbers-of (list-replies kind cs ts ds (query w s stated n) (ceiling-of limited m) table .0)),
 )
 
 unfoldable pub change-left : ℕ → List ℤ → List ℕ → List ℕ → ℕ → Stand → Bool → ℕ → List ℕ → ℕ → Bool → List ℕ → List ℕ → List ℕ × List ℕ
@@ -81,14 +88,14 @@ change-left kind cs ts ds w s stated n given i b table reply = (
 )
 
 -- several stands as a list of numbers, three a stand; a list that is not of three numbers each is FRAME
-abbrev pub numbered-replies : Bool → ℕ → List ℤ → List ℕ → List ℕ → ℕ → List Float → Reach → List ℕ → List ℕ → Reply × (List ℕ × List ℕ)
-numbered-replies true kind cs ts ds w ns reach table replies =
-    list-stands-replies kind cs ts ds (record { setting = w; count = length ns / 3; reach = reach }) (stands-of ns) table replies
-numbered-replies false kind cs ts ds w ns reach table replies = (refused Frame, (table, replies))
+abbrev pub numbered-replies : Bool → ℕ → List ℤ → List ℕ → List ℕ → ℕ → List Float → Reach → Ceiling → List ℕ → List ℕ → Reply × (List ℕ × List ℕ)
+numbered-replies true kind cs ts ds w ns reach ceiling table replies =
+    list-stands-replies kind cs ts ds (record { setting = w; count = length ns / 3; reach = reach; ceiling = ceiling }) (stands-of ns) table replies
+numbered-replies false kind cs ts ds w ns reach ceiling table replies = (refused Frame, (table, replies))
 
-unfoldable pub list-stands-left : ℕ → List ℤ → List ℕ → List ℕ → ℕ → List Float → Bool → ℕ → List ℕ → List ℕ → List ℕ → (List ℕ × List ℕ) × List ℕ
-list-stands-left kind cs ts ds w ns stated n table replies reply =
-    let said = numbered-replies (eqb (length ns % 3) 0) kind cs ts ds w ns (reach-of stated n) table replies in
+unfoldable pub list-stands-left : ℕ → List ℤ → List ℕ → List ℕ → ℕ → List Float → Bool → ℕ → Bool → ℕ → List ℕ → List ℕ → List ℕ → (List ℕ × List ℕ) × List ℕ
+list-stands-left kind cs ts ds w ns stated n limited m table replies reply =
+    let said = numbered-replies (eqb (length ns % 3) 0) kind cs ts ds w ns (reach-of stated n) (ceiling-of limited m) table replies in
     (left (has-seven reply) (table, replies) (said .1), replied (has-seven reply) reply (numbers-of (said .0)))
 
 unfoldable pub print-left : List ℕ → List ℕ → List ℕ → List ℕ × List ℕ

@@ -3,8 +3,10 @@
 // include/manopluea.h has the promise of each function in words, specs/Reply.antt what each leaves as a function of the input.
 ghost use mathlib.Core.Path.{_≡_};
 ghost use Rattle.stand.specs.declared.spot.Stand.the-variants.{Point, Offset};
-ghost use Rattle.exports.specs.Reply.{reach-of, check-left, read-left, write-left, find-left, list-left, change-left, list-stands-left, print-left};
+ghost use Rattle.exports.specs.Reply.{reach-of, ceiling-of, check-left, read-left, write-left, find-left, list-left, change-left, list-stands-left, print-left};
+use manopluea::Ceiling;
 use manopluea::Listed;
+use manopluea::Listing;
 use manopluea::Morning;
 use manopluea::Query;
 use manopluea::Reach;
@@ -136,6 +138,16 @@ fn reach_of(stated: bool, reach: u64) -> Reach
     Reach::NotStated
 }
 
+// A ceiling likewise.
+fn ceiling_of(limited: bool, ceiling: u64) -> Ceiling
+    ensures { λ r. ⌜ r ≡ ceiling-of limited ceiling ⌝ }
+{
+    if limited {
+        return Ceiling::Stated(ceiling);
+    }
+    Ceiling::NotStated
+}
+
 // The listing from a point; the values are row count and crossings.
 #[no_mangle]
 pub extern "C" fn manopluea_list_point(
@@ -148,10 +160,12 @@ pub extern "C" fn manopluea_list_point(
     y: f64,
     stated: bool,
     reach: u64,
+    limited: bool,
+    ceiling: u64,
     table: &mut [u16],
     reply: &mut [u64],
 )
-    ensures { λ _. ⌜ (now (table .exit), now (reply .exit)) ≡ list-left kind (now (corners .entry)) (now (cells .entry)) (now (doors .entry)) setting (Point x y) stated reach (now (table .entry)) (now (reply .entry)) ⌝ }
+    ensures { λ _. ⌜ (now (table .exit), now (reply .exit)) ≡ list-left kind (now (corners .entry)) (now (cells .entry)) (now (doors .entry)) setting (Point x y) stated reach limited ceiling (now (table .entry)) (now (reply .entry)) ⌝ }
 {
     if reply.len() < 7 {
         return;
@@ -161,10 +175,13 @@ pub extern "C" fn manopluea_list_point(
         cells,
         doors,
         Terms { kind },
-        Query {
-            setting,
-            stand: Stand::Point(x, y),
-            reach: reach_of(stated, reach),
+        Listing {
+            query: Query {
+                setting,
+                stand: Stand::Point(x, y),
+                reach: reach_of(stated, reach),
+            },
+            ceiling: ceiling_of(limited, ceiling),
         },
         table,
     );
@@ -184,10 +201,12 @@ pub extern "C" fn manopluea_list_offset(
     dy: f64,
     stated: bool,
     reach: u64,
+    limited: bool,
+    ceiling: u64,
     table: &mut [u16],
     reply: &mut [u64],
 )
-    ensures { λ _. ⌜ (now (table .exit), now (reply .exit)) ≡ list-left kind (now (corners .entry)) (now (cells .entry)) (now (doors .entry)) setting (Offset corner dx dy) stated reach (now (table .entry)) (now (reply .entry)) ⌝ }
+    ensures { λ _. ⌜ (now (table .exit), now (reply .exit)) ≡ list-left kind (now (corners .entry)) (now (cells .entry)) (now (doors .entry)) setting (Offset corner dx dy) stated reach limited ceiling (now (table .entry)) (now (reply .entry)) ⌝ }
 {
     if reply.len() < 7 {
         return;
@@ -197,10 +216,13 @@ pub extern "C" fn manopluea_list_offset(
         cells,
         doors,
         Terms { kind },
-        Query {
-            setting,
-            stand: Stand::Offset(corner, dx, dy),
-            reach: reach_of(stated, reach),
+        Listing {
+            query: Query {
+                setting,
+                stand: Stand::Offset(corner, dx, dy),
+                reach: reach_of(stated, reach),
+            },
+            ceiling: ceiling_of(limited, ceiling),
         },
         table,
     );
@@ -301,11 +323,13 @@ pub extern "C" fn manopluea_list_stands(
     stands: &[f64],
     stated: bool,
     reach: u64,
+    limited: bool,
+    ceiling: u64,
     table: &mut [u16],
     replies: &mut [u64],
     reply: &mut [u64],
 )
-    ensures { λ _. ⌜ ((now (table .exit), now (replies .exit)), now (reply .exit)) ≡ list-stands-left kind (now (corners .entry)) (now (cells .entry)) (now (doors .entry)) setting (now (stands .entry)) stated reach (now (table .entry)) (now (replies .entry)) (now (reply .entry)) ⌝ }
+    ensures { λ _. ⌜ ((now (table .exit), now (replies .exit)), now (reply .exit)) ≡ list-stands-left kind (now (corners .entry)) (now (cells .entry)) (now (doors .entry)) setting (now (stands .entry)) stated reach limited ceiling (now (table .entry)) (now (replies .entry)) (now (reply .entry)) ⌝ }
 {
     if reply.len() < 7 {
         return;
@@ -325,6 +349,7 @@ pub extern "C" fn manopluea_list_stands(
             setting,
             count,
             reach: reach_of(stated, reach),
+            ceiling: ceiling_of(limited, ceiling),
         },
         given,
         table,

@@ -2,7 +2,7 @@
 use mathlib.Core.List.{List, [], _∷_}
 use Prim.Native.Nat.{ℕ}
 use Rattle.limits.specs.declared.Refusal.{Refusal}
-use Rattle.limits.specs.declared.Refusal.the-variants.{Frame, Size, Corner, Cell, Neighbour, Door, Setting, Stand, Line, Outside, Room, Change, Rows, Reach}
+use Rattle.limits.specs.declared.Refusal.the-variants.{Frame, Size, Corner, Cell, Neighbour, Door, Setting, Stand, Line, Outside, Room, Change, Rows, Reach, Ceiling}
 use Rattle.limits.specs.declared.Checked.{Checked}
 use Rattle.limits.specs.declared.Checked.the-variants.{Accepted, Refused}
 
@@ -21,6 +21,7 @@ number Room = 11
 number Change = 12
 number Rows = 13
 number Reach = 15
+number Ceiling = 19
 
 abbrev pub place : Refusal → ℕ
 place Frame = 0
@@ -37,6 +38,7 @@ place Room = 0
 place Change = 0
 place Rows = 0
 place Reach = 0
+place Ceiling = 0
 
 pub record Reply : Type 0 where
   pub number : ℕ

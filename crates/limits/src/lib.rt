@@ -76,6 +76,7 @@ pub enum Refusal {
     Change,
     Rows,
     Reach,
+    Ceiling,
 }
 
 pub enum Checked {

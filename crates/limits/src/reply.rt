@@ -21,6 +21,7 @@ pub fn number(r: Refusal) -> u64
         Refusal::Change => 12,
         Refusal::Rows => 13,
         Refusal::Reach => 15,
+        Refusal::Ceiling => 19,
     }
 }
 
@@ -42,5 +43,6 @@ pub fn place(r: Refusal) -> u64
         Refusal::Change => 0,
         Refusal::Rows => 0,
         Refusal::Reach => 0,
+        Refusal::Ceiling => 0,
     }
 }

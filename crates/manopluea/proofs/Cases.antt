@@ -18,6 +18,7 @@ use Rattle.stand.specs.Find.{against, strictly-within, within-free, located, no
 use Rattle.fan.specs.Sight.{follow, numbers, row-count, crossings, fan, sides, lines-around, unentered, lines-seen, seen-from}
 use Rattle.reach.specs.Reach.{out-of-reach, far, wrong-reach}
 use Rattle.sight.specs.Listing.{no-room, viewed, listing-numbers, listing-row-count, listing-crossings, listed, placed}
+use Rattle.sight.specs.Ceiling.{exceeds, listed-up-to}
 use Rattle.cells.specs.PlanQ.{corners-of-Q}
 use Rattle.stand.specs.declared.spot.Stand.the-variants.{Point}
 use Rattle.reach.specs.declared.Reach.the-variants.{NotStated}
@@ -25,12 +26,12 @@ use Rattle.sight.specs.declared.list.Listed.the-variants.{Rows}
 use Rattle.manopluea.specs.Cases.{cases, in-the-shut-doorway, computed, stated, square-of-Q, six, three, untouched}
 
 pub the-twelve-cases : map computed cases ≡ map stated cases
-unfolding ofBits side sized least home next start neighbour answers back cell-of cut-triangles cut-polygons cut pairs faces-of firsts-from tables cells-of framed outside wrong-corner some-face wrong-for-side missing-corner wrong-side wrong-cell wrong-neighbour names wrong-door checked-cells checked shut wrong-setting bars ends whole whole-point stood not-left-of right-of against is-within strictly-within within-free minus dot located fan follow sides lines-around unentered lines-seen seen-from numbers row-count crossings placed viewed no-room listing-numbers listing-row-count listing-crossings listed out-of-reach far wrong-reach
+unfolding ofBits side sized least home next start neighbour answers back cell-of cut-triangles cut-polygons cut pairs faces-of firsts-from tables cells-of framed outside wrong-corner some-face wrong-for-side missing-corner wrong-side wrong-cell wrong-neighbour names wrong-door checked-cells checked shut wrong-setting bars ends whole whole-point stood not-left-of right-of against is-within strictly-within within-free minus dot located fan follow sides lines-around unentered lines-seen seen-from numbers row-count crossings placed viewed no-room listing-numbers listing-row-count listing-crossings listed listed-up-to exceeds out-of-reach far wrong-reach
 the-twelve-cases = refl
 
 -- in the doorway of case h, its door shut, the stand is on a line (document 02, A4)
 pub the-shut-doorway : computed in-the-shut-doorway ≡ stated in-the-shut-doorway
-unfolding ofBits side sized least home next start neighbour answers back cell-of cut-triangles cut-polygons cut pairs faces-of firsts-from tables cells-of framed outside wrong-corner some-face wrong-for-side missing-corner wrong-side wrong-cell wrong-neighbour names wrong-door checked-cells checked shut wrong-setting bars ends whole whole-point stood not-left-of right-of against is-within strictly-within within-free minus dot located fan follow sides lines-around unentered lines-seen seen-from numbers row-count crossings placed viewed no-room listing-numbers listing-row-count listing-crossings listed out-of-reach far wrong-reach
+unfolding ofBits side sized least home next start neighbour answers back cell-of cut-triangles cut-polygons cut pairs faces-of firsts-from tables cells-of framed outside wrong-corner some-face wrong-for-side missing-corner wrong-side wrong-cell wrong-neighbour names wrong-door checked-cells checked shut wrong-setting bars ends whole whole-point stood not-left-of right-of against is-within strictly-within within-free minus dot located fan follow sides lines-around unentered lines-seen seen-from numbers row-count crossings placed viewed no-room listing-numbers listing-row-count listing-crossings listed listed-up-to exceeds out-of-reach far wrong-reach
 the-shut-doorway = refl
 
 -- plan Q as one cell of four corners, without a door, from the stand of case a: its four sides are the rows, and nothing is crossed

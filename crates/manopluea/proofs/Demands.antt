@@ -36,6 +36,9 @@ use Rattle.sight.specs.declared.view.View.{View}
 use Rattle.sight.specs.declared.view.View.the-variants as O
 use Rattle.sight.specs.declared.list.Listed.{Listed}
 use Rattle.sight.specs.declared.list.Listed.the-variants as L
+use Rattle.sight.specs.Ceiling.{listed-up-to}
+use Rattle.sight.specs.declared.ceiling.Ceiling.{Ceiling}
+use Rattle.sight.proofs.UpTo.{as-without}
 use Rattle.sight.proofs.Sightings as Sightings
 use Rattle.fan.proofs.Tables.{length-of-rows, row-stands-there, one-row-of-the-table}
 use Rattle.sight.proofs.Views.{Viewed, view-says, has-room}
@@ -193,13 +196,24 @@ module _ (kind : ℕ) (cs : List ℤ) (ts ds : List ℕ) (a : Query) (table : Li
         ∙ rest-is-kept table (written rows) (4 * n) (omega (arith, count-is)) (omega (arith, has-room cs table room))
 
 -- On an accepted plan rows, order and crossings are those of the published triangular expansion, and every direction whose ray meets no corner is held
--- by exactly one row, whose wall is the first met walking cell by cell.
-pub demand-2 : (kind : ℕ) (cs : List ℤ) (ts ds : List ℕ) (a : Query) (table : List ℕ) → Demand-2 kind cs ts ds a table (listed kind cs ts ds a table .0) (listed kind cs ts ds a table .1)
-demand-2 kind cs ts ds a table =
+-- by exactly one row, whose wall is the first met walking cell by cell; whichever ceiling they keep to.
+pub demand-2 : (kind : ℕ) (cs : List ℤ) (ts ds : List ℕ) (a : Query) (c : Ceiling) (table : List ℕ) → Demand-2 kind cs ts ds a table (listed-up-to kind cs ts ds a c table .0) (listed-up-to kind cs ts ds a c table .1)
+demand-2 kind cs ts ds a c table =
     record {
-      sighted = λ n k e. let v = from-there kind cs ts ds a table e in sighted-from kind cs ts ds a table e (v .view) (v .room);
-      beyond = λ n k e. let v = from-there kind cs ts ds a table e in kept-beyond kind cs ts ds a table e (v .view) (v .room);
+      sighted = λ n k e.
+          let same = as-without kind cs ts ds a c table (rows-are-no-refusal e) in
+          let alone = sym (ap answer same) ∙ e in
+          let v = from-there kind cs ts ds a table alone in
+          subst (λ (l : Listed × List ℕ). Sighted kind cs ts ds a n k (l .1)) (sym same) (sighted-from kind cs ts ds a table alone (v .view) (v .room));
+      beyond = λ n k e.
+          let same = as-without kind cs ts ds a c table (rows-are-no-refusal e) in
+          let alone = sym (ap answer same) ∙ e in
+          let v = from-there kind cs ts ds a table alone in
+          ap (λ (l : Listed × List ℕ). drop (4 * n) (l .1)) same ∙ kept-beyond kind cs ts ds a table alone (v .view) (v .room);
     }
+  where
+    answer : Listed × List ℕ → Listed
+    answer l = l .0
 
 -- ---- demand 3
 

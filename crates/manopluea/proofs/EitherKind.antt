@@ -21,6 +21,8 @@ use Rattle.stand.specs.declared.spot.Stand.{Stand}
 use Rattle.sight.specs.Listing.{view-of-plan, viewed, listed-from, listed}
 use Rattle.reach.specs.Reach.{range}
 use Rattle.sight.specs.declared.view.Query.{Query}
+use Rattle.sight.specs.declared.ceiling.Ceiling.{Ceiling}
+use Rattle.sight.specs.Ceiling.{up-to, listed-up-to}
 use Rattle.sight.specs.declared.view.View.{View}
 use Rattle.sight.specs.declared.list.Listed.{Listed}
 use Rattle.doors.specs.Change.{changed-from, changed}
@@ -47,6 +49,10 @@ module _ (k l : ℕ) (ts us : List ℕ) (cells : cells-of k ts ≡ cells-of l us
   unfolding listed
   same-listing cs ds a table = ap₂ (λ (T : Cells) (v : View). listed-from cs T ds (a .setting) (range (a .reach)) table v) cells (same-view cs ds a)
 
+  same-listing-up-to : (cs : List ℤ) (ds : List ℕ) (a : Query) (c : Ceiling) (table : List ℕ) → listed-up-to k cs ts ds a c table ≡ listed-up-to l cs us ds a c table
+  unfolding listed-up-to
+  same-listing-up-to cs ds a c table = ap (up-to c table) (same-listing cs ds a table)
+
   same-change : (cs : List ℤ) (ds : List ℕ) (a : Query) (given : List ℕ) (i : ℕ) (b : Bool) (table : List ℕ) → changed k cs ts ds a given i b table ≡ changed l cs us ds a given i b table
   unfolding changed
   same-change cs ds a given i b table = ap₂ (λ (T : Cells) (v : View). changed-from cs T ds (a .setting) (range (a .reach)) given i b table v) cells (same-view cs ds a)
@@ -60,14 +66,14 @@ module _ (k l : ℕ) (ts us : List ℕ) (cells : cells-of k ts ≡ cells-of l us
   unfolding listed-stands single
   same-morning cs ds m stands table replies =
       ap₂ (λ (listing : Stand → Listed × List ℕ) (r : Checked). stands-from listing (take (m .count) stands) table replies r)
-      (fun-ext (λ s. same-listing cs ds (query-of m s) (replicate (4 * corner-count cs) 0)))
+      (fun-ext (λ s. same-listing-up-to cs ds (query-of m s) (m .ceiling) (replicate (4 * corner-count cs) 0)))
       (same-asking cs ds (m .setting) (m .count) (length table) (length replies))
 
 -- the same answers to every call that takes the lists of a plan
 pub record SameAnswers (ts us : List ℕ) : Type 0 where
   pub check : (cs : List ℤ) (ds : List ℕ) → checked triangles cs ts ds ≡ checked polygons cs us ds
   pub find : (cs : List ℤ) (ds : List ℕ) (w : ℕ) (s : Stand) → found triangles cs ts ds w s ≡ found polygons cs us ds w s
-  pub list : (cs : List ℤ) (ds : List ℕ) (a : Query) (table : List ℕ) → listed triangles cs ts ds a table ≡ listed polygons cs us ds a table
+  pub list : (cs : List ℤ) (ds : List ℕ) (a : Query) (c : Ceiling) (table : List ℕ) → listed-up-to triangles cs ts ds a c table ≡ listed-up-to polygons cs us ds a c table
   pub change : (cs : List ℤ) (ds : List ℕ) (a : Query) (given : List ℕ) (i : ℕ) (b : Bool) (table : List ℕ) → changed triangles cs ts ds a given i b table ≡ changed polygons cs us ds a given i b table
   pub list-stands : (cs : List ℤ) (ds : List ℕ) (m : Morning) (stands : List Stand) (table replies : List ℕ) → listed-stands triangles cs ts ds m stands table replies ≡ listed-stands polygons cs us ds m stands table replies
 
@@ -85,7 +91,7 @@ triangles-are-answered-alike ts cells e =
     record {
       check = same-check triangles polygons ts us same alike;
       find = same-finding triangles polygons ts us same alike;
-      list = same-listing triangles polygons ts us same alike;
+      list = same-listing-up-to triangles polygons ts us same alike;
       change = same-change triangles polygons ts us same alike;
       list-stands = same-morning triangles polygons ts us same alike;
     }

@@ -4,6 +4,8 @@ pub mod Replies
 pub mod Demands
 -- a longer reach only refines, and without one the rows are document 01's with 0 after each (document 02, A5)
 pub mod WithinReach
+-- the listing keeps to its ceiling, which alters no list that is given (document 02, A13)
+pub mod Ceilings
 -- several stands in one call are single calls, so demand 2 holds for each of them
 pub mod Together
 -- a promise said twice: of the answer, and in document 01's numbers
@@ -14,6 +16,8 @@ pub mod Cases
 pub mod ChangesOfQ
 -- a stated reach, computed on plan Q
 pub mod ReachOfQ
+-- a ceiling of crossings, computed on plan Q
+pub mod CeilingsOfQ
 -- several stands in one call, computed on plan Q
 pub mod MorningOfQ
 -- wrong versions break the demand that document 01 names

@@ -15,7 +15,7 @@ use Rattle.cells.specs.Check.{framed, first-wrong-corner, first-wrong-cell, fir
 use Rattle.limits.specs.Reply.{Reply, number, place, checked-reply}
 use Rattle.limits.specs.declared.Plan.{Plan}
 use Rattle.limits.specs.declared.Refusal.{Refusal}
-use Rattle.limits.specs.declared.Refusal.the-variants.{Frame, Size, Corner, Cell, Neighbour, Door, Setting, Stand as NoStand, Line, Outside, Room, Change, Rows, Reach as NoReach}
+use Rattle.limits.specs.declared.Refusal.the-variants.{Frame, Size, Corner, Cell, Neighbour, Door, Setting, Stand as NoStand, Line, Outside, Room, Change, Rows, Reach as NoReach, Ceiling as NoCeiling}
 use Rattle.limits.specs.declared.Checked.{Checked}
 use Rattle.limits.specs.declared.Checked.the-variants as C
 use Rattle.setting.specs.Setting.{wrong-setting}
@@ -35,7 +35,9 @@ use Rattle.stand.specs.declared.locate.Found.{Found}
 use Rattle.stand.specs.declared.locate.Found.the-variants as F
 use Rattle.reach.specs.Reach.{range, wrong-reach}
 use Rattle.reach.specs.declared.Reach.{Reach}
-use Rattle.sight.specs.Listing.{unless, view-of-place, view-of-spot, view-of-plan, viewed, refuse, no-room, rows-from, listing-numbers, listing-row-count, listing-crossings, listed-from, listed}
+use Rattle.sight.specs.Listing.{unless, view-of-place, view-of-spot, view-of-plan, viewed, refuse, no-room, listing-numbers, listing-row-count, listing-crossings, listed-from, listed}
+use Rattle.sight.specs.Ceiling.{exceeds, up-to, listed-up-to}
+use Rattle.sight.specs.declared.ceiling.Ceiling.{Ceiling}
 use Rattle.sight.specs.Reply.{listed-reply}
 use Rattle.sight.specs.declared.view.Query.{Query}
 use Rattle.sight.specs.declared.view.View.{View}
@@ -46,7 +48,7 @@ use Rattle.doors.specs.Change.{same-list, no-change, wished, underfoot, changed
 use Rattle.grant.specs.Asked.{too-many, no-room as no-room-for-all, then-asked, asked}
 use Rattle.morning.specs.declared.Morning.{Morning}
 use Rattle.morning.specs.Morning.{single, stands-from, listed-stands}
-use Rattle.manopluea.specs.Conditions.{Condition, when, lowest, CheckAnswers, ReadAnswers, WriteAnswers, FindAnswers, ListAnswers, ChangeAnswers, ListStandsAnswers, plan-conditions, plan-conditions-with, read-conditions, inside-some, within-some, on-some-border, place-conditions, stand-conditions, query-conditions-with, query-conditions, door-underfoot, place-of, true-numbers}
+use Rattle.manopluea.specs.Conditions.{Condition, when, lowest, CheckAnswers, ReadAnswers, WriteAnswers, FindAnswers, ListAnswers, ChangeAnswers, ListStandsAnswers, plan-conditions, plan-conditions-with, read-conditions, inside-some, within-some, on-some-border, place-conditions, stand-conditions, query-conditions-with, query-conditions, ceiling-conditions, door-underfoot, place-of, place-at, true-numbers}
 
 -- what an answer tells in numbers
 abbrev pub told : Reply → ℕ × ℕ
@@ -57,7 +59,7 @@ told r = (r .number, r .place)
 -- the refusal with this number and place
 refusal-of : ℕ → ℕ → Refusal
 refusal-of n p =
-    getD (Frame ∷ Frame ∷ Size ∷ Corner p ∷ Cell p ∷ Neighbour p ∷ Door p ∷ Setting ∷ NoStand ∷ Line ∷ Outside ∷ Room ∷ Change ∷ Rows ∷ Frame ∷ NoReach ∷ []) n Frame
+    getD (Frame ∷ Frame ∷ Size ∷ Corner p ∷ Cell p ∷ Neighbour p ∷ Door p ∷ Setting ∷ NoStand ∷ Line ∷ Outside ∷ Room ∷ Change ∷ Rows ∷ Frame ∷ NoReach ∷ Frame ∷ Frame ∷ Frame ∷ NoCeiling ∷ []) n Frame
 
 number-tells : (r : Refusal) → refusal-of (number r) (place r) ≡ r
 unfolding refusal-of
@@ -75,17 +77,18 @@ number-tells Room = refl
 number-tells Change = refl
 number-tells Rows = refl
 number-tells NoReach = refl
+number-tells NoCeiling = refl
 
 -- what has the same number and place is the same refusal
 pub numbers-tell-refusals-apart : (r s : Refusal) → number r ≡ number s → place r ≡ place s → r ≡ s
 numbers-tell-refusals-apart r s e f = sym (number-tells r) ∙ ap₂ refusal-of e f ∙ number-tells s
 
--- a condition that stands last and does not apply does not show
-pub last-does-not-apply : (conditions : List Condition) (n p : ℕ) → lowest (conditions ++ (when n false p ∷ [])) ≡ lowest conditions
+-- a condition that does not apply does not show
+pub one-does-not-apply : (conditions : List Condition) (n p : ℕ) (more : List Condition) → lowest (conditions ++ (when n false p ∷ more)) ≡ lowest (conditions ++ more)
 unfolding lowest
-last-does-not-apply [] n p = refl
-last-does-not-apply (c ∷ conditions) n p =
-    ap (λ (rest : ℕ × ℕ). elim (c .applies) [ true ↦ (c .number, c .place) | false ↦ rest ]) (last-does-not-apply conditions n p)
+one-does-not-apply [] n p more = refl
+one-does-not-apply (c ∷ conditions) n p more =
+    ap (λ (rest : ℕ × ℕ). elim (c .applies) [ true ↦ (c .number, c .place) | false ↦ rest ]) (one-does-not-apply conditions n p more)
 
 -- ---- the plan
 
@@ -225,13 +228,34 @@ module _ (f : View → ℕ × ℕ) (as-refused : (r : Refusal) → f (O.Refused 
       by-plan (λ k. f (view-of-plan cs (cells-of kind ts) ds a k)) as-refused kind cs ts ds _
       (refused-unless (wrong-setting (a .setting) (length ds)) Setting (view-of-spot cs (cells-of kind ts) ds (a .setting) (a .reach) (stood cs (a .stand))) more e)
 
+-- a table that is too short, or a ceiling that the crossings exceed; a refusal keeps the table
+abbrev ceilinged : List ℕ → Ceiling → ℕ → ℕ → List ℕ → Bool → Listed × List ℕ
+ceilinged table c n k new r = up-to c table (refuse r Room table (L.Rows n k, new))
+
+told-by-ceiling : (table : List ℕ) (c : Ceiling) (n k : ℕ) (new : List ℕ) (r : Bool) → told (listed-reply (ceilinged table c n k new r .0)) ≡ lowest (when 11 r 0 ∷ when 19 (exceeds k c) 0 ∷ [])
+unfolding lowest
+told-by-ceiling table c n k new true = refl
+told-by-ceiling table c n k new false = by-excess (exceeds k c)
+  where
+    by-excess : (b : Bool) → told (listed-reply (refuse b NoCeiling table (L.Rows n k, new) .0)) ≡ lowest (when 19 b 0 ∷ [])
+    by-excess true = refl
+    by-excess false = refl
+
+kept-by-ceiling : (table : List ℕ) (c : Ceiling) (n k : ℕ) (new : List ℕ) (r : Bool) → (listed-reply (ceilinged table c n k new r .0) .number ≡ 0 → ⊥) → ceilinged table c n k new r .1 ≡ table
+kept-by-ceiling table c n k new true h = refl
+kept-by-ceiling table c n k new false h = by-excess (exceeds k c) h
+  where
+    by-excess : (b : Bool) → (listed-reply (refuse b NoCeiling table (L.Rows n k, new) .0) .number ≡ 0 → ⊥) → refuse b NoCeiling table (L.Rows n k, new) .1 ≡ table
+    by-excess true h = refl
+    by-excess false h = absurd (h refl)
+
 -- the listing of a stand on an accepted plan, under a right setting
-pub list-by-stand : (cs : List ℤ) (T : Cells) (ds : List ℕ) (w : ℕ) (reach : Reach) (table : List ℕ) (spot : Spot) → told (listed-reply (listed-from cs T ds w (range reach) table (view-of-spot cs T ds w reach spot) .0)) ≡ lowest (query-conditions cs T ds w reach spot ++ (when 11 (ltb (length table) (4 * corner-count cs)) 0 ∷ []))
+pub list-by-stand : (cs : List ℤ) (T : Cells) (ds : List ℕ) (w : ℕ) (reach : Reach) (c : Ceiling) (table : List ℕ) (spot : Spot) → told (listed-reply (up-to c table (listed-from cs T ds w (range reach) table (view-of-spot cs T ds w reach spot)) .0)) ≡ lowest (query-conditions cs T ds w reach spot ++ (when 11 (ltb (length table) (4 * corner-count cs)) 0 ∷ ceiling-conditions cs T ds w reach spot c))
 unfolding lowest located no-room
-list-by-stand cs T ds w reach table (S.At x y) =
-    refused-unless (λ v. told (listed-reply (listed-from cs T ds w R table v .0))) (λ r. refl) (wrong-reach reach) NoReach (view-of-place x y (located cs T ds w q)) (place-conditions false cs T ds w (S.At x y) ++ (when 11 (ltb (length table) (4 * corner-count cs)) 0 ∷ []))
-    (by-place (λ g. told (listed-reply (listed-from cs T ds w R table (view-of-place x y g) .0))) (λ r. refl) (inside-some cs T q) (within-some cs T ds w q) (on-some-border cs T q) (first-inside cs T q) (side-at T (first-within cs T ds w q)) (when 11 (ltb (length table) (4 * corner-count cs)) 0 ∷ [])
-    (by-room-of (ltb (length table) (4 * corner-count cs)) (listing-row-count cs T ds w R q p) (listing-crossings cs T ds w R q p) (sets table 0 (listing-numbers cs T ds w R q p))))
+list-by-stand cs T ds w reach c table (S.At x y) =
+    refused-unless (λ v. told (listed-reply (up-to c table (listed-from cs T ds w R table v) .0))) (λ r. refl) (wrong-reach reach) NoReach (view-of-place x y (located cs T ds w q)) (place-conditions false cs T ds w (S.At x y) ++ last)
+    (by-place (λ g. told (listed-reply (up-to c table (listed-from cs T ds w R table (view-of-place x y g)) .0))) (λ r. refl) (inside-some cs T q) (within-some cs T ds w q) (on-some-border cs T q) (first-inside cs T q) (side-at T (first-within cs T ds w q)) last
+    (told-by-ceiling table c (listing-row-count cs T ds w R q p) (listing-crossings cs T ds w R q p) (sets table 0 (listing-numbers cs T ds w R q p)) (ltb (length table) (4 * corner-count cs))))
   where
     q : Point
     q = record { x = x; y = y }
@@ -240,34 +264,26 @@ list-by-stand cs T ds w reach table (S.At x y) =
     R = range reach
 
     p : Footing
-    p = place-of (inside-some cs T q) (first-inside cs T q) (side-at T (first-within cs T ds w q))
+    p = place-at cs T ds w q
 
-    by-room-of : (r : Bool) (n k : ℕ) (new : List ℕ) → told (listed-reply (refuse r Room table (L.Rows n k, new) .0)) ≡ lowest (when 11 r 0 ∷ [])
-    by-room-of true n k new = refl
-    by-room-of false n k new = refl
-list-by-stand cs T ds w reach table S.Refused = refl
+    last : List Condition
+    last = when 11 (ltb (length table) (4 * corner-count cs)) 0 ∷ ceiling-conditions cs T ds w reach (S.At x y) c
+list-by-stand cs T ds w reach c table S.Refused = refl
 
-pub list-answers : (kind : ℕ) (cs : List ℤ) (ts ds : List ℕ) (a : Query) (table : List ℕ) → ListAnswers kind cs ts ds a table
-unfolding listed lowest
-list-answers kind cs ts ds a table =
+pub list-answers : (kind : ℕ) (cs : List ℤ) (ts ds : List ℕ) (a : Query) (c : Ceiling) (table : List ℕ) → ListAnswers kind cs ts ds a c table
+unfolding listed listed-up-to lowest
+list-answers kind cs ts ds a c table =
     record {
       of-the-paper = refl;
-      exact = by-view (λ v. told (listed-reply (listed-from cs (cells-of kind ts) ds (a .setting) (range (a .reach)) table v .0))) (λ r. refl) kind cs ts ds a (query-conditions cs (cells-of kind ts) ds (a .setting) (a .reach) (stood cs (a .stand)) ++ (when 11 (ltb (length table) (4 * corner-count cs)) 0 ∷ [])) (list-by-stand cs (cells-of kind ts) ds (a .setting) (a .reach) table (stood cs (a .stand)));
+      exact = by-view (λ v. told (listed-reply (from-view v .0))) (λ r. refl) kind cs ts ds a (query-conditions cs (cells-of kind ts) ds (a .setting) (a .reach) (stood cs (a .stand)) ++ (when 11 (ltb (length table) (4 * corner-count cs)) 0 ∷ ceiling-conditions cs (cells-of kind ts) ds (a .setting) (a .reach) (stood cs (a .stand)) c)) (list-by-stand cs (cells-of kind ts) ds (a .setting) (a .reach) c table (stood cs (a .stand)));
       kept = alone (viewed kind cs ts ds a);
     }
   where
     from-view : View → Listed × List ℕ
-    from-view = listed-from cs (cells-of kind ts) ds (a .setting) (range (a .reach)) table
+    from-view v = up-to c table (listed-from cs (cells-of kind ts) ds (a .setting) (range (a .reach)) table v)
 
     alone : (v : View) → (listed-reply (from-view v .0) .number ≡ 0 → ⊥) → from-view v .1 ≡ table
-    alone (O.From x y p) = by-test (no-room cs table)
-      where
-        there : Listed × List ℕ
-        there = rows-from cs (cells-of kind ts) ds (a .setting) (range (a .reach)) table (record { x = x; y = y }) p
-
-        by-test : (r : Bool) → (listed-reply (refuse r Room table there .0) .number ≡ 0 → ⊥) → refuse r Room table there .1 ≡ table
-        by-test true h = refl
-        by-test false h = absurd (h refl)
+    alone (O.From x y p) = let q : Point = record { x = x; y = y } in kept-by-ceiling table c (listing-row-count cs (cells-of kind ts) ds (a .setting) (range (a .reach)) q p) (listing-crossings cs (cells-of kind ts) ds (a .setting) (range (a .reach)) q p) (sets table 0 (listing-numbers cs (cells-of kind ts) ds (a .setting) (range (a .reach)) q p)) (no-room cs table)
     alone (O.Refused r) = λ h. refl
 
 -- the four tests of a change from a stand that was found, and its rows

@@ -20,7 +20,7 @@ use Rattle.cells.specs.Check.{outside, wrong-corner, wrong-cell, wrong-neighbou
 use Rattle.limits.specs.Reply.{number, refused}
 use Rattle.cells.specs.PlanQ.{corners-of-Q, cells-of-Q, doors-of-Q}
 use Rattle.limits.specs.declared.Refusal.{Refusal}
-use Rattle.limits.specs.declared.Refusal.the-variants.{Frame, Size, Corner, Cell as NoCell, Neighbour, Door, Setting, Stand as NoStand, Line, Outside, Room, Change, Rows as Untrue, Reach as NoReach}
+use Rattle.limits.specs.declared.Refusal.the-variants.{Frame, Size, Corner, Cell as NoCell, Neighbour, Door, Setting, Stand as NoStand, Line, Outside, Room, Change, Rows as Untrue, Reach as NoReach, Ceiling as NoCeiling}
 use Rattle.cells.specs.Cut.{cell-of, cut-triangles, cut-polygons, cut, pairs, faces-of, firsts-from, tables, cells-of}
 use Rattle.setting.specs.Setting.{shut, with-shut, wrong-setting, bars, ends}
 use Rattle.number.specs.Whole.{whole}
@@ -44,6 +44,8 @@ use Rattle.sight.specs.Listing.{no-room, sight-from, viewed, listing-numbers, l
 use Rattle.sight.specs.Reply.{listed-reply}
 use Rattle.reach.specs.declared.Reach.the-variants.{NotStated}
 use Rattle.sight.specs.declared.view.Query.{Query}
+use Rattle.sight.specs.declared.ceiling.Ceiling.the-variants as C
+use Rattle.sight.specs.Ceiling.{exceeds, listed-up-to}
 use Rattle.sight.specs.declared.view.View.the-variants.{From}
 use Rattle.sight.specs.declared.list.Listed.{Listed}
 use Rattle.sight.specs.declared.list.Listed.the-variants.{Rows}
@@ -148,15 +150,16 @@ no-refusal-is-0 Room e = omega arith
 no-refusal-is-0 Change e = omega arith
 no-refusal-is-0 Untrue e = omega arith
 no-refusal-is-0 NoReach e = omega arith
+no-refusal-is-0 NoCeiling e = omega arith
 
 -- no condition applies to plan Q, so whatever is refused there breaks demand 1
-listed-open : listed triangles corners-of-Q cells-of-Q doors-of-Q (query 0) untouched .0 ≡ Rows 4 1
-unfolding ofBits side sized least home next start neighbour answers back cell-of cut-triangles cut-polygons cut pairs faces-of firsts-from tables cells-of framed outside wrong-corner some-face wrong-for-side missing-corner wrong-side wrong-cell wrong-neighbour names wrong-door checked-cells checked shut wrong-setting bars ends whole whole-point stood not-left-of right-of against is-within strictly-within within-free minus dot located fan follow sides lines-around unentered lines-seen seen-from numbers row-count crossings placed viewed no-room listing-numbers listing-row-count listing-crossings listed out-of-reach far wrong-reach
+listed-open : listed-up-to triangles corners-of-Q cells-of-Q doors-of-Q (query 0) C.NotStated untouched .0 ≡ Rows 4 1
+unfolding ofBits side sized least home next start neighbour answers back cell-of cut-triangles cut-polygons cut pairs faces-of firsts-from tables cells-of framed outside wrong-corner some-face wrong-for-side missing-corner wrong-side wrong-cell wrong-neighbour names wrong-door checked-cells checked shut wrong-setting bars ends whole whole-point stood not-left-of right-of against is-within strictly-within within-free minus dot located fan follow sides lines-around unentered lines-seen seen-from numbers row-count crossings placed viewed no-room listing-numbers listing-row-count listing-crossings listed listed-up-to exceeds out-of-reach far wrong-reach
 listed-open = refl
 
-pub always-refused-breaks-demand-1 : (r : Refusal) (after : List ℕ) {numbers : List ℕ} → Answers numbers (list-conditions triangles corners-of-Q cells-of-Q doors-of-Q (query 0) 16) (refused r) untouched after → ⊥
+pub always-refused-breaks-demand-1 : (r : Refusal) (after : List ℕ) {numbers : List ℕ} → Answers numbers (list-conditions triangles corners-of-Q cells-of-Q doors-of-Q (query 0) C.NotStated 16) (refused r) untouched after → ⊥
 always-refused-breaks-demand-1 r after says =
-    let done = demand-1 .list triangles corners-of-Q cells-of-Q doors-of-Q (query 0) untouched .exact in
+    let done = demand-1 .list triangles corners-of-Q cells-of-Q doors-of-Q (query 0) C.NotStated untouched .exact in
     no-refusal-is-0 r
     (ap (λ (p : ℕ × ℕ). p .0) (says .exact ∙ sym done) ∙ ap (λ (a : Listed). listed-reply a .number) listed-open)
 

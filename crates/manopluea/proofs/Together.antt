@@ -19,7 +19,7 @@ use Rattle.setting.specs.Setting.{wrong-setting}
 use Rattle.stand.specs.Spot.{stood}
 use Rattle.stand.specs.declared.spot.Stand.{Stand}
 use Rattle.fan.specs.Sight.{Row}
-use Rattle.sight.specs.Listing.{listed}
+use Rattle.sight.specs.Ceiling.{up-to, listed-up-to}
 use Rattle.sight.specs.Reply.{listed-reply}
 use Rattle.fan.specs.Written.{row-at, OneRow}
 use Rattle.sight.specs.declared.list.Listed.{Listed}
@@ -32,10 +32,10 @@ use Rattle.grant.specs.Asked.{asked}
 use Rattle.grant.proofs.Grants.{grant-says}
 use Rattle.morning.proofs.Single.{listed-by-spot}
 use Rattle.morning.proofs.Together.{reply-is-the-single-one, rows-are-the-single-ones, table-is-kept-beyond, replies-are-kept-beyond}
-use Rattle.manopluea.specs.Conditions.{when, lowest, query-conditions}
+use Rattle.manopluea.specs.Conditions.{when, lowest, query-conditions, ceiling-conditions, single-conditions}
 use Rattle.manopluea.specs.Demands.{Says, Sighted}
 use Rattle.manopluea.specs.Together.{SingleCalls}
-use Rattle.manopluea.proofs.Replies.{last-does-not-apply, list-by-stand}
+use Rattle.manopluea.proofs.Replies.{one-does-not-apply, list-by-stand}
 use Rattle.manopluea.proofs.Demands.{demand-2}
 
 -- ---- what demand 2 asks of n rows it asks of the first 4·n numbers only
@@ -82,14 +82,14 @@ module _ (n : ℕ) (a b : List ℕ) (same : take (4 * n) a ≡ take (4 * n) b) w
 
 -- ---- a stand's own reply, by its condition
 
-stand-by-condition : (kind : ℕ) (cs : List ℤ) (ts ds : List ℕ) (m : Morning) {p : Plan} → checked kind cs ts ds ≡ C.Accepted p → wrong-setting (m .setting) (length ds) ≡ false → (s : Stand) (lent : List ℕ) → 4 * corner-count cs ≤ length lent → listed-reply (listed kind cs ts ds (query-of m s) lent .0) .number ≡ lowest (query-conditions cs (cells-of kind ts) ds (m .setting) (m .reach) (stood cs s)) .0
-unfolding lowest
+stand-by-condition : (kind : ℕ) (cs : List ℤ) (ts ds : List ℕ) (m : Morning) {p : Plan} → checked kind cs ts ds ≡ C.Accepted p → wrong-setting (m .setting) (length ds) ≡ false → (s : Stand) (lent : List ℕ) → 4 * corner-count cs ≤ length lent → listed-reply (listed-up-to kind cs ts ds (query-of m s) (m .ceiling) lent .0) .number ≡ lowest (single-conditions cs (cells-of kind ts) ds m s) .0
+unfolding lowest listed-up-to
 stand-by-condition kind cs ts ds m accepted right s lent room =
-    ap (λ (l : Listed × List ℕ). listed-reply (l .0) .number) (listed-by-spot kind cs ts ds m accepted right s lent)
+    ap (λ (l : Listed × List ℕ). listed-reply (up-to (m .ceiling) lent l .0) .number) (listed-by-spot kind cs ts ds m accepted right s lent)
     ∙ ap (λ (t : ℕ × ℕ). t .0)
-    (list-by-stand cs (cells-of kind ts) ds (m .setting) (m .reach) lent (stood cs s)
-    ∙ ap (λ (b : Bool). lowest (query-conditions cs (cells-of kind ts) ds (m .setting) (m .reach) (stood cs s) ++ (when 11 b 0 ∷ []))) (le-ltb _ _ room)
-    ∙ last-does-not-apply (query-conditions cs (cells-of kind ts) ds (m .setting) (m .reach) (stood cs s)) 11 0)
+    (list-by-stand cs (cells-of kind ts) ds (m .setting) (m .reach) (m .ceiling) lent (stood cs s)
+    ∙ ap (λ (b : Bool). lowest (query-conditions cs (cells-of kind ts) ds (m .setting) (m .reach) (stood cs s) ++ (when 11 b 0 ∷ ceiling-conditions cs (cells-of kind ts) ds (m .setting) (m .reach) (stood cs s) (m .ceiling)))) (le-ltb _ _ room)
+    ∙ one-does-not-apply (query-conditions cs (cells-of kind ts) ds (m .setting) (m .reach) (stood cs s)) 11 0 (ceiling-conditions cs (cells-of kind ts) ds (m .setting) (m .reach) (stood cs s) (m .ceiling)))
 
 -- the first of three numbers that stand from a place on
 first-of-three : (l : List ℕ) (a : ℕ) {x y z : ℕ} → take 3 (drop a l) ≡ x ∷ y ∷ z ∷ [] → getD l a 0 ≡ x
@@ -125,7 +125,7 @@ module _ (kind : ℕ) (cs : List ℤ) (ts ds : List ℕ) (m : Morning) (stands :
                       ∙ stand-by-condition kind cs ts ds m (grant .plan-accepted) (grant .setting-right) s lent room;
                   rows = rows;
                   sighted = λ a b alone.
-                      same-sighted a (listed kind cs ts ds (query-of m s) lent .1) (drop (4 * rows-in-all (single kind cs ts ds m) (take i ss)) (sets table 0 (all-rows (single kind cs ts ds m) ss))) (sym (subst (λ (l : Listed). take (4 * rows-of l) (drop (4 * rows-in-all (single kind cs ts ds m) (take i ss)) (sets table 0 (all-rows (single kind cs ts ds m) ss))) ≡ take (4 * rows-of l) (listed kind cs ts ds (query-of m s) lent .1)) alone rows)) (demand-2 kind cs ts ds (query-of m s) lent .sighted a b alone);
+                      same-sighted a (listed-up-to kind cs ts ds (query-of m s) (m .ceiling) lent .1) (drop (4 * rows-in-all (single kind cs ts ds m) (take i ss)) (sets table 0 (all-rows (single kind cs ts ds m) ss))) (sym (subst (λ (l : Listed). take (4 * rows-of l) (drop (4 * rows-in-all (single kind cs ts ds m) (take i ss)) (sets table 0 (all-rows (single kind cs ts ds m) ss))) ≡ take (4 * rows-of l) (listed-up-to kind cs ts ds (query-of m s) (m .ceiling) lent .1)) alone rows)) (demand-2 kind cs ts ds (query-of m s) (m .ceiling) lent .sighted a b alone);
                 };
             rows-added = rows-added;
             crossings-added = crossings-added;

@@ -11,7 +11,8 @@ use Rattle.stand.specs.Find.{found}
 use Rattle.stand.specs.Reply.{found-reply}
 use Rattle.stand.specs.declared.spot.Stand.{Stand}
 use Rattle.sight.specs.declared.view.Query.{Query}
-use Rattle.sight.specs.Listing.{listed}
+use Rattle.sight.specs.Ceiling.{listed-up-to}
+use Rattle.sight.specs.declared.ceiling.Ceiling.{Ceiling}
 use Rattle.sight.specs.Reply.{listed-reply}
 use Rattle.doors.specs.Change.{changed}
 use Rattle.morning.specs.declared.Morning.{Morning}
@@ -33,8 +34,8 @@ write-replies kind cs ts ds file = in-numbers checked-reply (File.written kind c
 abbrev pub find-replies : ℕ → List ℤ → List ℕ → List ℕ → ℕ → Stand → Reply
 find-replies kind cs ts ds w s = found-reply (found kind cs ts ds w s)
 
-abbrev pub list-replies : ℕ → List ℤ → List ℕ → List ℕ → Query → List ℕ → Reply × List ℕ
-list-replies kind cs ts ds a table = in-numbers listed-reply (listed kind cs ts ds a table)
+abbrev pub list-replies : ℕ → List ℤ → List ℕ → List ℕ → Query → Ceiling → List ℕ → Reply × List ℕ
+list-replies kind cs ts ds a c table = in-numbers listed-reply (listed-up-to kind cs ts ds a c table)
 
 abbrev pub change-replies : ℕ → List ℤ → List ℕ → List ℕ → Query → List ℕ → ℕ → Bool → List ℕ → Reply × List ℕ
 change-replies kind cs ts ds a given i b table = in-numbers listed-reply (changed kind cs ts ds a given i b table)

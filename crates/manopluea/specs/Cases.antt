@@ -12,7 +12,8 @@ use Rattle.limits.specs.declared.Refusal.the-variants.{Setting, Stand as NoStan
 use Rattle.stand.specs.declared.spot.Stand.{Stand}
 use Rattle.stand.specs.declared.spot.Stand.the-variants.{Point}
 use Rattle.reach.specs.declared.Reach.the-variants.{NotStated}
-use Rattle.sight.specs.Listing.{listed}
+use Rattle.sight.specs.Ceiling.{listed-up-to}
+use Rattle.sight.specs.declared.ceiling.Ceiling.the-variants as NoCeiling
 use Rattle.sight.specs.declared.list.Listed.{Listed}
 use Rattle.sight.specs.declared.list.Listed.the-variants.{Rows, Refused}
 
@@ -96,7 +97,7 @@ in-the-shut-doorway = on-Q 1 five five (Refused Line) untouched
 -- what the listing's definition says of a case, and what document 01 says
 abbrev pub computed : Case → Listed × List ℕ
 computed k =
-    listed triangles (k .corners) (k .cells) doors-of-Q (record { setting = k .setting; stand = k .stand; reach = NotStated }) (replicate (4 * corner-count (k .corners)) old)
+    listed-up-to triangles (k .corners) (k .cells) doors-of-Q (record { setting = k .setting; stand = k .stand; reach = NotStated }) NoCeiling.NotStated (replicate (4 * corner-count (k .corners)) old)
 
 abbrev pub stated : Case → Listed × List ℕ
 stated k = (k .reply, k .table)

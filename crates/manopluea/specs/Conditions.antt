@@ -28,7 +28,9 @@ use Rattle.stand.specs.declared.spot.Spot.the-variants.{At, Refused}
 use Rattle.reach.specs.Reach.{range, wrong-reach}
 use Rattle.reach.specs.declared.Reach.{Reach}
 use Rattle.sight.specs.declared.view.Query.{Query}
-use Rattle.sight.specs.Listing.{listing-numbers}
+use Rattle.sight.specs.declared.ceiling.Ceiling.{Ceiling}
+use Rattle.sight.specs.Ceiling.{exceeds}
+use Rattle.sight.specs.Listing.{listing-numbers, listing-crossings}
 use Rattle.doors.specs.Change.{same-list, no-change}
 use Rattle.grant.specs.Asked.{no-room}
 use Rattle.morning.specs.declared.Morning.{Morning}
@@ -158,12 +160,35 @@ list-conditions-with on-its-door kind cs ts ds a room =
     ++ (when 7 (wrong-setting (a .setting) (length ds)) 0 ∷ query-conditions-with on-its-door cs (cells-of kind ts) ds (a .setting) (a .reach) (stood cs (a .stand)))
     ++ (when 11 (ltb room (4 * corner-count cs)) 0 ∷ [])
 
-abbrev pub list-conditions : ℕ → List ℤ → List ℕ → List ℕ → Query → ℕ → List Condition
-list-conditions = list-conditions-with false
+-- where a stand is that is strictly inside a cell or strictly within a free side
+abbrev pub place-of : Bool → ℕ → Footing → Footing
+place-of true c p = Inside c
+place-of false c p = p
 
-abbrev pub ListAnswers : ℕ → List ℤ → List ℕ → List ℕ → Query → List ℕ → Type 0
-ListAnswers kind cs ts ds a table =
-    Answers (1 ∷ 2 ∷ 3 ∷ 4 ∷ 5 ∷ 6 ∷ 7 ∷ 8 ∷ 15 ∷ 9 ∷ 10 ∷ 11 ∷ []) (list-conditions kind cs ts ds a (length table)) (list-replies kind cs ts ds a table .0) table (list-replies kind cs ts ds a table .1)
+abbrev pub place-at : List ℤ → Cells → List ℕ → ℕ → Point → Footing
+place-at cs T ds w q = place-of (inside-some cs T q) (first-inside cs T q) (side-at T (first-within cs T ds w q))
+
+-- the true list under the setting and within the range, from there, and its crossings
+abbrev pub true-numbers : List ℤ → Cells → List ℕ → ℕ → ℕ → Spot → List ℕ
+true-numbers cs T ds w R (At x y) = listing-numbers cs T ds w R (record { x = x; y = y }) (place-at cs T ds w (record { x = x; y = y }))
+true-numbers cs T ds w R Refused = []
+
+abbrev pub true-crossings : List ℤ → Cells → List ℕ → ℕ → ℕ → Spot → ℕ
+true-crossings cs T ds w R (At x y) = listing-crossings cs T ds w R (record { x = x; y = y }) (place-at cs T ds w (record { x = x; y = y }))
+true-crossings cs T ds w R Refused = 0
+
+-- 19: they exceed the ceiling (document 02, A13)
+abbrev pub ceiling-conditions : List ℤ → Cells → List ℕ → ℕ → Reach → Spot → Ceiling → List Condition
+ceiling-conditions cs T ds w reach spot c = when 19 (exceeds (true-crossings cs T ds w (range reach) spot) c) 0 ∷ []
+
+-- and last the ceiling
+abbrev pub list-conditions : ℕ → List ℤ → List ℕ → List ℕ → Query → Ceiling → ℕ → List Condition
+list-conditions kind cs ts ds a c room =
+    list-conditions-with false kind cs ts ds a room ++ ceiling-conditions cs (cells-of kind ts) ds (a .setting) (a .reach) (stood cs (a .stand)) c
+
+abbrev pub ListAnswers : ℕ → List ℤ → List ℕ → List ℕ → Query → Ceiling → List ℕ → Type 0
+ListAnswers kind cs ts ds a c table =
+    Answers (1 ∷ 2 ∷ 3 ∷ 4 ∷ 5 ∷ 6 ∷ 7 ∷ 8 ∷ 15 ∷ 9 ∷ 10 ∷ 11 ∷ 19 ∷ []) (list-conditions kind cs ts ds a c (length table)) (list-replies kind cs ts ds a c table .0) table (list-replies kind cs ts ds a c table .1)
 
 -- the stand is on a side, and the door is there and its line holds the stand strictly within (document 02, A4)
 abbrev pub door-underfoot : List ℤ → Cells → List ℕ → ℕ → ℕ → Spot → Bool
@@ -171,18 +196,6 @@ door-underfoot cs T ds w i (At x y) =
     not (inside-some cs T (record { x = x; y = y })) && within-some cs T ds w (record { x = x; y = y })
     && ltb i (length ds) && strictly-within cs T (record { x = x; y = y }) (getD ds i 0)
 door-underfoot cs T ds w i Refused = false
-
--- where a stand is that is strictly inside a cell or strictly within a free side
-abbrev pub place-of : Bool → ℕ → Footing → Footing
-place-of true c p = Inside c
-place-of false c p = p
-
--- the true list under the setting and within the range, from there
-abbrev pub true-numbers : List ℤ → Cells → List ℕ → ℕ → ℕ → Spot → List ℕ
-true-numbers cs T ds w R (At x y) =
-    listing-numbers cs T ds w R (record { x = x; y = y })
-    (place-of (inside-some cs T (record { x = x; y = y })) (first-inside cs T (record { x = x; y = y })) (side-at T (first-within cs T ds w (record { x = x; y = y }))))
-true-numbers cs T ds w R Refused = []
 
 -- LINE also for the door underfoot; no such door, or already in that state; the given list differs from the true one
 abbrev pub change-conditions : ℕ → List ℤ → List ℕ → List ℕ → Query → List ℕ → ℕ → Bool → ℕ → List Condition
@@ -196,6 +209,10 @@ ChangeAnswers kind cs ts ds a given i b table =
     Answers (1 ∷ 2 ∷ 3 ∷ 4 ∷ 5 ∷ 6 ∷ 7 ∷ 8 ∷ 15 ∷ 9 ∷ 10 ∷ 11 ∷ 12 ∷ 13 ∷ []) (change-conditions kind cs ts ds a given i b (length table)) (change-replies kind cs ts ds a given i b table .0) table (change-replies kind cs ts ds a given i b table .1)
 
 -- ---- a morning's stands together (document 02, A1)
+
+-- a stand's own reply: the stand, the reach and the ceiling
+abbrev pub single-conditions : List ℤ → Cells → List ℕ → Morning → Stand → List Condition
+single-conditions cs T ds m s = query-conditions cs T ds (m .setting) (m .reach) (stood cs s) ++ ceiling-conditions cs T ds (m .setting) (m .reach) (stood cs s) (m .ceiling)
 
 -- SIZE also for more than 32 stands; no stand is looked at; a table below 4·corners·stands numbers, or fewer than 3·stands places for the replies
 abbrev pub list-stands-conditions : ℕ → List ℤ → List ℕ → List ℕ → Morning → ℕ → ℕ → List Condition

@@ -25,6 +25,7 @@ use Rattle.fan.specs.Sight.{Row}
 use Rattle.fan.specs.Walk.{RowHolds, WalkEnds}
 use Rattle.fan.specs.Written.{row-at, OneRow}
 use Rattle.sight.specs.Listing.{plan-floor, seen, standing, sight-from, listing-numbers, listing-row-count, listing-crossings, listed}
+use Rattle.sight.specs.declared.ceiling.Ceiling.{Ceiling}
 use Rattle.sight.specs.declared.view.Query.{Query}
 use Rattle.sight.specs.declared.list.Listed.{Listed}
 use Rattle.sight.specs.declared.list.Listed.the-variants.{Rows, Refused}
@@ -42,7 +43,7 @@ pub record Demand-1 : Type 0 where
   pub read : (file : List ℕ) (corners : List ℤ) (cells doors : List ℕ) → ReadAnswers file corners cells doors
   pub write : (kind : ℕ) (cs : List ℤ) (ts ds file : List ℕ) → WriteAnswers kind cs ts ds file
   pub find : (kind : ℕ) (cs : List ℤ) (ts ds : List ℕ) (w : ℕ) (s : Stand) → FindAnswers kind cs ts ds w s
-  pub list : (kind : ℕ) (cs : List ℤ) (ts ds : List ℕ) (a : Query) (table : List ℕ) → ListAnswers kind cs ts ds a table
+  pub list : (kind : ℕ) (cs : List ℤ) (ts ds : List ℕ) (a : Query) (c : Ceiling) (table : List ℕ) → ListAnswers kind cs ts ds a c table
   pub change : (kind : ℕ) (cs : List ℤ) (ts ds : List ℕ) (a : Query) (given : List ℕ) (i : ℕ) (b : Bool) (table : List ℕ) → ChangeAnswers kind cs ts ds a given i b table
   pub list-stands : (kind : ℕ) (cs : List ℤ) (ts ds : List ℕ) (m : Morning) (stands : List Stand) (table replies : List ℕ) → ListStandsAnswers kind cs ts ds m stands table replies
   -- different refusals have different numbers, or the same number at different places

@@ -8,6 +8,8 @@ pub mod Demands
 pub mod Longer
 -- no reach stated: document 01's rows, with 0 after each
 pub mod Unlimited
+-- what a ceiling of crossings does to a listing
+pub mod Ceilings
 -- several stands in one call are single calls, one after another
 pub mod Together
 -- the twelve measured examples

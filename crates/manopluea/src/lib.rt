@@ -4,7 +4,7 @@
 // three corner numbers and three neighbours (65535 is wall), or of kind 12, in which each cell of 3 to 8 corners has its corner count before it (document
 // 02, A14): the caller says which. Faces are numbered in the order of the list: the sides of the first cell, then those of the second, and so on; for
 // kind 2 that is 3·cell + side. In a door setting bit i is one while door i is shut. What is asked of a plan comes in one struct, `Query`: door setting, stand
-// and reach, which is stated or not; `Morning` has what several stands share.
+// and reach, which is stated or not; `Listing` adds a ceiling of crossings, and `Morning` has what several stands share.
 //
 // Every call takes every input and has no `requires`. Its promise is one equation, said twice: the answer, with what stands in the lent memory at exit,
 // is a definition of the input and of what stood there at entry; and so are the paper's reply number, place and values (`checked-reply`,
@@ -15,7 +15,7 @@ ghost use mathlib.Core.Path.{_≡_};
 ghost use Rattle.cells.specs.Check.{checked};
 ghost use Rattle.planfile.specs.Calls.{written, read as Calls·read};
 ghost use Rattle.stand.specs.Find.{found};
-ghost use Rattle.sight.specs.Listing.{listed};
+ghost use Rattle.sight.specs.Ceiling.{listed-up-to};
 ghost use Rattle.doors.specs.Change.{changed};
 ghost use Rattle.morning.specs.Morning.{listed-stands};
 ghost use Rattle.limits.specs.Reply.{checked-reply};
@@ -29,6 +29,7 @@ pub use limits::Refusal;
 pub use morning::Morning;
 pub use planfile::ReadPlan;
 pub use reach::Reach;
+pub use sight::ceiling::Ceiling;
 pub use sight::list::Listed;
 pub use sight::view::Query;
 pub use stand::locate::Footing;
@@ -38,6 +39,12 @@ pub use stand::spot::Stand;
 // What a call is told of its lists: which kind the list of cells is in, 2 or 12; every other number is FRAME.
 pub struct Terms {
     pub kind: u16,
+}
+
+// What the listing is asked: a query, and a ceiling of crossings, which is stated or not.
+pub struct Listing {
+    pub query: Query,
+    pub ceiling: Ceiling,
 }
 
 // The plan check. Accepted with the counts of corners, cells and doors; else FRAME, SIZE, CORNER, CELL, NEIGHBOUR or DOOR,
@@ -98,20 +105,23 @@ pub fn find(
 // out of reach), in the order of the expansion. From a stand strictly within a free side, its cell's other sides are expanded in order after it, then the
 // neighbour's; the line that it stands on is not crossed. Where a reach is stated, a free line out of reach is not crossed and gives a row too (document
 // 02, A5): a line is in reach when some point of the whole of it is, seen or not. Replies row count and crossings; else 1 to 6, SETTING, STAND, REACH for a
-// stated number that is not 1 to 262,144, LINE, OUTSIDE, or ROOM for a table below 4·corners numbers.
+// stated number that is not 1 to 262,144, LINE, OUTSIDE, ROOM for a table below 4·corners numbers, or CEILING where the crossings exceed the ceiling that is
+// stated (document 02, A13); the work stops when it is passed.
 pub fn list(
     corners: &[i32],
     cells: &[u16],
     doors: &[u16],
     terms: Terms,
-    query: Query,
+    listing: Listing,
     table: &mut [u16],
 ) -> Listed
-    ensures answer { λ r. ⌜ (r, now (table .exit)) ≡ listed (terms .kind) (now (corners .entry)) (now (cells .entry)) (now (doors .entry)) query (now (table .entry)) ⌝ }
-    ensures numbers { λ r. ⌜ (listed-reply r, now (table .exit)) ≡ list-replies (terms .kind) (now (corners .entry)) (now (cells .entry)) (now (doors .entry)) query (now (table .entry)) ⌝ }
+    ensures answer { λ r. ⌜ (r, now (table .exit)) ≡ listed-up-to (terms .kind) (now (corners .entry)) (now (cells .entry)) (now (doors .entry)) (listing .query) (listing .ceiling) (now (table .entry)) ⌝ }
+    ensures numbers { λ r. ⌜ (listed-reply r, now (table .exit)) ≡ list-replies (terms .kind) (now (corners .entry)) (now (cells .entry)) (now (doors .entry)) (listing .query) (listing .ceiling) (now (table .entry)) ⌝ }
 {
     let kind = terms.kind;
-    sight::list::list(corners, cells, doors, kind, query, table)
+    let query = listing.query;
+    let ceiling = listing.ceiling;
+    sight::list::list(corners, cells, doors, kind, query, ceiling, table)
 }
 
 // The door change: from the true list under the old setting, the list and crossings with one door shut or opened, within the same reach. A door out of reach
@@ -136,7 +146,7 @@ pub fn change(
 }
 
 // A morning's stands together: as many of the stands as are asked for, listed one after another in the order given, as `list` lists each of them with the
-// one setting and the one reach. The rows stand one behind the other from the beginning of the table, and three numbers a stand (reply number, row count,
+// one setting, the one reach and the one ceiling, which each stand has for itself. The rows stand one behind the other from the beginning of the table, and three numbers a stand (reply number, row count,
 // crossings) from that of the replies; a refused stand has counts 0, writes no row and stops no other. Replies the sums of rows and crossings. Else 1 to 6
 // (SIZE also for more than 32 stands), SETTING, or ROOM for a table below 4·corners·stands numbers or fewer than 3·stands places for the replies, before any
 // stand is looked at.

@@ -15,6 +15,7 @@ use Rattle.cells.specs.Lists.{Cells, corner-count}
 use Rattle.cells.specs.Sound.{Sound}
 use Rattle.cells.proofs.Plans.{counts}
 use Rattle.reach.specs.declared.Reach.{Reach}
+use Rattle.sight.specs.declared.ceiling.Ceiling.{Ceiling}
 use Rattle.stand.specs.declared.spot.Stand.{Stand}
 use Rattle.sight.specs.declared.list.Listed.{Listed}
 use Rattle.morning.specs.Morning.{rows-of, crossings-of, three-of, rows-in, one-after-another, in-all, rows-in-all, crossings-in-all, all-rows, all-replies}
@@ -117,12 +118,12 @@ module _ {listing : Stand → Listed × List ℕ} {stands : List Stand} {i rows 
 
 -- ---- on an accepted plan: room for n stands is room for stand i
 
-module _ {cs : List ℤ} {T : Cells} {ds : List ℕ} (sound : Sound cs T ds) (w : ℕ) (r : Reach) where
+module _ {cs : List ℤ} {T : Cells} {ds : List ℕ} (sound : Sound cs T ds) (w : ℕ) (r : Reach) (c : Ceiling) where
   abbrev listing : Stand → Listed × List ℕ
-  listing = single-on cs T ds w r
+  listing = single-on cs T ds w r c
 
   small : (s : Stand) → Small cs (listing s)
-  small = single-on-is-small sound w r
+  small = single-on-is-small sound w r c
 
   few-corners : corner-count cs ≤ most-corners
   few-corners = counts _ _ _ (sound .in-size) .corners-at-most
@@ -158,10 +159,10 @@ module _ {cs : List ℤ} {T : Cells} {ds : List ℕ} (sound : Sound cs T ds) (w 
       stand = getD stands i d
 
       abbrev here : Listed × List ℕ
-      here = listed-on cs T ds w r stand part
+      here = listed-on cs T ds w r c stand part
 
       one : AsSingle cs part (listing stand) here
-      one = listed-on-as-single sound w r stand part part-has-room
+      one = listed-on-as-single sound w r c stand part part-has-room
 
       one-more-taken : take (i + 1) stands ≡ take i stands ++ (stand ∷ [])
       one-more-taken =

@@ -2,7 +2,7 @@
 use mathlib.Core.Bool.{Bool}
 use mathlib.Core.List.{List, [], _∷_}
 use mathlib.Core.Path.{_≡_, refl, sym, ap, ap₂, _∙_, subst}
-use Prim.Native.Nat.{ℕ, suc, _+_, _*_, _^_, _<_, _≤_}
+use Prim.Native.Nat.{ℕ, suc, _+_, _*_, _<_, _≤_}
 use native.Mathlib.Omega.{arith}
 use lib.ListN.{length, set}
 use lib.Seq.{sets}
@@ -10,7 +10,7 @@ use lib.IntN.{ℤ}
 use mir.Syntax.{w64}
 use mir.Val.{toZ, ofZ}
 use Rattle.plane.specs.Side.{Point, point, Near}
-use Rattle.limits.specs.Limits.{most-reach}
+use Rattle.limits.specs.Limits.{most-corners, most-reach}
 use Rattle.limits.specs.Reply.{number}
 use Rattle.limits.specs.declared.Refusal.{Refusal}
 use Rattle.limits.specs.declared.Refusal.the-variants.{Room}
@@ -24,18 +24,20 @@ use Rattle.stand.specs.declared.spot.Stand.{Stand}
 use Rattle.stand.specs.declared.locate.Footing.{Footing}
 use Rattle.stand.proofs.Finds.{as-read, near-as-read}
 use Rattle.stand.proofs.Located.{Stands, found-place-holds-the-stand}
-use Rattle.fan.specs.Sight.{Sight, numbers, row-count, crossings, Whole}
+use Rattle.fan.specs.Sight.{Sight, row-count, crossings, Whole}
 use Rattle.expand.specs.Floor.{Lines, Starts}
 use Rattle.lines.specs.Lined.{Lined}
 use Rattle.sight.specs.CellTree.{stand-tree, StandsIn}
 use Rattle.sight.specs.Seen.{SeenFrom}
-use Rattle.sight.specs.Listing.{view-of-spot, listing-row-count, listing-crossings, listing-numbers, refuse, rows-from, listed-from}
+use Rattle.sight.specs.Listing.{view-of-spot, refuse, rows-from, listed-from}
+use Rattle.sight.specs.Ceiling.{enough, up-to, tree-up-to}
+use Rattle.sight.specs.declared.ceiling.Ceiling.{Ceiling}
 use Rattle.sight.specs.declared.view.View.{View}
 use Rattle.sight.specs.declared.view.View.the-variants as O
-use Rattle.sight.proofs.Lined.{lined-is-lines, starts-stand}
-use Rattle.sight.proofs.Lister.{stands-in-the-tables, tree-is-whole, tree-has-room, few-crossings, listing-written}
+use Rattle.sight.proofs.Lister.{tables-serve, tree-listed}
 use Rattle.sight.proofs.Views.{Spotted, spot-says, is-long}
 use Rattle.sight.specs.declared.list.Listed.{Listed}
+use Rattle.sight.specs.declared.list.Listed.the-variants as L
 use Rattle.morning.specs.Morning.{rows-of, crossings-of, three-of}
 use Rattle.morning.specs.OverLines.{listed-on}
 
@@ -50,18 +52,13 @@ three-put l at a b c =
 abbrev seen-from : ℤ → ℤ → Point
 seen-from x y = point (toZ w64 (ofZ w64 x) ∷ toZ w64 (ofZ w64 y) ∷ [])
 
--- counts, table and replies are left by the stand's listing
-abbrev Left : ℕ → List ℕ → ℕ → ℕ → List ℕ → List ℕ → Listed × List ℕ → Type 0
-Left at old i j new new-replies l =
-    (i ≡ rows-of (l .0)) × ((j ≡ crossings-of (l .0)) × ((new ≡ l .1) × (new-replies ≡ sets old at (three-of (l .0)))))
-
-module _ (cs : List ℤ) (T : Cells) (ds : List ℕ) (w : ℕ) (r : Reach) (s : Stand) (table : List ℕ) (at : ℕ) (old : List ℕ) where
-  by-view : {i j : ℕ} {new new-replies : List ℕ} {v : View} → view-of-spot cs T ds w r (stood cs s) ≡ v → Left at old i j new new-replies (listed-from cs T ds w (range r) table v) → Left at old i j new new-replies (listed-on cs T ds w r s table)
+module _ (cs : List ℤ) (T : Cells) (ds : List ℕ) (w : ℕ) (r : Reach) (c : Ceiling) (s : Stand) (table : List ℕ) where
+  by-view : {v : View} → view-of-spot cs T ds w r (stood cs s) ≡ v → up-to c table (listed-from cs T ds w (range r) table v) ≡ listed-on cs T ds w r c s table
   unfolding listed-on
-  by-view {i} {j} {new} {new-replies} e = subst (λ (v : View). Left at old i j new new-replies (listed-from cs T ds w (range r) table v)) (sym e)
+  by-view e = ap (λ (v : View). up-to c table (listed-from cs T ds w (range r) table v)) (sym e)
 
-  pub stand-refused : {x : Refusal} {n : ℕ} {new : List ℕ} → view-of-spot cs T ds w r (stood cs s) ≡ O.Refused x → n ≡ number x → new ≡ sets old at (n ∷ 0 ∷ 0 ∷ []) → Left at old 0 0 table new (listed-on cs T ds w r s table)
-  stand-refused view e h = by-view view (refl, (refl, (refl, h ∙ ap (λ (n : ℕ). sets old at (n ∷ 0 ∷ 0 ∷ [])) e)))
+  pub stand-refused : {x : Refusal} → view-of-spot cs T ds w r (stood cs s) ≡ O.Refused x → (L.Refused x, table) ≡ listed-on cs T ds w r c s table
+  stand-refused view = by-view view
 
 -- ---- a stand that is found
 
@@ -89,21 +86,29 @@ module _ {cs : List ℤ} {T : Cells} {ds : List ℕ} (sound : Sound cs T ds) (w 
     abbrev tree : Sight
     tree = stand-tree zs ls T R p
 
-    pub lines-asked : (Lines zs ls × Starts zs ls (T .faces) × (R ≤ most-reach) × Numbered T) × ((StandsIn ls T p × (length ls ≡ 4 * face-count T)) × (Whole tree × ((4 * row-count tree ≤ length table) × (crossings tree < 2 ^ 63))))
-    lines-asked = (
-      (lined-is-lines w R sound near lined seen, starts-stand w R sound near lined seen, subst (λ (n : ℕ). n ≤ most-reach) (sym in-range) (right-reach r (spot .reach-right)), sound .numbered),
-      (
-        (stands-in-the-tables sound w R q near lined seen p stands, lined .whole),
-        (tree-is-whole sound w R q near lined seen p stands, (tree-has-room sound w R q near lined seen p stands (length table) room, few-crossings sound w R q near lined seen p stands)),
-      ),
-    )
+    pub lines-asked : (Lines zs ls × Starts zs ls (T .faces) × (R ≤ most-reach) × Numbered T) × ((StandsIn ls T p × (length ls ≡ 4 * face-count T)) × (Whole tree × ((4 * row-count tree ≤ length table) × ((row-count tree ≤ most-corners) × (crossings tree < enough)))))
+    lines-asked = tables-serve sound w R q near lined seen p stands (subst (λ (n : ℕ). n ≤ most-reach) (sym in-range) (right-reach r (spot .reach-right))) (length table) room
 
-    pub stand-listed : (at : ℕ) (old : List ℕ) {i j : ℕ} {new new-replies : List ℕ} → (i ≡ row-count tree) × ((j ≡ crossings tree) × (new ≡ sets table 0 (numbers tree))) → new-replies ≡ sets old at (0 ∷ i ∷ j ∷ []) → Left at old i j new new-replies (listed-on cs T ds w r s table)
-    stand-listed at old {i} {j} {new} {new-replies} h e =
-        let says = listing-written sound w R q near lined seen p stands table h in
-        let rows = says .0 ∙ ap₂ (λ (R : ℕ) (q : Point). listing-row-count cs T ds w R q p) in-range read in
-        let passed = says .1 .0 ∙ ap₂ (λ (R : ℕ) (q : Point). listing-crossings cs T ds w R q p) in-range read in
-        let written = says .1 .1 ∙ ap₂ (λ (R : ℕ) (q : Point). sets table 0 (listing-numbers cs T ds w R q p)) in-range read in
-        by-view cs T ds w r s table at old view
-        (subst (λ (b : Bool). Left at old i j new new-replies (refuse b Room table (rows-from cs T ds w (range r) table (record { x = x; y = y }) p))) (sym (is-long cs table room))
-        (rows, (passed, (written, e ∙ (λ k. sets old at (0 ∷ rows k ∷ passed k ∷ []))))))
+    pub stand-listed : (c : Ceiling) {a : Listed × List ℕ} → a ≡ tree-up-to c table tree → a ≡ listed-on cs T ds w r c s table
+    stand-listed c e =
+        let said =
+        tree-listed sound w R q near lined seen p stands table
+        ∙ ap₂ (λ (R : ℕ) (q : Point). rows-from cs T ds w R table q p) in-range read
+        ∙ ap (λ (b : Bool). refuse b Room table (rows-from cs T ds w (range r) table (record { x = x; y = y }) p)) (sym (is-long cs table room)) in
+        e ∙ ap (up-to c table) said ∙ by-view cs T ds w r c s table view
+
+-- ---- the stand's reply
+
+-- counts, table and replies are left by the stand's listing
+abbrev Left : ℕ → List ℕ → ℕ → ℕ → List ℕ → List ℕ → Listed × List ℕ → Type 0
+Left at old i j new new-replies l =
+    (i ≡ rows-of (l .0)) × ((j ≡ crossings-of (l .0)) × ((new ≡ l .1) × (new-replies ≡ sets old at (three-of (l .0)))))
+
+module _ (at : ℕ) (old : List ℕ) {l : Listed × List ℕ} {a : Listed} {new new-replies : List ℕ} (listed : (a, new) ≡ l) where
+  pub refusal-left : {x : Refusal} {n : ℕ} → a ≡ L.Refused x → n ≡ number x → new-replies ≡ sets old at (n ∷ 0 ∷ 0 ∷ []) → Left at old 0 0 new new-replies l
+  refusal-left is e h =
+      subst (Left at old 0 0 new new-replies) listed
+      (subst (λ (a : Listed). Left at old 0 0 new new-replies (a, new)) (sym is) (refl, (refl, (refl, h ∙ ap (λ (n : ℕ). sets old at (n ∷ 0 ∷ 0 ∷ [])) e))))
+
+  pub rows-left : {i j : ℕ} → a ≡ L.Rows i j → new-replies ≡ sets old at (0 ∷ i ∷ j ∷ []) → Left at old i j new new-replies l
+  rows-left {i} {j} is h = subst (Left at old i j new new-replies) listed (subst (λ (a : Listed). Left at old i j new new-replies (a, new)) (sym is) (refl, (refl, (refl, h))))

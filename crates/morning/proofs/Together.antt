@@ -16,7 +16,7 @@ use Rattle.cells.specs.Lists.{Cells, corner-count}
 use Rattle.cells.specs.Cut.{cells-of}
 use Rattle.cells.specs.Sound.{Sound}
 use Rattle.stand.specs.declared.spot.Stand.{Stand}
-use Rattle.sight.specs.Listing.{listed}
+use Rattle.sight.specs.Ceiling.{listed-up-to}
 use Rattle.fan.specs.Once.{At}
 use Rattle.fan.specs.Once.At.{first, later}
 use Rattle.sight.specs.declared.list.Listed.{Listed}
@@ -46,10 +46,10 @@ module _ (k : ℕ) (cs : List ℤ) (ts ds : List ℕ) (m : Morning) (stands : Li
     pub room-for-all : RoomFor (m .count) cs (length table) (length replies)
     room-for-all = record { few-stands = grant .few-stands; table-long = grant .table-long; replies-long = grant .replies-long }
 
-    on-the-tables : single-on cs T ds (m .setting) (m .reach) ≡ single k cs ts ds m
-    on-the-tables = λ i s. (ap (λ (T : Cells). single-on cs T ds (m .setting) (m .reach) s) is-T ∙ sym (single-by-spot k cs ts ds m (grant .plan-accepted) (grant .setting-right) s)) i
+    on-the-tables : single-on cs T ds (m .setting) (m .reach) (m .ceiling) ≡ single k cs ts ds m
+    on-the-tables = λ i s. (ap (λ (T : Cells). single-on cs T ds (m .setting) (m .reach) (m .ceiling) s) is-T ∙ sym (single-by-spot k cs ts ds m (grant .plan-accepted) (grant .setting-right) s)) i
 
-    pub call-done : {i j : ℕ} {new new-replies : List ℕ} → (i ≡ rows-in-all (single-on cs T ds (m .setting) (m .reach)) (take (m .count) stands)) × ((j ≡ crossings-in-all (single-on cs T ds (m .setting) (m .reach)) (take (m .count) stands)) × ((new ≡ sets table 0 (all-rows (single-on cs T ds (m .setting) (m .reach)) (take (m .count) stands))) × (new-replies ≡ sets replies 0 (all-replies (single-on cs T ds (m .setting) (m .reach)) (take (m .count) stands))))) → _≡_ {A = Listed × (List ℕ × List ℕ)} (L.Rows i j, (new, new-replies)) (listed-stands k cs ts ds m stands table replies)
+    pub call-done : {i j : ℕ} {new new-replies : List ℕ} → (i ≡ rows-in-all (single-on cs T ds (m .setting) (m .reach) (m .ceiling)) (take (m .count) stands)) × ((j ≡ crossings-in-all (single-on cs T ds (m .setting) (m .reach) (m .ceiling)) (take (m .count) stands)) × ((new ≡ sets table 0 (all-rows (single-on cs T ds (m .setting) (m .reach) (m .ceiling)) (take (m .count) stands))) × (new-replies ≡ sets replies 0 (all-replies (single-on cs T ds (m .setting) (m .reach) (m .ceiling)) (take (m .count) stands))))) → _≡_ {A = Listed × (List ℕ × List ℕ)} (L.Rows i j, (new, new-replies)) (listed-stands k cs ts ds m stands table replies)
     unfolding listed-stands
     call-done h =
         (λ i. (L.Rows (h .0 i) (h .1 .0 i), (h .1 .1 .0 i, h .1 .1 .1 i)))
@@ -113,24 +113,24 @@ module _ (k : ℕ) (cs : List ℤ) (ts ds : List ℕ) (m : Morning) (stands : Li
   replies-have-room = omega (arith, grant .replies-long, no-more)
 
   module _ {i : ℕ} {s : Stand} (at : At s ss i) (lent : List ℕ) (room : 4 * corner-count cs ≤ length lent) where
-    alone : AsSingle cs lent (single k cs ts ds m s) (listed k cs ts ds (query-of m s) lent)
+    alone : AsSingle cs lent (single k cs ts ds m s) (listed-up-to k cs ts ds (query-of m s) (m .ceiling) lent)
     alone = listed-as-single k cs ts ds m (grant .plan-accepted) (grant .setting-right) s lent room
 
     -- three numbers at the stand's place are the reply of the single listing
-    pub reply-is-the-single-one : take 3 (drop (3 * i) (sets replies 0 (all-replies (single k cs ts ds m) ss))) ≡ three-of (listed k cs ts ds (query-of m s) lent .0)
+    pub reply-is-the-single-one : take 3 (drop (3 * i) (sets replies 0 (all-replies (single k cs ts ds m) ss))) ≡ three-of (listed-up-to k cs ts ds (query-of m s) (m .ceiling) lent .0)
     reply-is-the-single-one =
         let i-taken : length (take i ss) ≡ i = length-take-le i ss (omega (arith, place-is-within at)) in
         part-of (λ s. three-of (single k cs ts ds m s .0)) at replies (omega (arith, replies-have-room, replies-are-three-numbers (single k cs ts ds m) ss)) (3 * i) 3 (replies-are-three-numbers (single k cs ts ds m) (take i ss) ∙ ap (λ (j : ℕ). 3 * j) i-taken) refl
         ∙ ap three-of (sym (alone .same-answer))
 
     -- the numbers behind the rows of the stands before are the rows of the single listing
-    pub rows-are-the-single-ones : take (4 * rows-of (listed k cs ts ds (query-of m s) lent .0)) (drop (4 * rows-in-all (single k cs ts ds m) (take i ss)) (sets table 0 (all-rows (single k cs ts ds m) ss))) ≡ take (4 * rows-of (listed k cs ts ds (query-of m s) lent .0)) (listed k cs ts ds (query-of m s) lent .1)
+    pub rows-are-the-single-ones : take (4 * rows-of (listed-up-to k cs ts ds (query-of m s) (m .ceiling) lent .0)) (drop (4 * rows-in-all (single k cs ts ds m) (take i ss)) (sets table 0 (all-rows (single k cs ts ds m) ss))) ≡ take (4 * rows-of (listed-up-to k cs ts ds (query-of m s) (m .ceiling) lent .0)) (listed-up-to k cs ts ds (query-of m s) (m .ceiling) lent .1)
     rows-are-the-single-ones =
-        let as-many : length (rows-in (single k cs ts ds m s)) ≡ 4 * rows-of (listed k cs ts ds (query-of m s) lent .0) = alone .small .four-a-row ∙ ap (λ (a : Listed). 4 * rows-of a) (sym (alone .same-answer)) in
-        part-of (λ s. rows-in (single k cs ts ds m s)) at table (omega (arith, rows-have-room, rows-are-four-numbers small ss)) (4 * rows-in-all (single k cs ts ds m) (take i ss)) (4 * rows-of (listed k cs ts ds (query-of m s) lent .0)) (rows-are-four-numbers small (take i ss)) as-many
+        let as-many : length (rows-in (single k cs ts ds m s)) ≡ 4 * rows-of (listed-up-to k cs ts ds (query-of m s) (m .ceiling) lent .0) = alone .small .four-a-row ∙ ap (λ (a : Listed). 4 * rows-of a) (sym (alone .same-answer)) in
+        part-of (λ s. rows-in (single k cs ts ds m s)) at table (omega (arith, rows-have-room, rows-are-four-numbers small ss)) (4 * rows-in-all (single k cs ts ds m) (take i ss)) (4 * rows-of (listed-up-to k cs ts ds (query-of m s) (m .ceiling) lent .0)) (rows-are-four-numbers small (take i ss)) as-many
         ∙ sym
-        (ap (take (4 * rows-of (listed k cs ts ds (query-of m s) lent .0))) (alone .same-rows)
-        ∙ first-is-new lent (rows-in (single k cs ts ds m s)) (4 * rows-of (listed k cs ts ds (query-of m s) lent .0)) as-many (omega (arith, alone .small .few-rows, alone .small .four-a-row)))
+        (ap (take (4 * rows-of (listed-up-to k cs ts ds (query-of m s) (m .ceiling) lent .0))) (alone .same-rows)
+        ∙ first-is-new lent (rows-in (single k cs ts ds m s)) (4 * rows-of (listed-up-to k cs ts ds (query-of m s) (m .ceiling) lent .0)) as-many (omega (arith, alone .small .few-rows, alone .small .four-a-row)))
 
   pub table-is-kept-beyond : drop (4 * rows-in-all (single k cs ts ds m) ss) (sets table 0 (all-rows (single k cs ts ds m) ss)) ≡ drop (4 * rows-in-all (single k cs ts ds m) ss) table
   table-is-kept-beyond =

@@ -1,4 +1,4 @@
--- A morning's stands together (document 02, A1 and A5): the rows of each stand's own listing, one after another, and three numbers a stand.
+-- A morning's stands together (document 02, A1, A5 and A13): the rows of each stand's own listing, one after another, and three numbers a stand.
 use mathlib.Core.List.{List, [], _∷_, _++_}
 use Prim.Native.Nat.{ℕ, _+_, _*_}
 use lib.ListN.{length, getD, take, replicate}
@@ -9,7 +9,7 @@ use Rattle.limits.specs.declared.Checked.the-variants as C
 use Rattle.cells.specs.Lists.{corner-count}
 use Rattle.grant.specs.Asked.{asked}
 use Rattle.stand.specs.declared.spot.Stand.{Stand}
-use Rattle.sight.specs.Listing.{listed}
+use Rattle.sight.specs.Ceiling.{listed-up-to}
 use Rattle.sight.specs.Reply.{listed-reply}
 use Rattle.sight.specs.declared.view.Query.{Query}
 use Rattle.sight.specs.declared.list.Listed.{Listed}
@@ -58,9 +58,9 @@ all-replies listing = one-after-another (λ s. three-of (listing s .0))
 abbrev pub query-of : Morning → Stand → Query
 query-of m s = record { setting = m .setting; stand = s; reach = m .reach }
 
--- the single listing of a stand, with a table of 4·corners numbers; the cells are in a list of kind k
+-- the single listing of a stand with the one ceiling, in a table of 4·corners numbers; the cells are in a list of kind k
 unfoldable pub single : ℕ → List ℤ → List ℕ → List ℕ → Morning → Stand → Listed × List ℕ
-single k cs ts ds m s = listed k cs ts ds (query-of m s) (replicate (4 * corner-count cs) 0)
+single k cs ts ds m s = listed-up-to k cs ts ds (query-of m s) (m .ceiling) (replicate (4 * corner-count cs) 0)
 
 -- the answer, the table and the replies at exit: on a refusal they keep their contents, and beyond the numbers written they keep their values
 abbrev pub stands-from : (Stand → Listed × List ℕ) → List Stand → List ℕ → List ℕ → Checked → Listed × (List ℕ × List ℕ)

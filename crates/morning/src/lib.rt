@@ -17,7 +17,6 @@ ghost use Rattle.checking.specs.declared.Sizes.the-variants.{Of};
 ghost use Rattle.morning.specs.OverLines.{listed-on, single-on, RoomFor};
 ghost use Rattle.morning.specs.Morning.{rows-of, crossings-of, three-of, rows-in-all, crossings-in-all, all-rows, all-replies, listed-stands};
 use checking::Sizes;
-use expand::Counts;
 use grant::asked_in;
 use grant::measure_for;
 use limits::Checked;
@@ -25,18 +24,21 @@ use limits::Plan;
 use limits::reply;
 use lines::lines_of;
 use reach::Reach;
+use sight::ceiling::Ceiling;
+use sight::list::Counts;
 use sight::list::Listed;
-use sight::list::list_over;
+use sight::list::list_up_to;
 use sight::seen::see;
 use sight::view::View;
 use sight::view::view_of_stand;
 use stand::spot::Stand;
 
-// What the stands of a morning share: the door setting, how many of the stands are asked for, and the reach.
+// What the stands of a morning share: the door setting, how many of the stands are asked for, the reach, and the ceiling, which each of them has for itself.
 pub struct Morning {
     pub setting: u64,
     pub count: usize,
     pub reach: Reach,
+    pub ceiling: Ceiling,
 }
 
 // A stand's reply, from a place on: its number, row count and crossings.
@@ -49,8 +51,38 @@ fn put(replies: &mut [u64], at: usize, number: u64, rows: u64, crossings: u64)
     replies[at + 2] = crossings;
 }
 
-// One stand, over the lines drawn: its rows go to the beginning of the table, its reply to the replies from `at` on. A refused stand has counts 0 and
-// writes no row. The corners are seen from each stand anew, in the room lent.
+// The listing of one stand, over the lines drawn: its rows go to the beginning of the table. The corners are seen from each stand anew, in the room lent.
+fn list_one(
+    corners: &[i32],
+    faces: &[u16],
+    firsts: &[u16],
+    backs: &[u16],
+    doors: &[u16],
+    setting: u64,
+    reach: Reach,
+    ceiling: Ceiling,
+    lines: &[u16],
+    stand: Stand,
+    table: &mut [u16],
+    seen: &mut [i32],
+) -> Listed
+    requires { ⌜ Sound (now corners) (tabled (now faces) (now firsts)) (now doors) × Backed (tabled (now faces) (now firsts)) (now backs) ⌝ }
+    requires { ⌜ Lined (tabled (now faces) (now firsts)) (now doors) setting (now lines) ⌝ }
+    requires { ⌜ 4 * corner-count (now corners) ≤ length (now table) ⌝ }
+    requires { ⌜ length (now seen) ≡ length (now corners) ⌝ }
+    ensures { λ r. ⌜ (r, now (table .exit)) ≡ listed-on (now (corners .entry)) (tabled (now (faces .entry)) (now (firsts .entry))) (now (doors .entry)) setting reach ceiling stand (now (table .entry)) ⌝ }
+{
+    match view_of_stand(corners, faces, firsts, backs, doors, setting, stand, reach) {
+        View::Refused(r) => Listed::Refused(r),
+        View::From(x, y, p) => {
+            see(corners, [x, y], seen);
+            let range = reach::range(reach);
+            list_up_to(seen, lines, faces, firsts, range, table, p, ceiling)
+        }
+    }
+}
+
+// One stand with its reply, which goes to the replies from `at` on. A refused stand has counts 0 and writes no row.
 fn list_stand(
     corners: &[i32],
     faces: &[u16],
@@ -59,6 +91,7 @@ fn list_stand(
     doors: &[u16],
     setting: u64,
     reach: Reach,
+    ceiling: Ceiling,
     lines: &[u16],
     stand: Stand,
     table: &mut [u16],
@@ -70,25 +103,35 @@ fn list_stand(
     requires { ⌜ Lined (tabled (now faces) (now firsts)) (now doors) setting (now lines) ⌝ }
     requires { ⌜ (4 * corner-count (now corners) ≤ length (now table)) × (at + 3 ≤ length (now replies)) ⌝ }
     requires { ⌜ length (now seen) ≡ length (now corners) ⌝ }
-    ensures { λ r. ⌜ r .rows ≡ rows-of (listed-on (now (corners .entry)) (tabled (now (faces .entry)) (now (firsts .entry))) (now (doors .entry)) setting reach stand (now (table .entry)) .0) ⌝ }
-    ensures { λ r. ⌜ r .crossings ≡ crossings-of (listed-on (now (corners .entry)) (tabled (now (faces .entry)) (now (firsts .entry))) (now (doors .entry)) setting reach stand (now (table .entry)) .0) ⌝ }
-    ensures { λ _. ⌜ now (table .exit) ≡ listed-on (now (corners .entry)) (tabled (now (faces .entry)) (now (firsts .entry))) (now (doors .entry)) setting reach stand (now (table .entry)) .1 ⌝ }
-    ensures { λ _. ⌜ now (replies .exit) ≡ sets (now (replies .entry)) at (three-of (listed-on (now (corners .entry)) (tabled (now (faces .entry)) (now (firsts .entry))) (now (doors .entry)) setting reach stand (now (table .entry)) .0)) ⌝ }
+    ensures { λ r. ⌜ r .rows ≡ rows-of (listed-on (now (corners .entry)) (tabled (now (faces .entry)) (now (firsts .entry))) (now (doors .entry)) setting reach ceiling stand (now (table .entry)) .0) ⌝ }
+    ensures { λ r. ⌜ r .crossings ≡ crossings-of (listed-on (now (corners .entry)) (tabled (now (faces .entry)) (now (firsts .entry))) (now (doors .entry)) setting reach ceiling stand (now (table .entry)) .0) ⌝ }
+    ensures { λ _. ⌜ now (table .exit) ≡ listed-on (now (corners .entry)) (tabled (now (faces .entry)) (now (firsts .entry))) (now (doors .entry)) setting reach ceiling stand (now (table .entry)) .1 ⌝ }
+    ensures { λ _. ⌜ now (replies .exit) ≡ sets (now (replies .entry)) at (three-of (listed-on (now (corners .entry)) (tabled (now (faces .entry)) (now (firsts .entry))) (now (doors .entry)) setting reach ceiling stand (now (table .entry)) .0)) ⌝ }
 {
-    match view_of_stand(corners, faces, firsts, backs, doors, setting, stand, reach) {
-        View::Refused(r) => {
+    match list_one(
+        corners,
+        faces,
+        firsts,
+        backs,
+        doors,
+        setting,
+        reach,
+        ceiling,
+        lines,
+        stand,
+        table,
+        seen,
+    ) {
+        Listed::Refused(r) => {
             put(replies, at, reply::number(r), 0, 0);
             Counts {
                 rows: 0,
                 crossings: 0,
             }
         }
-        View::From(x, y, p) => {
-            see(corners, [x, y], seen);
-            let range = reach::range(reach);
-            let counts = list_over(seen, lines, faces, firsts, range, table, p);
-            put(replies, at, 0, counts.rows as u64, counts.crossings as u64);
-            counts
+        Listed::Rows(rows, crossings) => {
+            put(replies, at, 0, rows as u64, crossings as u64);
+            Counts { rows, crossings }
         }
     }
 }
@@ -102,6 +145,7 @@ fn list_each(
     doors: &[u16],
     setting: u64,
     reach: Reach,
+    ceiling: Ceiling,
     stands: [Stand; Plan::MOST_STANDS],
     count: usize,
     table: &mut [u16],
@@ -112,10 +156,10 @@ fn list_each(
     requires { ⌜ Sound (now corners) (tabled (now faces) (now firsts)) (now doors) × Backed (tabled (now faces) (now firsts)) (now backs) ⌝ }
     requires { ⌜ RoomFor count (now corners) (length (now table)) (length (now replies)) ⌝ }
     requires { ⌜ (length (now lines) ≡ 4 * face-count (tabled (now faces) (now firsts))) × (length (now seen) ≡ length (now corners)) ⌝ }
-    ensures { λ r. ⌜ r .rows ≡ rows-in-all (single-on (now (corners .entry)) (tabled (now (faces .entry)) (now (firsts .entry))) (now (doors .entry)) setting reach) (take count stands) ⌝ }
-    ensures { λ r. ⌜ r .crossings ≡ crossings-in-all (single-on (now (corners .entry)) (tabled (now (faces .entry)) (now (firsts .entry))) (now (doors .entry)) setting reach) (take count stands) ⌝ }
-    ensures { λ _. ⌜ now (table .exit) ≡ sets (now (table .entry)) 0 (all-rows (single-on (now (corners .entry)) (tabled (now (faces .entry)) (now (firsts .entry))) (now (doors .entry)) setting reach) (take count stands)) ⌝ }
-    ensures { λ _. ⌜ now (replies .exit) ≡ sets (now (replies .entry)) 0 (all-replies (single-on (now (corners .entry)) (tabled (now (faces .entry)) (now (firsts .entry))) (now (doors .entry)) setting reach) (take count stands)) ⌝ }
+    ensures { λ r. ⌜ r .rows ≡ rows-in-all (single-on (now (corners .entry)) (tabled (now (faces .entry)) (now (firsts .entry))) (now (doors .entry)) setting reach ceiling) (take count stands) ⌝ }
+    ensures { λ r. ⌜ r .crossings ≡ crossings-in-all (single-on (now (corners .entry)) (tabled (now (faces .entry)) (now (firsts .entry))) (now (doors .entry)) setting reach ceiling) (take count stands) ⌝ }
+    ensures { λ _. ⌜ now (table .exit) ≡ sets (now (table .entry)) 0 (all-rows (single-on (now (corners .entry)) (tabled (now (faces .entry)) (now (firsts .entry))) (now (doors .entry)) setting reach ceiling) (take count stands)) ⌝ }
+    ensures { λ _. ⌜ now (replies .exit) ≡ sets (now (replies .entry)) 0 (all-replies (single-on (now (corners .entry)) (tabled (now (faces .entry)) (now (firsts .entry))) (now (doors .entry)) setting reach ceiling) (take count stands)) ⌝ }
 {
     lines_of(faces, firsts, backs, doors, setting, lines);
     let mut rows = 0;
@@ -132,6 +176,7 @@ fn list_each(
             doors,
             setting,
             reach,
+            ceiling,
             lines,
             stand,
             &mut table[row..],
@@ -173,6 +218,7 @@ fn list_in(
     let setting = morning.setting;
     let count = morning.count;
     let reach = morning.reach;
+    let ceiling = morning.ceiling;
     match asked_in(
         corners,
         cells,
@@ -196,6 +242,7 @@ fn list_in(
                 doors,
                 setting,
                 reach,
+                ceiling,
                 stands,
                 count,
                 table,

@@ -26,6 +26,9 @@ use Rattle.planfile.proofs.Accepts.{refused-stays, was-told, small}
 use Rattle.planfile.proofs.Decodes.{unframed, by-its-lists}
 use Rattle.stand.specs.declared.spot.Stand.{Stand}
 use Rattle.sight.specs.Listing.{listed}
+use Rattle.sight.specs.Ceiling.{listed-up-to}
+use Rattle.sight.specs.declared.ceiling.Ceiling.the-variants.{NotStated}
+use Rattle.sight.proofs.UpTo.{no-ceiling}
 use Rattle.sight.specs.declared.list.Listed.{Listed}
 use Rattle.sight.specs.declared.list.Listed.the-variants as L
 use Rattle.sight.proofs.Views.{plan-refused, listing-refused}
@@ -159,12 +162,13 @@ module _ (file : List ℕ) (cs₀ : List ℤ) (ts₀ ds₀ : List ℕ) (room : (
         )
 
     -- the way out of an acceptance: what the listing of those numbers leaves
-    pub listed-from-the-reader : (w : ℕ) (s : Stand) (table : List ℕ) {left : Listed × List ℕ} → left ≡ listed kind (take (2 * p .corners) cs) (take m ts) (take (p .doors) ds) (asks w s) table → left ≡ file-listed file w s table
+    pub listed-from-the-reader : (w : ℕ) (s : Stand) (table : List ℕ) {left : Listed × List ℕ} → left ≡ listed-up-to kind (take (2 * p .corners) cs) (take m ts) (take (p .doors) ds) (asks w s) NotStated table → left ≡ file-listed file w s table
     listed-from-the-reader w s table {left} is =
         let n = ap (take (2 * p .corners)) corners-are ∙ first-is-new cs₀ (corners-in file) (2 * p .corners) (long .corners) (omega (arith, long .few-corners, room .0)) in
         let j = ap (take m) cells-are ∙ first-is-new ts₀ (cells-in file) m (was .1 .1) (omega (arith, long .few-cells, room .1 .0, was .1 .1)) in
         let k = ap (take (p .doors)) doors-are ∙ first-is-new ds₀ (doors-in file) (p .doors) (long .doors) (omega (arith, long .few-doors, room .1 .1)) in
         is
+        ∙ no-ceiling kind (take (2 * p .corners) cs) (take m ts) (take (p .doors) ds) (asks w s) table
         ∙ ap₂ (λ (i : ℕ) (l : List ℤ). listed i l (take m ts) (take (p .doors) ds) (asks w s) table) (sym (was .1 .0)) n
         ∙ ap₂ (λ (l o : List ℕ). listed (kind-in file) (corners-in file) l o (asks w s) table) j k
         ∙ sym (framed-is-listed file w s table (is-framed file cs₀ ts₀ ds₀ room accepted))

@@ -43,7 +43,7 @@ begins s kind size = leb (6 + size) (length s) && eqb (number-at 4 s 0) size && 
 abbrev pub double-at : List ℕ → ℕ → Float
 double-at s at = ofBits binary64 (bits-at s at)
 
--- what is asked under a setting, from a stand; no reach is stated
+-- what is asked under a setting, from a stand; no reach is stated, and no ceiling
 abbrev pub asks : ℕ → Stand → Query
 asks w s = record { setting = w; stand = s; reach = NotStated }
 

@@ -7,7 +7,9 @@ ghost use Rattle.limits.specs.Limits.{most-corners, most-cells, most-doors};
 ghost use Rattle.printing.specs.Print.{most-text, begins as Print·begins, file-listed, lines, blank-table, printed, answered, Within};
 ghost use Rattle.printing.specs.Reply.{printed-reply, print-replies};
 ghost use Rattle.text.specs.Wrote.{Wrote};
+use manopluea::Ceiling;
 use manopluea::Listed;
+use manopluea::Listing;
 use manopluea::Plan;
 use manopluea::Query;
 use manopluea::Reach;
@@ -68,10 +70,13 @@ fn list_read(
                 &cells[..m],
                 &doors[..k],
                 Terms { kind },
-                Query {
-                    setting,
-                    stand,
-                    reach: Reach::NotStated,
+                Listing {
+                    query: Query {
+                        setting,
+                        stand,
+                        reach: Reach::NotStated,
+                    },
+                    ceiling: Ceiling::NotStated,
                 },
                 table,
             )

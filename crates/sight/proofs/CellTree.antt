@@ -1,15 +1,15 @@
 -- Sides of a cell one behind the other, as the code follows them.
 use mathlib.Core.List.{List}
 use mathlib.Core.Path.{_≡_, refl}
-use Prim.Native.Nat.{ℕ, zero, suc, _+_, _*_, _-_, _^_, _<_}
+use Prim.Native.Nat.{ℕ, zero, suc, _+_, _*_, _-_, _<_}
 use native.Mathlib.Omega.{arith}
 use native.Mathlib.Numerals.{sub-one}
 use lib.ListN.{length, getD}
 use lib.IntN.{ℤ}
-use Rattle.fan.specs.Sight.{Sight, crossings}
+use Rattle.fan.specs.Sight.{Sight}
 use Rattle.fan.specs.Sight.Sight.{both}
-use Rattle.expand.specs.Remains.{Remains}
-use Rattle.expand.proofs.Expansion.{Room, Written, room-for-the-first, all-remains, second-remains, room-remains}
+use Rattle.expand.specs.Remains.{Remains, Follows}
+use Rattle.expand.proofs.Expansion.{Room, room-for-the-first, all-remains, second-remains, room-remains}
 use Rattle.sight.specs.CellTree.{side-tree, cell-tree}
 
 module _ (zs : List ℤ) (ls fs : List ℕ) (R n f : ℕ) where
@@ -29,9 +29,9 @@ module _ (zs : List ℤ) (ls fs : List ℕ) (R n f : ℕ) where
   room-for-a-side at size (suc m) h = room-for-the-first at size refl h
 
 -- of two parts, from the beginning of a table on, the first is followed to its rows: the second remains, and has room
-module _ (old new : List ℕ) {a b : Sight} {i j : ℕ} (room : Room 0 (length old) (both a b)) (w : Written old new 0 i j a) (n : length new ≡ length old) where
-  pub second-part-remains : Remains old 0 (both a b) new (4 * i) i j b
-  second-part-remains = second-remains old 0 (both a b) old 0 0 0 (all-remains old 0 (both a b) 0 refl (room .0)) refl w n (omega arith) (omega arith) (omega arith)
+module _ (old new : List ℕ) (left : ℕ) {a b : Sight} {i j : ℕ} (room : Room 0 (length old) (both a b)) (w : Follows old 0 left a new i j) (some : 0 < j) (n : length new ≡ length old) where
+  pub second-part-remains : Remains old 0 left (both a b) new (4 * i) i j b
+  second-part-remains = second-remains old 0 left (both a b) old 0 0 left (all-remains old 0 left (both a b) 0 refl (room .0)) refl w some n (omega arith) (omega arith)
 
-  pub second-part-fits : Room (4 * i) (length new) b × (j + crossings b < 2 ^ 63)
-  second-part-fits = room-remains old 0 (both a b) new (4 * i) i j second-part-remains room
+  pub second-part-fits : Room (4 * i) (length new) b
+  second-part-fits = room-remains old 0 left (both a b) new (4 * i) i j second-part-remains room

@@ -12,6 +12,8 @@ pub mod CellTree
 pub mod Corners
 -- replies 1 to 11 or the stand and its cell, by what was found
 pub mod Views
+-- following lines with a ceiling of crossings
+pub mod UpTo
 -- the code's tables give the plan's own listing
 pub mod Lister
 -- what `list` writes is the listing's rows; the promise leaves one reply

@@ -1,17 +1,17 @@
 -- The code's tables give the listing that the plan's own floor gives, and an accepted plan meets what following lines asks.
 use mathlib.Core.List.{List, _++_}
 use mathlib.Core.Path.{_≡_, sym, _∙_, ap, ap₂, subst}
-use Prim.Native.Nat.{ℕ, zero, suc, _+_, _*_, _-_, _^_, _<_, _≤_}
+use Prim.Native.Nat.{ℕ, zero, suc, _+_, _*_, _-_, _<_, _≤_}
 use native.Mathlib.Omega.{arith}
 use lib.IntN.{ℤ}
-use lib.ListN.{getD}
+use lib.ListN.{length, getD}
 use lib.Seq.{sets}
 use Rattle.plane.specs.Side.{Point, Near}
-use Rattle.limits.specs.Limits.{wall}
+use Rattle.limits.specs.Limits.{most-corners, most-reach, wall}
 use Rattle.cells.specs.Lists.{Cells, corner-count, cell-count, face-count, first, side-count, home, next, start, back}
-use Rattle.cells.specs.Sound.{Sound}
+use Rattle.cells.specs.Sound.{Numbered, Sound}
 use Rattle.cells.proofs.Faces.{SideOf, side-exists, home-is, next-below}
-use Rattle.cells.proofs.Plans.{corner-exists}
+use Rattle.cells.proofs.Plans.{counts, corner-exists}
 use Rattle.stand.specs.declared.locate.Footing.{Footing}
 use Rattle.stand.specs.declared.locate.Footing.the-variants.{Inside, Side}
 use Rattle.stand.proofs.Located.{Stands}
@@ -23,16 +23,17 @@ use Rattle.fan.proofs.Around.Stands.{stands-within}
 use Rattle.fan.proofs.Start.{some-side}
 use Rattle.fan.proofs.TwoParts.{ListsAs, lists-as-itself, in-front-of-sides, two-parts}
 use Rattle.fan.proofs.WithinSide.{WithinSide, two-cells}
-use Rattle.expand.specs.Floor.{floor-of}
+use Rattle.expand.specs.Floor.{floor-of, Lines, Starts}
 use Rattle.lines.specs.Lined.{Lined}
 use Rattle.sight.specs.CellTree.{side-tree, cell-tree, others-tree, inside-tree, within-tree, stand-tree, StandsIn}
+use Rattle.sight.specs.declared.list.Listed.the-variants as L
 use Rattle.sight.specs.Seen.{SeenFrom}
+use Rattle.sight.specs.Ceiling.{enough}
 use Rattle.sight.specs.Listing as Listing
-use Rattle.sight.specs.Listing.{plan-floor, standing, sight-from, listing-numbers, listing-row-count, listing-crossings}
-use Rattle.sight.proofs.Lined.{few-faces, across-where-passed, lined-floor-agrees}
+use Rattle.sight.specs.Listing.{plan-floor, standing, sight-from, listing-numbers, listing-row-count, listing-crossings, rows-from}
+use Rattle.sight.proofs.Lined.{few-faces, across-where-passed, lined-floor-agrees, lined-is-lines, starts-stand}
 use Rattle.sight.proofs.PlanFloor.{passed-is-free, plan-geometry, stands-on-the-floor}
-use Rattle.sight.proofs.Sightings as Sightings
-use Rattle.sight.proofs.Sightings.{listing-is-whole, rows-never-outnumber-corners}
+use Rattle.sight.proofs.Sightings.{listing-is-whole, rows-never-outnumber-corners, few-crossings}
 
 module _ {cs : List ℤ} {T : Cells} {ds : List ℕ} (sound : Sound cs T ds) (w R : ℕ) (q : Point) (near : Near q)
     {ls : List ℕ} (lined : Lined T ds w ls) {zs : List ℤ} (seen : SeenFrom cs q zs) where
@@ -100,15 +101,12 @@ module _ {cs : List ℤ} {T : Cells} {ds : List ℕ} (sound : Sound cs T ds) (w 
         by-kind {p = Inside c} k (in-a-cell i) = lists-as-itself (inside-is c (i .cell-exists))
         by-kind {p = Side c k} (stands-within W) (on-a-side i) = within-is W
 
-    pub stands-in-the-tables : StandsIn ls T p
+    stands-in-the-tables : StandsIn ls T p
     stands-in-the-tables = by-kind (stands-on-the-floor sound w R q stands) stands
       where
         by-kind : {p : Footing} → Around.Stands P (face-count T) (Listing.seen cs q) (standing T p) → Stands cs T ds w q p → StandsIn ls T p
         by-kind {p = Inside c} k (in-a-cell i) = i .cell-exists
         by-kind {p = Side c k} (stands-within W) (on-a-side i) = (i .cell-exists, omega (arith, W .is-a-face, lined .whole), not-wall W, two-cells (plan-geometry sound w R q) W)
-
-    pub tree-is-whole : Whole (stand-tree zs ls T R p)
-    tree-is-whole = stand-tree-is .whole-too (listing-is-whole sound w R q p stands)
 
     rows-are : row-count (stand-tree zs ls T R p) ≡ listing-row-count cs T ds w R q p
     unfolding listing-row-count
@@ -122,12 +120,20 @@ module _ {cs : List ℤ} {T : Cells} {ds : List ℕ} (sound : Sound cs T ds) (w 
     unfolding listing-numbers
     numbers-are = stand-tree-is .same-numbers
 
-    -- 4·corners numbers are room enough
-    pub tree-has-room : (n : ℕ) → 4 * corner-count cs ≤ n → 4 * row-count (stand-tree zs ls T R p) ≤ n
-    tree-has-room n h = omega (arith, rows-are, rows-never-outnumber-corners sound w R q p stands)
-
-    pub few-crossings : crossings (stand-tree zs ls T R p) < 2 ^ 63
-    few-crossings = omega (arith, crossings-are, Sightings.few-crossings sound w R q p stands)
+    -- what following the lines around the stand asks of the tables and of n numbers of a table for the rows
+    pub tables-serve : R ≤ most-reach → (n : ℕ) → 4 * corner-count cs ≤ n → (Lines zs ls × Starts zs ls (T .faces) × (R ≤ most-reach) × Numbered T) × ((StandsIn ls T p × (length ls ≡ 4 * face-count T)) × (Whole (stand-tree zs ls T R p) × ((4 * row-count (stand-tree zs ls T R p) ≤ n) × ((row-count (stand-tree zs ls T R p) ≤ most-corners) × (crossings (stand-tree zs ls T R p) < enough)))))
+    tables-serve short n h =
+        let rows : row-count (stand-tree zs ls T R p) ≤ corner-count cs = omega (arith, rows-are, rows-never-outnumber-corners sound w R q p stands) in (
+          (lined-is-lines w R sound near lined seen, starts-stand w R sound near lined seen, short, sound .numbered),
+          (
+            (stands-in-the-tables, lined .whole),
+            (stand-tree-is .whole-too (listing-is-whole sound w R q p stands), (omega (arith, rows), (omega (arith, rows, counts _ _ _ (sound .in-size) .corners-at-most), omega (arith, crossings-are, few-crossings sound w R q p stands)))),
+          ),
+        )
 
     pub listing-written : (old : List ℕ) {new : List ℕ} {i j : ℕ} → (i ≡ row-count (stand-tree zs ls T R p)) × ((j ≡ crossings (stand-tree zs ls T R p)) × (new ≡ sets old 0 (numbers (stand-tree zs ls T R p)))) → (i ≡ listing-row-count cs T ds w R q p) × ((j ≡ listing-crossings cs T ds w R q p) × (new ≡ sets old 0 (listing-numbers cs T ds w R q p)))
     listing-written old h = (h .0 ∙ rows-are, (h .1 .0 ∙ crossings-are, h .1 .1 ∙ ap (sets old 0) numbers-are))
+
+    -- so what the tree lists is the listing
+    pub tree-listed : (old : List ℕ) → (L.Rows (row-count (stand-tree zs ls T R p)) (crossings (stand-tree zs ls T R p)), sets old 0 (numbers (stand-tree zs ls T R p))) ≡ rows-from cs T ds w R old q p
+    tree-listed old = λ i. (L.Rows (rows-are i) (crossings-are i), sets old 0 (numbers-are i))

@@ -5,7 +5,6 @@ use mathlib.Core.Path.{_≡_, refl, ap, ap₂, sym, _∙_, subst, subst₂}
 use native.Mathlib.Omega.{arith}
 use Prim.Native.Nat.{ℕ, _*_, _<_, _≤_}
 use borrow.Author.Tests.{lt-ltb, le-ltb, ltb-false}
-use lib.Seq.{sets}
 use lib.ListN.{length}
 use lib.IntN.{ℤ}
 use mir.Syntax.{w64}
@@ -38,11 +37,10 @@ use Rattle.stand.specs.declared.locate.Found.{Found}
 use Rattle.stand.specs.declared.locate.Found.the-variants as F
 use Rattle.stand.proofs.Spots.{stand-is-near}
 use Rattle.stand.proofs.Finds.{as-read, near-as-read}
-use Rattle.sight.specs.Listing.{view-of-place, view-of-spot, view-of-plan, unless, viewed, refuse, no-room, rows-from, listing-row-count, listing-crossings, listing-numbers, listed-from, listed}
+use Rattle.sight.specs.Listing.{view-of-place, view-of-spot, view-of-plan, unless, viewed, refuse, no-room, rows-from, listed-from, listed}
 use Rattle.sight.specs.declared.view.Query.{Query}
 use Rattle.sight.specs.declared.view.View.{View}
 use Rattle.sight.specs.declared.view.View.the-variants as O
-use Rattle.sight.specs.declared.list.Listed.{Listed}
 use Rattle.sight.specs.declared.list.Listed.the-variants as L
 
 module _ (cs : List ℤ) (T : Cells) (ds : List ℕ) (w : ℕ) (reach : Reach) (s : Stand) where
@@ -196,13 +194,9 @@ module _ (k : ℕ) (cs : List ℤ) (ts ds : List ℕ) (a : Query) (table : List 
     pub room-refused : length table < 4 * corner-count cs → (L.Refused No.Room, table) ≡ listed k cs ts ds a table
     room-refused h = ap (λ (b : Bool). refuse b No.Room table (rows-from cs (cells-of k ts) ds (a .setting) (range (a .reach)) table (record { x = x; y = y }) p)) (sym (is-short cs table h)) ∙ by-room
 
-    pub listing-done : {T : Cells} {R : ℕ} → T ≡ cells-of k ts → R ≡ range (a .reach) → 4 * corner-count cs ≤ length table → {i j : ℕ} {new : List ℕ} → (i ≡ listing-row-count cs T ds (a .setting) R (point (toZ w64 (ofZ w64 x) ∷ toZ w64 (ofZ w64 y) ∷ [])) p) × ((j ≡ listing-crossings cs T ds (a .setting) R (point (toZ w64 (ofZ w64 x) ∷ toZ w64 (ofZ w64 y) ∷ [])) p) × (new ≡ sets table 0 (listing-numbers cs T ds (a .setting) R (point (toZ w64 (ofZ w64 x) ∷ toZ w64 (ofZ w64 y) ∷ [])) p))) → (L.Rows i j, new) ≡ listed k cs ts ds a table
-    listing-done {T} {R} drawn in-range room h =
-        written h
-        ∙ ap₂ (λ (T : Cells) (q : Point). rows-from cs T ds (a .setting) R table q p) drawn (view-read k cs ts ds a view)
+    pub listing-done : {T : Cells} {R : ℕ} → T ≡ cells-of k ts → R ≡ range (a .reach) → 4 * corner-count cs ≤ length table → rows-from cs T ds (a .setting) R table (point (toZ w64 (ofZ w64 x) ∷ toZ w64 (ofZ w64 y) ∷ [])) p ≡ listed k cs ts ds a table
+    listing-done {T} {R} drawn in-range room =
+        ap₂ (λ (T : Cells) (q : Point). rows-from cs T ds (a .setting) R table q p) drawn (view-read k cs ts ds a view)
         ∙ ap (λ (n : ℕ). rows-from cs (cells-of k ts) ds (a .setting) n table (record { x = x; y = y }) p) in-range
         ∙ ap (λ (b : Bool). refuse b No.Room table (rows-from cs (cells-of k ts) ds (a .setting) (range (a .reach)) table (record { x = x; y = y }) p)) (sym (is-long cs table room))
         ∙ by-room
-      where
-        written : {i i′ j j′ : ℕ} {t t′ : List ℕ} → (i ≡ i′) × ((j ≡ j′) × (t ≡ t′)) → _≡_ {A = Listed × List ℕ} (L.Rows i j, t) (L.Rows i′ j′, t′)
-        written h = λ i. (L.Rows (h .0 i) (h .1 .0 i), h .1 .1 i)

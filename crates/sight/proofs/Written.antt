@@ -27,6 +27,8 @@ use Rattle.fan.proofs.RowCounts.{row-count-counts-the-rows, whole-has-a-row}
 use Rattle.fan.proofs.Tables.{length-of-rows}
 use Rattle.fan.proofs.Written.{numbers-are-the-rows}
 use Rattle.sight.specs.Listing.{plan-floor, seen, standing, sight-from, viewed, listing-rows, listing-numbers, listing-row-count, listing-crossings, refuse, no-room, rows-from, listed-from, listed}
+use Rattle.sight.specs.Ceiling.{listed-up-to}
+use Rattle.sight.specs.declared.ceiling.Ceiling.{Ceiling}
 use Rattle.sight.specs.declared.view.Query.{Query}
 use Rattle.sight.specs.declared.view.View.the-variants as O
 use Rattle.sight.specs.declared.list.Listed.{Listed}
@@ -103,5 +105,5 @@ module _ {cs : List ℤ} {T : Cells} {ds : List ℕ} (sound : Sound cs T ds) (w 
       Limits.row-limits-are-corners (plan-geometry sound w R q) (corner-count cs) (corner-exists (sound .numbered) (sound .cells)) (stands-on-the-floor sound w R q stands) a
 
 -- the promise of the listing leaves one reply and one table
-pub list-has-one-reply : (k : ℕ) (cs : List ℤ) (ts ds : List ℕ) (a : Query) (table : List ℕ) {r s : Listed × List ℕ} → r ≡ listed k cs ts ds a table → s ≡ listed k cs ts ds a table → r ≡ s
-list-has-one-reply k cs ts ds a table h i = h ∙ sym i
+pub list-has-one-reply : (k : ℕ) (cs : List ℤ) (ts ds : List ℕ) (a : Query) (c : Ceiling) (table : List ℕ) {r s : Listed × List ℕ} → r ≡ listed-up-to k cs ts ds a c table → s ≡ listed-up-to k cs ts ds a c table → r ≡ s
+list-has-one-reply k cs ts ds a c table h i = h ∙ sym i

@@ -1,4 +1,5 @@
 // Sight: the listing over the expansion (document 01, "Expansion").
+pub mod ceiling;
 pub mod list;
 pub mod seen;
 pub mod view;

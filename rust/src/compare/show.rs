@@ -24,6 +24,21 @@ impl fmt::Display for Trial {
                 ) {
                     writeln!(f, "reach {:?}", scene.reach)?;
                 }
+                match *asked {
+                    Asked::List { ceiling, .. } => {
+                        writeln!(f, "ceiling {:?}", scene.listing(ceiling).ceiling)?;
+                    }
+                    Asked::ListStands { ceiling, .. } => {
+                        writeln!(f, "ceiling {:?}", scene.morning(ceiling).ceiling)?;
+                    }
+                    Asked::EitherKind { ceiling, .. } => writeln!(
+                        f,
+                        "ceilings of the stand {:?}, of the stands {:?}",
+                        scene.listing(ceiling).ceiling,
+                        scene.morning(ceiling).ceiling
+                    )?,
+                    _ => {}
+                }
                 if matches!(
                     asked,
                     Asked::Change { .. } | Asked::EitherKind { .. } | Asked::Demand3

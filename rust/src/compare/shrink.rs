@@ -2,7 +2,7 @@
 
 use super::{Asked, AskedOfBytes, Trial};
 use crate::calls::{Plan, Reach, Stand, POINT, POLYGONS};
-use crate::generate::{in_other_kind, query_record, Given, Room, Scene};
+use crate::generate::{in_other_kind, query_record, Ceiling, Given, Room, Scene};
 use crate::paper::{self, cut_cells, Cell, SIDES, WALL};
 
 /// A trial that fails is run again so often at most.
@@ -55,10 +55,20 @@ fn simpler_asked(asked: &Asked) -> Vec<Asked> {
         Asked::Write { bytes } if *bytes != Room::Exact => {
             vec![Asked::Write { bytes: Room::Exact }]
         }
-        Asked::List { table } if *table != Room::Exact => vec![Asked::List { table: Room::Exact }],
-        &Asked::ListStands { room } => simpler_rooms(room)
-            .map(|room| Asked::ListStands { room })
-            .collect(),
+        &Asked::List { table, ceiling } => {
+            let rooms = simpler_rooms([table]).map(|[table]| Asked::List { table, ceiling });
+            let ceilings = simpler_ceilings(ceiling).into_iter();
+            rooms
+                .chain(ceilings.map(|ceiling| Asked::List { table, ceiling }))
+                .collect()
+        }
+        &Asked::ListStands { room, ceiling } => {
+            let rooms = simpler_rooms(room).map(|room| Asked::ListStands { room, ceiling });
+            let ceilings = simpler_ceilings(ceiling).into_iter();
+            rooms
+                .chain(ceilings.map(|ceiling| Asked::ListStands { room, ceiling }))
+                .collect()
+        }
         &Asked::Change { shut, given, table } => {
             let change = |given, table| Asked::Change { shut, given, table };
             let mut simpler = Vec::new();
@@ -70,9 +80,22 @@ fn simpler_asked(asked: &Asked) -> Vec<Asked> {
             }
             simpler
         }
-        &Asked::EitherKind { shut, given } if given != Given::True => {
-            let given = Given::True;
-            vec![Asked::EitherKind { shut, given }]
+        &Asked::EitherKind {
+            shut,
+            given,
+            ceiling,
+        } => {
+            let either = |given, ceiling| Asked::EitherKind {
+                shut,
+                given,
+                ceiling,
+            };
+            let givens = (given != Given::True).then(|| either(Given::True, ceiling));
+            let ceilings = simpler_ceilings(ceiling).into_iter();
+            givens
+                .into_iter()
+                .chain(ceilings.map(|ceiling| either(given, ceiling)))
+                .collect()
         }
         Asked::Demand2 { directions } if directions.len() > 1 => directions
             .iter()
@@ -97,6 +120,23 @@ fn simpler_reaches(reach: Reach) -> Vec<Reach> {
     };
     let nearer = nearer.into_iter().map(Reach::Stated);
     [Reach::NotStated].into_iter().chain(nearer).collect()
+}
+
+/// None, or a number nearer to zero. One that is told by a listing's crossings stays so,
+/// whatever becomes of the plan; of a morning's stands it is told by one before.
+fn simpler_ceilings(ceiling: Ceiling) -> Vec<Ceiling> {
+    let nearer = match ceiling {
+        Ceiling::None => return Vec::new(),
+        Ceiling::Number(0) => Vec::new(),
+        Ceiling::Number(number) => [number / 2, number - number.div_ceil(8)]
+            .map(Ceiling::Number)
+            .to_vec(),
+        Ceiling::Beside { at: 0, .. } => Vec::new(),
+        Ceiling::Beside { at, by } => [at / 2, at - 1]
+            .map(|at| Ceiling::Beside { at, by })
+            .to_vec(),
+    };
+    [Ceiling::None].into_iter().chain(nearer).collect()
 }
 
 fn simpler_asked_of_bytes(asked: &AskedOfBytes) -> Vec<AskedOfBytes> {

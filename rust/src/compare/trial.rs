@@ -1,10 +1,10 @@
 //! One trial: something asked of both implementors, and what must hold of
 //! their answers.
 
-use super::{Call, Tally};
-use crate::calls::{Calls, DoorChange, Plan, Query, Reach, Refusal, Reply, ROW};
-use crate::generate::{in_other_kind, Given, Room, Scene};
-use crate::paper::{self, Direction, Floor, Listing, Place, Row, View};
+use super::{Call, Ceilings, Tally};
+use crate::calls::{Calls, DoorChange, Listing, Morning, Plan, Query, Reach, Refusal, Reply, ROW};
+use crate::generate::{in_other_kind, Ceiling, Given, Room, Scene};
+use crate::paper::{self, Direction, Floor, Listed, Place, Row, View};
 use std::fmt::Debug;
 
 /// What is asked about a scene.
@@ -15,13 +15,17 @@ pub enum Asked {
         bytes: Room,
     },
     Find,
+    /// The listing up to a ceiling: the one without it, or refused where that has more
+    /// crossings.
     List {
         table: Room,
+        ceiling: Ceiling,
     },
     /// The scene's morning, with its table and its replies: what the single
     /// calls reply, stand by stand.
     ListStands {
         room: [Room; 2],
+        ceiling: Ceiling,
     },
     Change {
         shut: bool,
@@ -34,6 +38,7 @@ pub enum Asked {
     EitherKind {
         shut: bool,
         given: Given,
+        ceiling: Ceiling,
     },
     /// Every direction is held by one row, and walks to its face.
     Demand2 {
@@ -118,20 +123,27 @@ fn run_scene(scene: &Scene, asked: &Asked, both: Both<'_>, tally: &mut Tally) ->
             let [_, on_side, ..] = reply.values;
             tally.sides.found += u64::from(on_side == 1);
         }
-        Asked::List { table } => {
-            let (reply, _) = both.ask(|calls| list(calls, scene, scene.query(), *table))?;
-            tally.count(Call::List, lists.kind, reply.number);
+        &Asked::List { table, ceiling } => {
+            let listing = scene.listing(ceiling);
+            let left = both.ask(|calls| list(calls, scene, listing, table))?;
+            tally.count(Call::List, lists.kind, left.0.number);
             tally.reaches.stated += u64::from(scene.reach.is_stated());
+            if let Some(most) = listing.ceiling {
+                tally.ceilings.stated += 1;
+                up_to(scene, most, left, table, both, tally)?;
+            }
         }
-        Asked::ListStands { room } => {
-            let left = both.ask(|calls| list_stands(calls, scene, *room))?;
+        &Asked::ListStands { room, ceiling } => {
+            let morning = scene.morning(ceiling);
+            let left = both.ask(|calls| list_stands(calls, scene, morning, room))?;
             tally.count(Call::ListStands, lists.kind, left.reply.number);
             tally.reaches.stated += u64::from(scene.reach.is_stated());
+            tally.ceilings.stated += u64::from(morning.ceiling.is_some());
             if left.reply.number == 0 {
-                let left = same(left, single_calls(both.right, scene, *room))?;
+                let left = same(left, single_calls(both.right, scene, morning, room))?;
                 let (own, _) = left.replies.as_chunks();
                 let count = own.len().min(scene.stands.len() / 3);
-                tally.count_stands(&own[..count]);
+                tally.count_stands(&own[..count], morning.ceiling);
             }
         }
         Asked::Change { shut, given, table } => {
@@ -141,7 +153,11 @@ fn run_scene(scene: &Scene, asked: &Asked, both: Both<'_>, tally: &mut Tally) ->
             tally.reaches.stated += u64::from(scene.reach.is_stated());
         }
         Asked::RoundTrip => round_trip(&scene.plan, both)?,
-        &Asked::EitherKind { shut, given } => either_kind(scene, shut, given, both, tally)?,
+        &Asked::EitherKind {
+            shut,
+            given,
+            ceiling,
+        } => either_kind(scene, shut, given, ceiling, both, tally)?,
         Asked::Demand2 { directions } => demand_2(scene, directions, both, tally)?,
         Asked::Demand3 => demand_3(scene, both, tally)?,
         &Asked::Longer { reach } => longer(scene, reach, both, tally)?,
@@ -199,10 +215,15 @@ fn read(calls: &dyn Calls, file: &[u8], room: [usize; 3]) -> (Reply, Plan) {
     (reply, lists)
 }
 
-fn list(calls: &dyn Calls, scene: &Scene, query: Query, room: Room) -> (Reply, Vec<u16>) {
-    let mut table = lent_words(room.length(table_asked(scene)));
-    let reply = calls.list(scene.plan.lists(), query, &mut table);
+fn list(calls: &dyn Calls, scene: &Scene, listing: Listing, room: Room) -> (Reply, Vec<u16>) {
+    let mut table = lent_for_listing(scene, room);
+    let reply = calls.list(scene.plan.lists(), listing, &mut table);
     (reply, table)
+}
+
+/// A table for a listing of the scene, before a call.
+fn lent_for_listing(scene: &Scene, room: Room) -> Vec<u16> {
+    lent_words(room.length(table_asked(scene)))
 }
 
 /// What a call for a morning leaves.
@@ -213,10 +234,10 @@ struct Left {
     replies: Vec<u64>,
 }
 
-fn list_stands(calls: &dyn Calls, scene: &Scene, room: [Room; 2]) -> Left {
+fn list_stands(calls: &dyn Calls, scene: &Scene, morning: Morning, room: [Room; 2]) -> Left {
     let (mut table, mut replies) = lent_for_morning(scene, room);
     let (lists, stands) = (scene.plan.lists(), &scene.stands);
-    let reply = calls.list_stands(lists, scene.morning(), stands, &mut table, &mut replies);
+    let reply = calls.list_stands(lists, morning, stands, &mut table, &mut replies);
     Left {
         reply,
         table,
@@ -240,7 +261,7 @@ fn change(
     shut: bool,
     room: Room,
 ) -> (Reply, Vec<u16>) {
-    let mut table = lent_words(room.length(table_asked(scene)));
+    let mut table = lent_for_listing(scene, room);
     let asked = DoorChange {
         query: scene.query(),
         given,
@@ -292,33 +313,82 @@ fn printed_number(printed: &str) -> u32 {
 }
 
 /// The listing of a scene's plan for a query, or the refusal's number.
-fn listing(calls: &dyn Calls, scene: &Scene, query: Query) -> Result<Listing, u32> {
-    listing_of(list(calls, scene, query, Room::Exact))
+fn listed(calls: &dyn Calls, scene: &Scene, query: Query) -> Result<Listed, u32> {
+    listed_of(list(calls, scene, query.without_ceiling(), Room::Exact))
 }
 
-fn listing_of((reply, table): (Reply, Vec<u16>)) -> Result<Listing, u32> {
+fn listed_of((reply, table): (Reply, Vec<u16>)) -> Result<Listed, u32> {
     if reply.number != 0 {
         return Err(reply.number);
     }
     let (rows, _) = table.as_chunks::<ROW>();
     let count = (reply.values[0] as usize).min(rows.len());
-    Ok(Listing {
+    Ok(Listed {
         rows: rows[..count].to_vec(),
         crossings: reply.values[1],
     })
 }
 
+/// What a listing up to a ceiling leaves is what the one without it does, or the
+/// refusal and the table as it was lent, exactly where that one has more crossings.
+fn up_to(
+    scene: &Scene,
+    most: u64,
+    left: (Reply, Vec<u16>),
+    room: Room,
+    both: Both<'_>,
+    tally: &mut Tally,
+) -> Outcome {
+    let all = list(both.right, scene, scene.query().without_ceiling(), room);
+    let (Reply { number, values, .. }, _) = all;
+    let [_, crossings, ..] = values;
+    let expected = if number == 0 && crossings > most {
+        (Refusal::Ceiling.reply(), lent_for_listing(scene, room))
+    } else {
+        all
+    };
+    same(left, expected)?;
+    let ceilings = &mut tally.ceilings;
+    if number == 0 {
+        ceilings.equal += u64::from(crossings == most);
+        ceilings.one_more += u64::from(crossings.checked_sub(1) == Some(most));
+        ceilings.one_fewer += u64::from(crossings + 1 == most);
+    }
+    if number == 0 && crossings > most || number == Refusal::Room.reply().number {
+        count_exceeding(scene, most, number == 0, ceilings)?;
+    }
+    Ok(())
+}
+
+/// Counts a listing that may have more crossings than a ceiling, by what else it could
+/// be taken for.
+fn count_exceeding(scene: &Scene, most: u64, has_room: bool, ceilings: &mut Ceilings) -> Outcome {
+    let floor = Floor::check(scene.plan.lists()).map_err(wrongly_listed)?;
+    let view = View::new(&floor, scene.query()).map_err(wrongly_listed)?;
+    let cells = view.crossings_around();
+    let exceeds = |crossings: u64| crossings > most;
+    if !has_room {
+        ceilings.without_room += u64::from(exceeds(cells.iter().flatten().sum()));
+        return Ok(());
+    }
+    let by_side = cells.iter().flatten().any(|&side| exceeds(side));
+    let by_cell = cells.iter().any(|cell| exceeds(cell.iter().sum()));
+    ceilings.by_sides += u64::from(!by_side);
+    ceilings.by_cells += u64::from(!by_cell);
+    Ok(())
+}
+
 /// What single calls give for a morning, stand by stand: their rows one after
 /// another, their replies and counts, and the sums.
-fn single_calls(calls: &dyn Calls, scene: &Scene, room: [Room; 2]) -> Left {
+fn single_calls(calls: &dyn Calls, scene: &Scene, morning: Morning, room: [Room; 2]) -> Left {
     let (mut rows, mut own, mut crossings) = (Vec::new(), Vec::new(), 0);
     let (stands, _) = scene.stands.as_chunks();
     for &numbers in stands {
-        match single_call(calls, scene, numbers) {
-            Ok(listing) => {
-                own.push([0, listing.rows.len() as u64, listing.crossings]);
-                crossings += listing.crossings;
-                rows.extend(listing.rows);
+        match single_call(calls, scene, morning, numbers) {
+            Ok(listed) => {
+                own.push([0, listed.rows.len() as u64, listed.crossings]);
+                crossings += listed.crossings;
+                rows.extend(listed.rows);
             }
             Err(number) => own.push([number.into(), 0, 0]),
         }
@@ -334,9 +404,14 @@ fn single_calls(calls: &dyn Calls, scene: &Scene, room: [Room; 2]) -> Left {
 }
 
 /// The listing of one stand, given by three numbers, or the refusal's number.
-fn single_call(calls: &dyn Calls, scene: &Scene, numbers: [f64; 3]) -> Result<Listing, u32> {
+fn single_call(
+    calls: &dyn Calls,
+    scene: &Scene,
+    morning: Morning,
+    numbers: [f64; 3],
+) -> Result<Listed, u32> {
     let stand = paper::stand_of(numbers).ok_or(Refusal::Stand.reply().number)?;
-    listing(calls, scene, scene.morning().query(stand))
+    listed_of(list(calls, scene, morning.listing(stand), Room::Exact))
 }
 
 /// Puts numbers at the beginning of lent memory, as far as it goes.
@@ -368,6 +443,7 @@ fn either_kind(
     scene: &Scene,
     shut: bool,
     given: Given,
+    ceiling: Ceiling,
     both: Both<'_>,
     tally: &mut Tally,
 ) -> Outcome {
@@ -379,13 +455,14 @@ fn either_kind(
         ..scene.clone()
     };
     let given = given.numbers(scene);
+    let (listing, morning) = (scene.listing(ceiling), scene.morning(ceiling));
     let room = Room::Exact;
     let ask = |calls: &dyn Calls, scene: &Scene| {
         (
             calls.check(scene.plan.lists()),
             calls.find(scene.plan.lists(), scene.setting, scene.stand),
-            list(calls, scene, scene.query(), room),
-            list_stands(calls, scene, [room; 2]),
+            list(calls, scene, listing, room),
+            list_stands(calls, scene, morning, [room; 2]),
             change(calls, scene, &given, shut, room),
         )
     };
@@ -395,22 +472,22 @@ fn either_kind(
 }
 
 fn demand_2(scene: &Scene, directions: &[Direction], both: Both<'_>, tally: &mut Tally) -> Outcome {
-    let Ok(listing) = both.ask(|calls| listing(calls, scene, scene.query()))? else {
+    let Ok(listed) = both.ask(|calls| listed(calls, scene, scene.query()))? else {
         return Ok(());
     };
-    tally.rows += listing.rows.len() as u64;
-    tally.crossings += listing.crossings;
+    tally.rows += listed.rows.len() as u64;
+    tally.crossings += listed.crossings;
     let floor = Floor::check(scene.plan.lists()).map_err(wrongly_listed)?;
     let view = View::new(&floor, scene.query()).map_err(wrongly_listed)?;
-    within_bounds(&floor, view.place(), &listing)?;
-    for row in &listing.rows {
+    within_bounds(&floor, view.place(), &listed)?;
+    for row in &listed.rows {
         let far = u16::from(!view.is_in_reach(row[0]));
         same(far, row[3])?;
         tally.reaches.rows += u64::from(far);
     }
     for &d in directions {
         if !view.meets_corner(d) {
-            held_once(&view, &listing.rows, d)?;
+            held_once(&view, &listed.rows, d)?;
             tally.directions += 1;
             tally.sides.directions += u64::from(is_on_side(&view));
         }
@@ -428,9 +505,9 @@ fn wrongly_listed(refusal: Refusal) -> String {
 
 /// Rows never outnumber corners; crossings never exceed rows times the cells that
 /// are not entered at the stand: all but one, or from a side all but two.
-fn within_bounds(floor: &Floor, place: Place, listing: &Listing) -> Outcome {
+fn within_bounds(floor: &Floor, place: Place, listed: &Listed) -> Outcome {
     let (corners, cells) = (floor.corners().len(), floor.cell_count());
-    let (rows, crossings) = (listing.rows.len(), listing.crossings);
+    let (rows, crossings) = (listed.rows.len(), listed.crossings);
     let entered = match place {
         Place::Inside(_) => 1,
         Place::Within(_) => 2,
@@ -461,7 +538,7 @@ fn held_once(view: &View<'_>, rows: &[Row], d: Direction) -> Outcome {
 /// routes and runs give; out of reach a door's change changes nothing. From a side it
 /// is refused for a door there.
 fn demand_3(scene: &Scene, both: Both<'_>, tally: &mut Tally) -> Outcome {
-    let Ok(before) = both.ask(|calls| listing(calls, scene, scene.query()))? else {
+    let Ok(before) = both.ask(|calls| listed(calls, scene, scene.query()))? else {
         return Ok(());
     };
     if scene.door >= scene.plan.doors.len() {
@@ -474,7 +551,7 @@ fn demand_3(scene: &Scene, both: Both<'_>, tally: &mut Tally) -> Outcome {
     let shut = query.setting >> scene.door & 1 == 1;
     let given = before.rows.as_flattened();
     let change_to =
-        |shut| both.ask(|calls| listing_of(change(calls, scene, given, shut, Room::Exact)));
+        |shut| both.ask(|calls| listed_of(change(calls, scene, given, shut, Room::Exact)));
     let floor = Floor::check(scene.plan.lists()).map_err(wrongly_listed)?;
     let old = View::new(&floor, scene.query()).map_err(wrongly_listed)?;
     if old.is_in_doorway(scene.door) {
@@ -486,7 +563,7 @@ fn demand_3(scene: &Scene, both: Both<'_>, tally: &mut Tally) -> Outcome {
     }
     let new = View::new(&floor, query).map_err(wrongly_listed)?;
     same(old.place(), new.place())?;
-    let fresh = both.ask(|calls| listing(calls, scene, query))?;
+    let fresh = both.ask(|calls| listed(calls, scene, query))?;
     let faces = floor.door_faces(scene.door);
     let by_runs = paper::change_by_runs(&old, &new, &before.rows, faces, shut);
     same(&fresh, &Ok(by_runs))?;
@@ -517,8 +594,8 @@ fn longer(scene: &Scene, reach: Reach, both: Both<'_>, tally: &mut Tally) -> Out
         reach,
         ..scene.query()
     };
-    let near = both.ask(|calls| listing(calls, scene, scene.query()))?;
-    let far = both.ask(|calls| listing(calls, scene, query))?;
+    let near = both.ask(|calls| listed(calls, scene, scene.query()))?;
+    let far = both.ask(|calls| listed(calls, scene, query))?;
     let (Ok(near), Ok(far)) = (near, far) else {
         return Ok(());
     };

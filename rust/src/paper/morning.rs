@@ -1,14 +1,14 @@
 //! "A morning's stands together", request A1 of document 02.
 
 use super::plan::Floor;
-use super::sight::{Listing, Row, View};
+use super::sight::{Listed, Row, View};
 use crate::calls::{Lists, Morning, Refusal, Stand, POINT, ROW};
 
 /// A crew plans up to so many stands.
 pub const MOST_STANDS: usize = 32;
 
 /// What each stand of a morning is answered: its listing, or its refusal.
-pub struct Answers(Vec<Result<Listing, Refusal>>);
+pub struct Answers(Vec<Result<Listed, Refusal>>);
 
 impl Answers {
     /// Lists each stand. `table` and `replies` are the lengths lent for them.
@@ -27,7 +27,8 @@ impl Answers {
         }
         let answer = |&numbers: &[f64; 3]| {
             let stand = stand_of(numbers).ok_or(Refusal::Stand)?;
-            Ok(View::through(&floor, across.clone(), stand, morning.reach)?.list())
+            let view = View::through(&floor, across.clone(), stand, morning.reach)?;
+            view.list().up_to(morning.ceiling)
         };
         Ok(Answers(stands.iter().map(answer).collect()))
     }
@@ -43,7 +44,7 @@ impl Answers {
 
     /// Each stand's number, row count and crossings.
     pub fn replies(&self) -> Vec<[u64; 3]> {
-        let own = |answer: &Result<Listing, Refusal>| match answer {
+        let own = |answer: &Result<Listed, Refusal>| match answer {
             Ok(listing) => [0, listing.rows.len() as u64, listing.crossings],
             Err(refusal) => [refusal.reply().number.into(), 0, 0],
         };

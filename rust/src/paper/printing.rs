@@ -1,8 +1,8 @@
-//! "Printing program". It states no reach.
+//! "Printing program". It states no reach, and no ceiling.
 
 use super::file::{decode, take_record};
 use super::plan::Floor;
-use super::sight::{Listing, View};
+use super::sight::{Listed, View};
 use crate::calls::{Query, Refusal, Stand};
 use std::fmt::Write;
 
@@ -21,7 +21,7 @@ pub fn print(input: &[u8]) -> Vec<u8> {
     text.into_bytes()
 }
 
-fn answer(input: &[u8]) -> Result<Listing, Refusal> {
+fn answer(input: &[u8]) -> Result<Listed, Refusal> {
     if input.len() > MOST_INPUT {
         return Err(Refusal::Size);
     }
@@ -54,7 +54,7 @@ fn eight(body: &[u8], at: usize) -> [u8; 8] {
     body[at..at + 8].try_into().expect("eight bytes")
 }
 
-fn listing_text(listing: &Listing) -> String {
+fn listing_text(listing: &Listed) -> String {
     let mut text = format!(
         "rows {} crossings {}\n",
         listing.rows.len(),

@@ -1,7 +1,7 @@
 //! "Changing a door", word for word: by routes and runs, not by listing anew. A door
 //! out of reach has no run behind it, and keeps its row.
 
-use super::sight::{Listing, Row, View};
+use super::sight::{Listed, Row, View};
 
 /// The list after a door change, made from the rows before it.
 ///
@@ -14,14 +14,14 @@ pub fn change_by_runs(
     rows: &[Row],
     faces: [u16; 2],
     shut: bool,
-) -> Listing {
+) -> Listed {
     let rows = if shut {
         shut_runs(before, rows, faces)
     } else {
         open_rows(after, rows, faces)
     };
     let crossings = count_passages(after, &rows);
-    Listing { rows, crossings }
+    Listed { rows, crossings }
 }
 
 /// Shutting: each run becomes one row on the door, which is in reach, since it was

@@ -21,9 +21,20 @@ pub struct Direction {
 
 /// The rows of a listing, and how often a free line was passed.
 #[derive(Clone, Debug, PartialEq, Eq)]
-pub struct Listing {
+pub struct Listed {
     pub rows: Vec<Row>,
     pub crossings: u64,
+}
+
+impl Listed {
+    /// "A ceiling for the tablet", request A13 of document 02: refused where the
+    /// crossings of the whole listing exceed it.
+    pub fn up_to(self, ceiling: Option<u64>) -> Result<Listed, Refusal> {
+        match ceiling {
+            Some(most) if self.crossings > most => Err(Refusal::Ceiling),
+            _ => Ok(self),
+        }
+    }
 }
 
 /// A walk: the faces it left by, each on the side seen, and the face it ended at,
@@ -91,12 +102,15 @@ impl<'a> View<'a> {
 
     /// The listing: the expansion of the sides around the stand, each with its
     /// own two ends as limits.
-    pub fn list(&self) -> Listing {
-        let line = |face| {
-            let [right, left] = self.floor.ends(face);
-            [face, right, left]
-        };
-        self.expand(self.around().into_iter().map(line).collect())
+    pub fn list(&self) -> Listed {
+        let around = self.around().into_iter();
+        self.expand(around.map(|face| self.line(face)).collect())
+    }
+
+    /// The line of a side around the stand.
+    fn line(&self, face: u16) -> Line {
+        let [right, left] = self.floor.ends(face);
+        [face, right, left]
     }
 
     /// The sides around the stand: all those of its cell; or, where it is on a
@@ -113,6 +127,20 @@ impl<'a> View<'a> {
         }
     }
 
+    /// The crossings of each side around the stand by itself: of those of its cell, and
+    /// of the neighbour's, where it is on a side.
+    pub fn crossings_around(&self) -> [Vec<u64>; 2] {
+        let around = self.around().into_iter();
+        let mut own: Vec<u64> = around
+            .map(|face| self.expand(vec![self.line(face)]).crossings)
+            .collect();
+        let neighbours = match self.place {
+            Place::Inside(_) => Vec::new(),
+            Place::Within(face) => own.split_off(self.floor.others(face).count()),
+        };
+        [own, neighbours]
+    }
+
     /// Whether the stand is on a side, and the line of this door, if there is
     /// such a door, holds it strictly within: whatever cells the door is between.
     pub fn is_in_doorway(&self, door: usize) -> bool {
@@ -123,7 +151,7 @@ impl<'a> View<'a> {
 
     /// Follows lines to their rows. The last one handed on is followed first, so
     /// lines go onto the stack in reverse.
-    pub fn expand(&self, lines: Vec<Line>) -> Listing {
+    pub fn expand(&self, lines: Vec<Line>) -> Listed {
         let mut rows = Vec::new();
         let mut crossings = 0;
         let mut waiting = lines;
@@ -139,7 +167,7 @@ impl<'a> View<'a> {
                 Beyond::Reach => rows.push([face, right, left, 1]),
             }
         }
-        Listing { rows, crossings }
+        Listed { rows, crossings }
     }
 
     /// What a line of sight that comes to a face's line meets there.

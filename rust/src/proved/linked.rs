@@ -1,12 +1,14 @@
 //! The functions of `include/manopluea.h` linked from the archive, with
 //! slices for pointers and lengths.
 
-use crate::calls::{DoorChange, Lists, Morning, Query, Stand};
+use super::number_of;
+use crate::calls::{DoorChange, Listing, Lists, Morning, Query, Stand};
 
 /// Declares a function of the archive and calls it, from one list of typed
 /// arguments: a slice passes as its pointer and its length, `Lists` as its
 /// three slices and its kind, `Reach` as whether it is stated and its number,
-/// anything else as it is.
+/// `Option<u64>`, a ceiling, as whether there is one and its number, anything else
+/// as it is.
 ///
 /// The call is safe because each pointer comes with the length of its own
 /// slice, a slice's pointer is never null, and memory that is written to is
@@ -30,6 +32,12 @@ macro_rules! call {
         call!(@ $function
             [$($declared)* _: bool, _: u64,]
             [$($passed)* $name.is_stated(), $name.number(),]
+            $($rest)*)
+    };
+    (@ $function:ident [$($declared:tt)*] [$($passed:tt)*] $name:ident: Option<u64>, $($rest:tt)*) => {
+        call!(@ $function
+            [$($declared)* _: bool, _: u64,]
+            [$($passed)* $name.is_some(), number_of($name),]
             $($rest)*)
     };
     (@ $function:ident [$($declared:tt)*] [$($passed:tt)*] $name:ident: &[$number:ty], $($rest:tt)*) => {
@@ -100,7 +108,8 @@ pub fn find(lists: Lists<'_>, setting: u64, stand: Stand, reply: &mut [u64]) {
     }
 }
 
-pub fn list(lists: Lists<'_>, query: Query, table: &mut [u16], reply: &mut [u64]) {
+pub fn list(lists: Lists<'_>, listing: Listing, table: &mut [u16], reply: &mut [u64]) {
+    let Listing { query, ceiling } = listing;
     let Query {
         setting,
         stand,
@@ -113,6 +122,7 @@ pub fn list(lists: Lists<'_>, query: Query, table: &mut [u16], reply: &mut [u64]
             x: f64,
             y: f64,
             reach: Reach,
+            ceiling: Option<u64>,
             table: &mut [u16],
             reply: &mut [u64],
         )),
@@ -123,6 +133,7 @@ pub fn list(lists: Lists<'_>, query: Query, table: &mut [u16], reply: &mut [u64]
             dx: f64,
             dy: f64,
             reach: Reach,
+            ceiling: Option<u64>,
             table: &mut [u16],
             reply: &mut [u64],
         )),
@@ -137,12 +148,17 @@ pub fn list_stands(
     replies: &mut [u64],
     reply: &mut [u64],
 ) {
-    let Morning { setting, reach } = morning;
+    let Morning {
+        setting,
+        reach,
+        ceiling,
+    } = morning;
     call!(manopluea_list_stands(
         lists: Lists,
         setting: u64,
         stands: &[f64],
         reach: Reach,
+        ceiling: Option<u64>,
         table: &mut [u16],
         replies: &mut [u64],
         reply: &mut [u64],

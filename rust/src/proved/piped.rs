@@ -2,7 +2,8 @@
 //! pointers and lengths: on a machine that the archive is not made for,
 //! `bridge/serve.c` is linked with it and runs under the kit's emulator.
 
-use crate::calls::{DoorChange, Lists, Morning, Query, Stand};
+use super::number_of;
+use crate::calls::{DoorChange, Listing, Lists, Morning, Query, Stand};
 use std::cell::Cell;
 use std::io::{Read, Write};
 use std::process::{Child, ChildStdin, ChildStdout, Command, Stdio};
@@ -34,6 +35,8 @@ struct Request<'a> {
     y: f64,
     stated: bool,
     reach: u64,
+    limited: bool,
+    ceiling: u64,
     door: usize,
     shut: bool,
     reply: &'a [u64],
@@ -109,6 +112,8 @@ impl Server {
             request.y.to_bits(),
             u64::from(request.stated),
             request.reach,
+            u64::from(request.limited),
+            request.ceiling,
             request.door as u64,
             u64::from(request.shut),
             request.reply.len() as u64,
@@ -318,13 +323,15 @@ pub fn find(lists: Lists<'_>, setting: u64, stand: Stand, reply: &mut [u64]) {
     reply.copy_from_slice(&answer.reply);
 }
 
-pub fn list(lists: Lists<'_>, query: Query, table: &mut [u16], reply: &mut [u64]) {
+pub fn list(lists: Lists<'_>, listing: Listing, table: &mut [u16], reply: &mut [u64]) {
     let functions = [Function::ListPoint, Function::ListOffset];
     let request = Request {
+        limited: listing.ceiling.is_some(),
+        ceiling: number_of(listing.ceiling),
         table,
         ..of_lists(lists, reply)
     };
-    let (function, request) = with_query(query, functions, request);
+    let (function, request) = with_query(listing.query, functions, request);
     let answer = ask(function, &request);
     kept(lists, &answer);
     table.copy_from_slice(&answer.table);
@@ -343,6 +350,8 @@ pub fn list_stands(
         setting: morning.setting,
         stated: morning.reach.is_stated(),
         reach: morning.reach.number(),
+        limited: morning.ceiling.is_some(),
+        ceiling: number_of(morning.ceiling),
         stands,
         table,
         replies,

@@ -2,17 +2,17 @@
 -- measure is twice that number for `cross`, and one more for `hand_on`.
 use mathlib.Core.List.{[]}
 use mathlib.Core.Path.{_≡_, refl, sym, _∙_, subst}
-use Prim.Native.Nat.{ℕ, _+_, _*_, _-_, _/_, _^_, _<_, _≤_}
+use Prim.Native.Nat.{ℕ, _+_, _*_, _-_, _/_, _<_, _≤_}
 use native.Mathlib.Omega.{arith}
 use borrow.Fn.Kinds.{In}
 use borrow.Fn.PlainCycle.{Measures, is, falls, and}
 use denote.Ref.{now}
 use lib.ListN.{length, getD, length-set}
-use Rattle.fan.specs.Sight.{Sight, Floor, fan, follow, crossings}
+use Rattle.fan.specs.Sight.{Sight, Floor, fan, follow}
 use Rattle.fan.specs.Sight.Sight.{row, both}
 use Rattle.expand.specs.Floor.{floor-of}
 use Rattle.expand.specs.Remains.{Remains}
-use Rattle.expand.proofs.Expansion.{ends-as-tested, no-wall-where-passed, gives-a-row, Room, Passed, passed, all-remains, beyond-remains, less-remains, second-remains, none-remains, room-remains, room-for-a-row, room-for-the-first, row-written, hands-the-last, hands-both}
+use Rattle.expand.proofs.Expansion.{ends-as-tested, no-wall-where-passed, gives-a-row, Room, Passed, passed, all-remains, beyond-remains, less-remains, second-remains, none-remains, room-remains, room-for-a-row, room-for-the-first, row-follows, hands-the-last, hands-both, last-is-taken, first-takes-all, all-is-taken, ends-there}
 use Rattle.expand.proofs.cross.Reads as cross
 use Rattle.expand.proofs.cross.Kinds as cross-kinds
 use Rattle.expand.proofs.+cross+hand_on.Lts-cross as cross-lts
@@ -52,15 +52,15 @@ hand-calls t = (narrow-reads.Asked, narrow-reads.Learnt, cross-below t, cross.Po
 
 -- ---- crossing a line
 
--- one line remains, with so many cells not yet entered
+-- one line remains, with so many cells not yet entered and some passages left
 abbrev cross-Inv-loop : cross-lts.InvT-loop
-cross-Inv-loop seen lines faces reach table₀ f r l at unentered face₀ right₀ cells₀ rows₀ crossings₀ table face right cells rows crossings =
+cross-Inv-loop seen lines faces reach table₀ f r l at unentered left face₀ right₀ cells₀ rows₀ passages₀ table face right cells rows passages =
     let F = floor-of seen lines faces reach in
-    Remains table₀ at (follow F unentered f r l) table (at + 4 * rows) rows crossings (follow F cells face right l)
-    × ((cells ≤ unentered) × ((4 * face + 3 < length lines) × (right < length seen / 2)))
+    Remains table₀ at left (follow F unentered f r l) table (at + 4 * rows) rows passages (follow F cells face right l)
+    × ((cells ≤ unentered) × ((4 * face + 3 < length lines) × (right < length seen / 2) × (0 < passages)))
 
 abbrev cross-μ-loop : cross-lts.MeasureT-loop
-cross-μ-loop seen lines faces reach table₀ f r l at unentered face₀ right₀ cells₀ rows₀ crossings₀ table face right cells rows crossings = cells
+cross-μ-loop seen lines faces reach table₀ f r l at unentered left face₀ right₀ cells₀ rows₀ passages₀ table face right cells rows passages = cells
 
 abbrev ground : (t : ℕ) → cross-lts.Start (cross-calls t) (cross-at t) cross.Post cross-Inv-loop cross-μ-loop → Floor
 ground t s = floor-of (now (s .args .seen)) (now (s .args .lines)) (now (s .args .faces)) (s .args .reach)
@@ -70,21 +70,20 @@ abbrev line : (t : ℕ) → cross-lts.Start (cross-calls t) (cross-at t) cross.P
 line t s = follow (ground t s) (s .args .unentered) (s .args .f) (s .args .r) (s .args .l)
 
 cross-loop-holds : (t : ℕ) → cross-lts.Need-loop-holds (cross-calls t) (cross-at t) cross.Post cross-Inv-loop cross-μ-loop
-cross-loop-holds t c = let s = c .before .before .before in (all-remains _ _ _ _ (omega arith) (s .pre .1 .1 .1 .0), (omega arith, (s .pre .1 .1 .0 .0, s .pre .1 .1 .0 .1)))
+cross-loop-holds t c = let s = c .before .before .before in (all-remains _ _ _ _ _ (omega arith) (s .pre .1 .1 .1 .0), (omega arith, (s .pre .1 .1 .0 .0, s .pre .1 .1 .0 .1, s .pre .1 .1 .0 .3)))
 
 -- what remains has room
 room : (t : ℕ) (c : cross-lts.At-loop (cross-calls t) (cross-at t) cross.Post cross-Inv-loop cross-μ-loop) →
     let s = c .before .before .before .before in
     let i = c .loop in
-    let u = follow (ground t s) (i .cells) (i .face) (i .right) (s .args .l) in
-    Room (s .args .at + 4 * i .rows) (length (i .table)) u × (i .crossings + crossings u < 2 ^ 63)
-room t c = room-remains _ _ _ _ _ _ _ (c .loop .inv .0) (c .before .before .before .before .pre .1 .1 .1)
+    Room (s .args .at + 4 * i .rows) (length (i .table)) (follow (ground t s) (i .cells) (i .face) (i .right) (s .args .l))
+room t c = room-remains _ _ _ _ _ _ _ _ (c .loop .inv .0) (c .before .before .before .before .pre .1 .1 .1)
 
 cross-mul-end : (t : ℕ) → cross-lts.Need-mul-end (cross-calls t) (cross-at t) cross.Post cross-Inv-loop cross-μ-loop
-cross-mul-end t c = omega (arith, room t c .0 .1 .0)
+cross-mul-end t c = omega (arith, room t c .1)
 
 cross-add-end : (t : ℕ) → cross-lts.Need-add-end (cross-calls t) (cross-at t) cross.Post cross-Inv-loop cross-μ-loop
-cross-add-end t c = omega (arith, room t c .0 .1 .0)
+cross-add-end t c = omega (arith, room t c .1)
 
 cross-mul-across : (t : ℕ) → cross-lts.Need-mul-across (cross-calls t) (cross-at t) cross.Post cross-Inv-loop cross-μ-loop
 cross-mul-across t c = omega (arith, c .loop .inv .1 .1 .0, c .before .before .before .before .pre .1 .0 .0 .few-faces)
@@ -143,7 +142,7 @@ is-row t c =
     gives-a-row (ground t s) (i .cells) (i .face) (i .right) (s .args .l) (sight-ends t (c .before) ∙ c .if1 .taken) (c .before .before .far .ensures)
 
 row-fits : (t : ℕ) (c : cross-lts.Then1 (cross-calls t) (cross-at t) cross.Post cross-Inv-loop cross-μ-loop) → c .before .before .before .before .before .before .before .before .before .before .args .at + 4 * c .before .before .before .before .before .before .loop .rows + 4 ≤ length (c .before .before .before .before .before .before .loop .table)
-row-fits t c = room-for-a-row _ _ (is-row t c) (room t (c .before .before .before .before .before .before) .0)
+row-fits t c = room-for-a-row _ _ (is-row t c) (room t (c .before .before .before .before .before .before))
 
 cross-cast-table : (t : ℕ) → cross-lts.Need-cast-table (cross-calls t) (cross-at t) cross.Post cross-Inv-loop cross-μ-loop
 cross-cast-table t c = omega (arith, c .before .before .before .before .before .before .loop .inv .1 .1 .0, c .before .before .before .before .before .before .before .before .before .before .pre .1 .0 .0 .few-faces)
@@ -181,14 +180,14 @@ cross-mul-table-4 t c = omega (arith, row-fits t c)
 cross-slice-write-table-4 : (t : ℕ) → cross-lts.Need-slice-write-table-4 (cross-calls t) (cross-at t) cross.Post cross-Inv-loop cross-μ-loop
 cross-slice-write-table-4 t c = simp length-set (omega (arith, row-fits t c))
 
-cross-add-t34 : (t : ℕ) → cross-lts.Need-add-t34 (cross-calls t) (cross-at t) cross.Post cross-Inv-loop cross-μ-loop
-cross-add-t34 t c = omega (arith, row-fits t c)
+cross-add-t35 : (t : ℕ) → cross-lts.Need-add-t35 (cross-calls t) (cross-at t) cross.Post cross-Inv-loop cross-μ-loop
+cross-add-t35 t c = omega (arith, row-fits t c)
 
 cross-same-length : (t : ℕ) → cross-lts.Need-same-length (cross-calls t) (cross-at t) cross.Post cross-Inv-loop cross-μ-loop
 cross-same-length t c = simp length-set (c .before .before .before .before .before .before .loop .inv .0 .same-length)
 
 cross-returns : (t : ℕ) → cross-lts.Need-returns (cross-calls t) (cross-at t) cross.Post cross-Inv-loop cross-μ-loop
-cross-returns t c = none-remains _ _ _ _ _ _ _ (c .before .before .before .before .before .before .loop .inv .0) (row-written _ _ (is-row t c)) refl (omega arith)
+cross-returns t c = none-remains _ _ _ _ _ _ _ _ (c .before .before .before .before .before .before .loop .inv .0) (row-follows _ _ _ (is-row t c)) refl
 
 is-passed : (t : ℕ) (c : cross-lts.Else1 (cross-calls t) (cross-at t) cross.Post cross-Inv-loop cross-μ-loop) →
     let s = c .before .before .before .before .before .before .before .before .before .before in
@@ -206,90 +205,104 @@ back-exists t c = c .before .before .before .before .before .before .before .bef
 cross-sub-cells : (t : ℕ) → cross-lts.Need-sub-cells (cross-calls t) (cross-at t) cross.Post cross-Inv-loop cross-μ-loop
 cross-sub-cells t c = is-passed t c .one-unentered
 
-cross-add-crossings : (t : ℕ) → cross-lts.Need-add-crossings (cross-calls t) (cross-at t) cross.Post cross-Inv-loop cross-μ-loop
-cross-add-crossings t c = omega (arith, room t (c .before .before .before .before .before .before) .1)
+cross-sub-passages : (t : ℕ) → cross-lts.Need-sub-passages (cross-calls t) (cross-at t) cross.Post cross-Inv-loop cross-μ-loop
+cross-sub-passages t c = omega (arith, c .before .before .before .before .before .before .loop .inv .1 .1 .2)
+
+cross-same-length-2 : (t : ℕ) → cross-lts.Need-same-length-2 (cross-calls t) (cross-at t) cross.Post cross-Inv-loop cross-μ-loop
+cross-same-length-2 t c = c .before .before .before .before .before .before .before .loop .inv .0 .same-length
+
+cross-returns-2 : (t : ℕ) → cross-lts.Need-returns-2 (cross-calls t) (cross-at t) cross.Post cross-Inv-loop cross-μ-loop
+cross-returns-2 t c = let h = c .before .before .before .before .before .before .before .loop .inv .0 in ends-there _ _ _ _ _ _ _ _ h (last-is-taken _ _ _ _ _ _ _ _ h (is-passed t (c .before) .is) (omega (arith, c .if2 .taken)))
 
 cross-cast-g : (t : ℕ) → cross-lts.Need-cast-g (cross-calls t) (cross-at t) cross.Post cross-Inv-loop cross-μ-loop
-cross-cast-g t c = omega (arith, back-exists t c)
+cross-cast-g t c = omega (arith, back-exists t (c .before))
 
 cross-mul-g : (t : ℕ) → cross-lts.Need-mul-g (cross-calls t) (cross-at t) cross.Post cross-Inv-loop cross-μ-loop
-cross-mul-g t c = omega (arith, back-exists t c)
+cross-mul-g t c = omega (arith, back-exists t (c .before))
 
 cross-add-more : (t : ℕ) → cross-lts.Need-add-more (cross-calls t) (cross-at t) cross.Post cross-Inv-loop cross-μ-loop
-cross-add-more t c = omega (arith, back-exists t c)
+cross-add-more t c = omega (arith, back-exists t (c .before))
 
 cross-mul-more : (t : ℕ) → cross-lts.Need-mul-more (cross-calls t) (cross-at t) cross.Post cross-Inv-loop cross-μ-loop
-cross-mul-more t c = omega (arith, back-exists t c)
+cross-mul-more t c = omega (arith, back-exists t (c .before))
 
 cross-shared-slice-read-more : (t : ℕ) → cross-lts.Need-shared-slice-read-more (cross-calls t) (cross-at t) cross.Post cross-Inv-loop cross-μ-loop
-cross-shared-slice-read-more t c = omega (arith, back-exists t (c .before))
+cross-shared-slice-read-more t c = omega (arith, back-exists t (c .before .before))
 
 cross-cast-more : (t : ℕ) → cross-lts.Need-cast-more (cross-calls t) (cross-at t) cross.Post cross-Inv-loop cross-μ-loop
-cross-cast-more t c = omega (arith, c .before .before .before .before .before .before .before .before .before .before .before .pre .1 .0 .0 .few-more (across t (c .before)) (back-exists t (c .before)))
+cross-cast-more t c = omega (arith, c .before .before .before .before .before .before .before .before .before .before .before .before .pre .1 .0 .0 .few-more (across t (c .before .before)) (back-exists t (c .before .before)))
 
 cross-add-e : (t : ℕ) → cross-lts.Need-add-e (cross-calls t) (cross-at t) cross.Post cross-Inv-loop cross-μ-loop
-cross-add-e t c = omega (arith, back-exists t (c .before))
+cross-add-e t c = omega (arith, back-exists t (c .before .before))
 
 cross-mul-e : (t : ℕ) → cross-lts.Need-mul-e (cross-calls t) (cross-at t) cross.Post cross-Inv-loop cross-μ-loop
-cross-mul-e t c = omega (arith, back-exists t (c .before))
+cross-mul-e t c = omega (arith, back-exists t (c .before .before))
 
 cross-shared-slice-read-e : (t : ℕ) → cross-lts.Need-shared-slice-read-e (cross-calls t) (cross-at t) cross.Post cross-Inv-loop cross-μ-loop
-cross-shared-slice-read-e t c = omega (arith, back-exists t (c .before .before))
+cross-shared-slice-read-e t c = omega (arith, back-exists t (c .before .before .before))
 
 next-exists : (t : ℕ) (c : cross-lts.Else1 (cross-calls t) (cross-at t) cross.Post cross-Inv-loop cross-μ-loop) → 4 * ground t (c .before .before .before .before .before .before .before .before .before .before) .next (across t c) + 3 < length (now (c .before .before .before .before .before .before .before .before .before .before .args .lines))
 next-exists t c = c .before .before .before .before .before .before .before .before .before .before .pre .1 .0 .0 .next-exists (across t c) (back-exists t c)
 
 cross-cast-e : (t : ℕ) → cross-lts.Need-cast-e (cross-calls t) (cross-at t) cross.Post cross-Inv-loop cross-μ-loop
-cross-cast-e t c = omega (arith, c .before .before .before .before .before .before .before .before .before .before .before .before .pre .1 .0 .0 .few-faces, next-exists t (c .before .before))
+cross-cast-e t c = omega (arith, c .before .before .before .before .before .before .before .before .before .before .before .before .before .pre .1 .0 .0 .few-faces, next-exists t (c .before .before .before))
 
 -- the line is crossed, and what the cell beyond hands on remains
 entered : (t : ℕ) (c : cross-lts.Else1 (cross-calls t) (cross-at t) cross.Post cross-Inv-loop cross-μ-loop) →
     let s = c .before .before .before .before .before .before .before .before .before .before in
     let i = c .before .before .before .before .before .before .loop in
     let F = ground t s in
-    Remains (now (s .args .table)) (s .args .at) (line t s) (i .table) (s .args .at + 4 * i .rows) (i .rows) (i .crossings + 1) (fan F (follow F (i .cells - 1)) (F .more (across t c)) (F .next (across t c)) (i .right) (s .args .l))
-entered t c = beyond-remains _ _ _ _ _ _ _ (c .before .before .before .before .before .before .loop .inv .0) (is-passed t c .is)
+    Remains (now (s .args .table)) (s .args .at) (s .args .left) (line t s) (i .table) (s .args .at + 4 * i .rows) (i .rows) (i .passages - 1) (fan F (follow F (i .cells - 1)) (F .more (across t c)) (F .next (across t c)) (i .right) (s .args .l))
+entered t c = let i = c .before .before .before .before .before .before .loop .inv in beyond-remains _ _ _ _ _ _ _ _ (i .0) (is-passed t c .is) (i .1 .1 .2)
 
 cross-hand-on-requires : (t : ℕ) → cross-lts.Need-hand-on-requires (cross-calls t) (cross-at t) cross.Post cross-Inv-loop cross-μ-loop
 cross-hand-on-requires t c κs =
-    let s = c .before .before .before .before .before .before .before .before .before .before .before .before .before in
-    let d = c .before .before .before in
-    let i = c .before .before .before .before .before .before .before .before .before .loop in (
+    let s = c .before .before .before .before .before .before .before .before .before .before .before .before .before .before in
+    let d = c .before .before .before .before in
+    let i = c .before .before .before .before .before .before .before .before .before .before .loop in
+    let none = c .before .before .before .if2 .left in (
       omega (arith, s .pre .0, i .inv .1 .0, is-passed t d .one-unentered),
-      (s .pre .1 .0, ((next-exists t d, i .inv .1 .1 .1, s .pre .1 .1 .0 .2), room-remains _ _ _ _ _ _ _ (entered t d) (s .pre .1 .1 .1) .0)),
+      (s .pre .1 .0, ((next-exists t d, i .inv .1 .1 .1, s .pre .1 .1 .0 .2, omega arith), room-remains _ _ _ _ _ _ _ _ (entered t d) (s .pre .1 .1 .1))),
     )
 
+cross-same-length-3 : (t : ℕ) → cross-lts.Need-same-length-3 (cross-calls t) (cross-at t) cross.Post cross-Inv-loop cross-μ-loop
+cross-same-length-3 t c = c .before .before .before .before .hand-on .kept .1 .1 .1 .1 .0 ∙ c .before .before .before .before .before .before .before .before .before .before .before .before .before .before .before .loop .inv .0 .same-length
+
+cross-returns-3 : (t : ℕ) → cross-lts.Need-returns-3 (cross-calls t) (cross-at t) cross.Post cross-Inv-loop cross-μ-loop
+cross-returns-3 t c = ends-there _ _ _ _ _ _ _ _ (entered t (c .before .before .before .before .before .before .before .before .before)) (c .before .before .before .before .hand-on .ensures .0 (c .if3 .taken))
+
 -- the last line remains
-one-remains : (t : ℕ) (c : cross-lts.After-hand-on (cross-calls t) (cross-at t) cross.Post cross-Inv-loop cross-μ-loop) →
-    let s = c .before .before .before .before .before .before .before .before .before .before .before .before .before .before in
-    let i = c .before .before .before .before .before .before .before .before .before .before .loop in
-    let o = c .hand-on .result in
-    Remains (now (s .args .table)) (s .args .at) (line t s) (c .hand-on .last .1 .1 .1 .1 .0) (s .args .at + 4 * (i .rows + o .rows)) (i .rows + o .rows) (i .crossings + 1 + o .crossings) (follow (ground t s) (i .cells - 1) (o .last) (o .right) (s .args .l))
-one-remains t c = less-remains _ _ _ _ _ _ _ (entered t (c .before .before .before .before)) (c .hand-on .ensures .0) refl refl refl
+one-remains : (t : ℕ) (c : cross-lts.Else3 (cross-calls t) (cross-at t) cross.Post cross-Inv-loop cross-μ-loop) →
+    let s = c .before .before .before .before .before .before .before .before .before .before .before .before .before .before .before .before .before .before .before in
+    let i = c .before .before .before .before .before .before .before .before .before .before .before .before .before .before .before .loop in
+    let h = c .before .before .before .before .hand-on in
+    let o = h .result in
+    Remains (now (s .args .table)) (s .args .at) (s .args .left) (line t s) (h .last .1 .1 .1 .1 .0) (s .args .at + 4 * (i .rows + o .rows)) (i .rows + o .rows) (o .left) (follow (ground t s) (i .cells - 1) (o .last) (o .right) (s .args .l))
+one-remains t c = let none = c .if3 .left in less-remains _ _ _ _ _ _ _ _ (entered t (c .before .before .before .before .before .before .before .before .before)) (c .before .before .before .before .hand-on .ensures .1 .0 (omega arith)) refl refl
 
 cross-add-rows : (t : ℕ) → cross-lts.Need-add-rows (cross-calls t) (cross-at t) cross.Post cross-Inv-loop cross-μ-loop
-cross-add-rows t c = omega (arith, room-remains _ _ _ _ _ _ _ (one-remains t (c .before .before .before)) (c .before .before .before .before .before .before .before .before .before .before .before .before .before .before .before .before .before .pre .1 .1 .1) .0 .1 .0, c .before .before .before .before .before .before .before .before .before .before .before .before .before .before .before .before .before .good .1 .1 .1 .1 .0 .0)
-
-cross-add-crossings-2 : (t : ℕ) → cross-lts.Need-add-crossings-2 (cross-calls t) (cross-at t) cross.Post cross-Inv-loop cross-μ-loop
-cross-add-crossings-2 t c = omega (arith, room-remains _ _ _ _ _ _ _ (one-remains t (c .before .before .before .before)) (c .before .before .before .before .before .before .before .before .before .before .before .before .before .before .before .before .before .before .pre .1 .1 .1) .1)
+cross-add-rows t c = omega (arith, room-remains _ _ _ _ _ _ _ _ (one-remains t (c .before)) (c .before .before .before .before .before .before .before .before .before .before .before .before .before .before .before .before .before .before .before .before .pre .1 .1 .1) .1, c .before .before .before .before .before .before .before .before .before .before .before .before .before .before .before .before .before .before .before .before .good .1 .1 .1 .1 .0 .0)
 
 cross-loop-less : (t : ℕ) → cross-lts.Need-loop-less (cross-calls t) (cross-at t) cross.Post cross-Inv-loop cross-μ-loop
-cross-loop-less t c = omega (arith, is-passed t (c .before .before .before .before .before .before .before .before) .one-unentered)
+cross-loop-less t c = omega (arith, is-passed t (c .before .before .before .before .before .before .before .before .before .before) .one-unentered)
 
 cross-loop-again : (t : ℕ) → cross-lts.Need-loop-again (cross-calls t) (cross-at t) cross.Post cross-Inv-loop cross-μ-loop
-cross-loop-again t c = (one-remains t (c .before .before .before .before), (omega (arith, c .before .before .before .before .before .before .before .before .before .before .before .before .before .before .loop .inv .1 .0), c .before .before .before .before .hand-on .ensures .1))
+cross-loop-again t c =
+    let none = c .before .if3 .left in
+    let e = c .before .before .before .before .before .hand-on .ensures .1 .1 in
+    (one-remains t (c .before), (omega (arith, c .before .before .before .before .before .before .before .before .before .before .before .before .before .before .before .before .loop .inv .1 .0), (e .0, e .1, omega arith)))
 
 -- ---- handing on the sides of a cell
 
--- a side remains, and so many after it
+-- a side remains, and so many after it, and some passages are left
 abbrev hand-Inv-loop : hand-lts.InvT-loop
-hand-Inv-loop seen lines faces reach table₀ e more r l at unentered side₀ after₀ right₀ rows₀ crossings₀ table side after right rows crossings =
+hand-Inv-loop seen lines faces reach table₀ e more r l at unentered left side₀ after₀ right₀ rows₀ passages₀ table side after right rows passages =
     let F = floor-of seen lines faces reach in
-    Remains table₀ at (fan F (follow F unentered) more e r l) table (at + 4 * rows) rows crossings (fan F (follow F unentered) after side right l)
-    × ((4 * side + 3 < length lines) × (right < length seen / 2))
+    Remains table₀ at left (fan F (follow F unentered) more e r l) table (at + 4 * rows) rows passages (fan F (follow F unentered) after side right l)
+    × ((4 * side + 3 < length lines) × (right < length seen / 2) × (0 < passages))
 
 abbrev hand-μ-loop : hand-lts.MeasureT-loop
-hand-μ-loop seen lines faces reach table₀ e more r l at unentered side₀ after₀ right₀ rows₀ crossings₀ table side after right rows crossings = after
+hand-μ-loop seen lines faces reach table₀ e more r l at unentered left side₀ after₀ right₀ rows₀ passages₀ table side after right rows passages = after
 
 abbrev floor : (t : ℕ) → hand-lts.Start (hand-calls t) (hand-at t) hand.Post hand-Inv-loop hand-μ-loop → Floor
 floor t s = floor-of (now (s .args .seen)) (now (s .args .lines)) (now (s .args .faces)) (s .args .reach)
@@ -299,7 +312,7 @@ abbrev cell : (t : ℕ) → hand-lts.Start (hand-calls t) (hand-at t) hand.Post 
 cell t s = fan (floor t s) (follow (floor t s) (s .args .unentered)) (s .args .more) (s .args .e) (s .args .r) (s .args .l)
 
 hand-loop-holds : (t : ℕ) → hand-lts.Need-loop-holds (hand-calls t) (hand-at t) hand.Post hand-Inv-loop hand-μ-loop
-hand-loop-holds t c = let s = c .before .before .before in (all-remains _ _ _ _ (omega arith) (s .pre .1 .1 .1 .0), (s .pre .1 .1 .0 .0, s .pre .1 .1 .0 .1))
+hand-loop-holds t c = let s = c .before .before .before in (all-remains _ _ _ _ _ (omega arith) (s .pre .1 .1 .1 .0), (s .pre .1 .1 .0 .0, s .pre .1 .1 .0 .1, s .pre .1 .1 .0 .3))
 
 hand-narrow-requires : (t : ℕ) → hand-lts.Need-narrow-requires (hand-calls t) (hand-at t) hand.Post hand-Inv-loop hand-μ-loop
 hand-narrow-requires t c κs = let s = c .before .before .before .before in (s .pre .1 .0 .0, (c .loop .inv .1 .0, c .loop .inv .1 .1, s .pre .1 .1 .0 .2))
@@ -309,12 +322,12 @@ narrowed : (t : ℕ) (c : hand-lts.After-narrow (hand-calls t) (hand-at t) hand.
     let s = c .before .before .before .before .before in
     let i = c .before .loop in
     let o = c .narrow .result in
-    Remains (now (s .args .table)) (s .args .at) (cell t s) (i .table) (s .args .at + 4 * i .rows) (i .rows) (i .crossings) (fan (floor t s) (follow (floor t s) (s .args .unentered)) (o .more) (o .side) (i .right) (s .args .l))
+    Remains (now (s .args .table)) (s .args .at) (s .args .left) (cell t s) (i .table) (s .args .at + 4 * i .rows) (i .rows) (i .passages) (fan (floor t s) (follow (floor t s) (s .args .unentered)) (o .more) (o .side) (i .right) (s .args .l))
 narrowed t c =
     let s = c .before .before .before .before .before in
     let i = c .before .loop in
     subst
-    (Remains (now (s .args .table)) (s .args .at) (cell t s) (i .table) (s .args .at + 4 * i .rows) (i .rows) (i .crossings))
+    (Remains (now (s .args .table)) (s .args .at) (s .args .left) (cell t s) (i .table) (s .args .at + 4 * i .rows) (i .rows) (i .passages))
     (c .narrow .ensures .0 .0 (now (s .args .faces)) (s .args .reach) .same (follow (floor t s) (s .args .unentered)))
     (i .inv .0)
 
@@ -326,11 +339,14 @@ hand-returns t c =
     let s = c .before .before .before .before .before .before .before in
     let i = c .before .before .before .loop in
     let o = c .before .before .narrow in (
-      subst
-          (Remains (now (s .args .table)) (s .args .at) (cell t s) (i .table) (s .args .at + 4 * i .rows) (i .rows) (i .crossings))
-          (hands-the-last (floor t s) (s .args .unentered) (o .result .side) (i .right) (s .args .l) (c .if1 .taken))
-          (narrowed t (c .before .before)),
-      (o .ensures .0 .1, i .inv .1 .1),
+      λ z. absurd (omega (arith, i .inv .1 .2, z)),
+      (
+        λ some. subst
+            (Remains (now (s .args .table)) (s .args .at) (s .args .left) (cell t s) (i .table) (s .args .at + 4 * i .rows) (i .rows) (i .passages))
+            (hands-the-last (floor t s) (s .args .unentered) (o .result .side) (i .right) (s .args .l) (c .if1 .taken))
+            (narrowed t (c .before .before)),
+        (o .ensures .0 .1, i .inv .1 .1),
+      ),
     )
 
 hand-mul-v : (t : ℕ) → hand-lts.Need-mul-v (hand-calls t) (hand-at t) hand.Post hand-Inv-loop hand-μ-loop
@@ -373,61 +389,71 @@ first-fits : (t : ℕ) (c : hand-lts.Else1 (hand-calls t) (hand-at t) hand.Post 
     let i = c .before .before .before .loop in
     let n = c .before .before in
     Room (s .args .at + 4 * i .rows) (length (i .table)) (follow (floor t s) (s .args .unentered) (n .narrow .result .side) (i .right) (end t n))
-first-fits t c = room-for-the-first _ _ (hands-two t c) (room-remains _ _ _ _ _ _ _ (narrowed t (c .before .before)) (c .before .before .before .before .before .before .before .pre .1 .1 .1) .0)
+first-fits t c = room-for-the-first _ _ (hands-two t c) (room-remains _ _ _ _ _ _ _ _ (narrowed t (c .before .before)) (c .before .before .before .before .before .before .before .pre .1 .1 .1))
 
 hand-mul-cross : (t : ℕ) → hand-lts.Need-mul-cross (hand-calls t) (hand-at t) hand.Post hand-Inv-loop hand-μ-loop
-hand-mul-cross t c = omega (arith, first-fits t (c .before .before) .1 .0)
+hand-mul-cross t c = omega (arith, first-fits t (c .before .before) .1)
 
 hand-add-cross : (t : ℕ) → hand-lts.Need-add-cross (hand-calls t) (hand-at t) hand.Post hand-Inv-loop hand-μ-loop
-hand-add-cross t c = omega (arith, first-fits t (c .before .before) .1 .0)
+hand-add-cross t c = omega (arith, first-fits t (c .before .before) .1)
 
 hand-cross-requires : (t : ℕ) → hand-lts.Need-cross-requires (hand-calls t) (hand-at t) hand.Post hand-Inv-loop hand-μ-loop
 hand-cross-requires t c κs =
     let s = c .before .before .before .before .before .before .before .before .before in
     let n = c .before .before .before .before in
-    (omega (arith, s .pre .0), (s .pre .1 .0, ((n .narrow .ensures .0 .1, c .before .before .before .before .before .loop .inv .1 .1, end-exists t n), first-fits t (c .before .before))))
+    let i = c .before .before .before .before .before .loop .inv in
+    (omega (arith, s .pre .0), (s .pre .1 .0, ((n .narrow .ensures .0 .1, i .1 .1, end-exists t n, i .1 .2), first-fits t (c .before .before))))
+
+hand-same-length-2 : (t : ℕ) → hand-lts.Need-same-length-2 (hand-calls t) (hand-at t) hand.Post hand-Inv-loop hand-μ-loop
+hand-same-length-2 t c = c .before .before .before .before .cross .kept .1 .1 .1 .1 .0 ∙ c .before .before .before .before .before .before .before .before .before .before .loop .inv .0 .same-length
+
+-- the side's line takes all passages that are left
+hand-returns-2 : (t : ℕ) → hand-lts.Need-returns-2 (hand-calls t) (hand-at t) hand.Post hand-Inv-loop hand-μ-loop
+hand-returns-2 t c =
+    let n = narrowed t (c .before .before .before .before .before .before .before .before .before) in (
+      λ z. all-is-taken _ _ _ _ _ _ _ _ n (first-takes-all _ _ _ _ _ _ _ _ n (hands-two t (c .before .before .before .before .before .before .before)) (c .before .before .before .before .cross .ensures) (c .if2 .taken)),
+      (λ some. absurd (omega (arith, some)), (c .before .before .before .before .before .before .before .before .before .narrow .ensures .0 .1, c .before .before .before .before .before .before .before .before .before .before .loop .inv .1 .1)),
+    )
 
 -- the side's line is followed to its rows
-followed : (t : ℕ) (c : hand-lts.After-cross (hand-calls t) (hand-at t) hand.Post hand-Inv-loop hand-μ-loop) →
-    let s = c .before .before .before .before .before .before .before .before .before .before in
-    let i = c .before .before .before .before .before .before .loop in
-    let n = c .before .before .before .before .before in
-    let one = c .cross .result in
-    Remains (now (s .args .table)) (s .args .at) (cell t s) (c .cross .last .1 .1 .1 .1 .0) (s .args .at + 4 * (i .rows + one .rows)) (i .rows + one .rows) (i .crossings + one .crossings) (fan (floor t s) (follow (floor t s) (s .args .unentered)) (n .narrow .result .more - 1) (following t n) (end t n) (s .args .l))
-followed t c = second-remains _ _ _ _ _ _ _ (narrowed t (c .before .before .before .before .before)) (hands-two t (c .before .before .before)) (c .cross .ensures) (c .cross .kept .1 .1 .1 .1 .0) refl refl refl
+followed : (t : ℕ) (c : hand-lts.Else2 (hand-calls t) (hand-at t) hand.Post hand-Inv-loop hand-μ-loop) →
+    let s = c .before .before .before .before .before .before .before .before .before .before .before .before .before .before in
+    let i = c .before .before .before .before .before .before .before .before .before .before .loop in
+    let n = c .before .before .before .before .before .before .before .before .before in
+    let x = c .before .before .before .before .cross in
+    let one = x .result in
+    Remains (now (s .args .table)) (s .args .at) (s .args .left) (cell t s) (x .last .1 .1 .1 .1 .0) (s .args .at + 4 * (i .rows + one .rows)) (i .rows + one .rows) (one .left) (fan (floor t s) (follow (floor t s) (s .args .unentered)) (n .narrow .result .more - 1) (following t n) (end t n) (s .args .l))
+followed t c = let none = c .if2 .left in second-remains _ _ _ _ _ _ _ _ (narrowed t (c .before .before .before .before .before .before .before .before .before)) (hands-two t (c .before .before .before .before .before .before .before)) (c .before .before .before .before .cross .ensures) (omega arith) (c .before .before .before .before .cross .kept .1 .1 .1 .1 .0) refl refl
 
 hand-add-rows : (t : ℕ) → hand-lts.Need-add-rows (hand-calls t) (hand-at t) hand.Post hand-Inv-loop hand-μ-loop
-hand-add-rows t c = omega (arith, room-remains _ _ _ _ _ _ _ (followed t (c .before .before .before)) (c .before .before .before .before .before .before .before .before .before .before .before .before .before .pre .1 .1 .1) .0 .1 .0, c .before .before .before .before .before .before .before .before .before .before .before .before .before .good .1 .1 .1 .1 .0 .0)
-
-hand-add-crossings : (t : ℕ) → hand-lts.Need-add-crossings (hand-calls t) (hand-at t) hand.Post hand-Inv-loop hand-μ-loop
-hand-add-crossings t c = omega (arith, room-remains _ _ _ _ _ _ _ (followed t (c .before .before .before .before)) (c .before .before .before .before .before .before .before .before .before .before .before .before .before .before .pre .1 .1 .1) .1)
+hand-add-rows t c = omega (arith, room-remains _ _ _ _ _ _ _ _ (followed t (c .before)) (c .before .before .before .before .before .before .before .before .before .before .before .before .before .before .before .pre .1 .1 .1) .1, c .before .before .before .before .before .before .before .before .before .before .before .before .before .before .before .good .1 .1 .1 .1 .0 .0)
 
 hand-mul-side : (t : ℕ) → hand-lts.Need-mul-side (hand-calls t) (hand-at t) hand.Post hand-Inv-loop hand-μ-loop
-hand-mul-side t c = omega (arith, c .before .before .before .before .before .before .before .before .before .narrow .ensures .0 .1, c .before .before .before .before .before .before .before .before .before .before .before .before .before .before .pre .1 .0 .0 .few-faces)
+hand-mul-side t c = omega (arith, c .before .before .before .before .before .before .before .before .before .before .narrow .ensures .0 .1, c .before .before .before .before .before .before .before .before .before .before .before .before .before .before .before .pre .1 .0 .0 .few-faces)
 
 hand-add-side : (t : ℕ) → hand-lts.Need-add-side (hand-calls t) (hand-at t) hand.Post hand-Inv-loop hand-μ-loop
-hand-add-side t c = omega (arith, c .before .before .before .before .before .before .before .before .before .narrow .ensures .0 .1, c .before .before .before .before .before .before .before .before .before .before .before .before .before .before .pre .1 .0 .0 .few-faces)
+hand-add-side t c = omega (arith, c .before .before .before .before .before .before .before .before .before .before .narrow .ensures .0 .1, c .before .before .before .before .before .before .before .before .before .before .before .before .before .before .before .pre .1 .0 .0 .few-faces)
 
 hand-mul-side-2 : (t : ℕ) → hand-lts.Need-mul-side-2 (hand-calls t) (hand-at t) hand.Post hand-Inv-loop hand-μ-loop
-hand-mul-side-2 t c = omega (arith, c .before .before .before .before .before .before .before .before .before .narrow .ensures .0 .1, c .before .before .before .before .before .before .before .before .before .before .before .before .before .before .pre .1 .0 .0 .few-faces)
+hand-mul-side-2 t c = omega (arith, c .before .before .before .before .before .before .before .before .before .before .narrow .ensures .0 .1, c .before .before .before .before .before .before .before .before .before .before .before .before .before .before .before .pre .1 .0 .0 .few-faces)
 
 hand-shared-slice-read-side : (t : ℕ) → hand-lts.Need-shared-slice-read-side (hand-calls t) (hand-at t) hand.Post hand-Inv-loop hand-μ-loop
-hand-shared-slice-read-side t c = omega (arith, c .before .before .before .before .before .before .before .before .before .before .narrow .ensures .0 .1)
+hand-shared-slice-read-side t c = omega (arith, c .before .before .before .before .before .before .before .before .before .before .before .narrow .ensures .0 .1)
 
 hand-cast-side : (t : ℕ) → hand-lts.Need-cast-side (hand-calls t) (hand-at t) hand.Post hand-Inv-loop hand-μ-loop
-hand-cast-side t c = omega (arith, c .before .before .before .before .before .before .before .before .before .before .before .before .before .before .before .pre .1 .0 .0 .few-faces, following-exists t (c .before .before .before .before .before .before .before .before .before .before))
+hand-cast-side t c = omega (arith, c .before .before .before .before .before .before .before .before .before .before .before .before .before .before .before .before .pre .1 .0 .0 .few-faces, following-exists t (c .before .before .before .before .before .before .before .before .before .before .before))
 
 some-follow : (t : ℕ) (c : hand-lts.Else1 (hand-calls t) (hand-at t) hand.Post hand-Inv-loop hand-μ-loop) → 1 ≤ c .before .before .narrow .result .more
 some-follow t c = let none = c .if1 .left in omega arith
 
 hand-sub-after : (t : ℕ) → hand-lts.Need-sub-after (hand-calls t) (hand-at t) hand.Post hand-Inv-loop hand-μ-loop
-hand-sub-after t c = some-follow t (c .before .before .before .before .before .before .before .before .before)
+hand-sub-after t c = some-follow t (c .before .before .before .before .before .before .before .before .before .before)
 
 hand-loop-less : (t : ℕ) → hand-lts.Need-loop-less (hand-calls t) (hand-at t) hand.Post hand-Inv-loop hand-μ-loop
-hand-loop-less t c = omega (arith, some-follow t (c .before .before .before .before .before .before .before .before .before), c .before .before .before .before .before .before .before .before .before .before .before .narrow .ensures .0 .0 [] 0 .no-more)
+hand-loop-less t c = omega (arith, some-follow t (c .before .before .before .before .before .before .before .before .before .before), c .before .before .before .before .before .before .before .before .before .before .before .before .narrow .ensures .0 .0 [] 0 .no-more)
 
 hand-loop-again : (t : ℕ) → hand-lts.Need-loop-again (hand-calls t) (hand-at t) hand.Post hand-Inv-loop hand-μ-loop
-hand-loop-again t c = (followed t (c .before .before .before .before .before .before), (following-exists t (c .before .before .before .before .before .before .before .before .before .before .before), end-exists t (c .before .before .before .before .before .before .before .before .before .before .before)))
+hand-loop-again t c = let none = c .before .before .before .if2 .left in (followed t (c .before .before .before), (following-exists t (c .before .before .before .before .before .before .before .before .before .before .before .before), end-exists t (c .before .before .before .before .before .before .before .before .before .before .before .before), omega arith))
 
 pub +cross+hand-on-spec : {M : Type 1} → statement M
 +cross+hand-on-spec =
@@ -467,11 +493,13 @@ pub +cross+hand-on-spec : {M : Type 1} → statement M
     (cross-add-table-3 t)
     (cross-mul-table-4 t)
     (cross-slice-write-table-4 t)
-    (cross-add-t34 t)
+    (cross-add-t35 t)
     (cross-same-length t)
     (cross-returns t)
     (cross-sub-cells t)
-    (cross-add-crossings t)
+    (cross-sub-passages t)
+    (cross-same-length-2 t)
+    (cross-returns-2 t)
     (cross-cast-g t)
     (cross-mul-g t)
     (cross-add-more t)
@@ -483,8 +511,9 @@ pub +cross+hand-on-spec : {M : Type 1} → statement M
     (cross-shared-slice-read-e t)
     (cross-cast-e t)
     (cross-hand-on-requires t)
+    (cross-same-length-3 t)
+    (cross-returns-3 t)
     (cross-add-rows t)
-    (cross-add-crossings-2 t)
     (cross-loop-less t)
     (cross-loop-again t))
     λ t. hand-lts.spec
@@ -503,8 +532,9 @@ pub +cross+hand-on-spec : {M : Type 1} → statement M
     (hand-mul-cross t)
     (hand-add-cross t)
     (hand-cross-requires t)
+    (hand-same-length-2 t)
+    (hand-returns-2 t)
     (hand-add-rows t)
-    (hand-add-crossings t)
     (hand-mul-side t)
     (hand-add-side t)
     (hand-mul-side-2 t)

@@ -14,11 +14,11 @@ use Rattle.morning.proofs.list_each.Statement.{statement}
 use Rattle.morning.proofs.list_each.Tie as tie
 
 abbrev Inv-loop : tie.InvT-loop
-Inv-loop corners faces firsts backs doors setting reach count table₀ replies₀ lines seen₀ stands rows₀ crossings₀ i₀ table replies seen rows crossings i =
-    (i ≤ count) × (SoFar (single-on corners (tabled faces firsts) doors setting reach) stands i rows crossings table₀ table replies₀ replies × (length seen ≡ length corners))
+Inv-loop corners faces firsts backs doors setting reach ceiling count table₀ replies₀ lines seen₀ stands rows₀ crossings₀ i₀ table replies seen rows crossings i =
+    (i ≤ count) × (SoFar (single-on corners (tabled faces firsts) doors setting reach ceiling) stands i rows crossings table₀ table replies₀ replies × (length seen ≡ length corners))
 
 abbrev μ-loop : tie.MeasureT-loop
-μ-loop corners faces firsts backs doors setting reach count table₀ replies₀ lines seen₀ stands rows₀ crossings₀ i₀ table replies seen rows crossings i =
+μ-loop corners faces firsts backs doors setting reach ceiling count table₀ replies₀ lines seen₀ stands rows₀ crossings₀ i₀ table replies seen rows crossings i =
     count - i
 
 lines-of-requires : tie.Need-lines-of-requires Inv-loop μ-loop
@@ -29,19 +29,19 @@ lines-of-requires c κs =
 loop-holds : tie.Need-loop-holds Inv-loop μ-loop
 loop-holds c =
     let s = c .before .before .before .before .before .before .before .before .before .before .before in
-    (omega arith, (none-yet (single-on (now (s .args .corners)) (tabled (now (s .args .faces)) (now (s .args .firsts))) (now (s .args .doors)) (s .args .setting) (s .args .reach)) (s .args .t8) (now (s .args .table)) (now (s .args .replies)), s .pre .1 .1 .1))
+    (omega arith, (none-yet (single-on (now (s .args .corners)) (tabled (now (s .args .faces)) (now (s .args .firsts))) (now (s .args .doors)) (s .args .setting) (s .args .reach) (s .args .ceiling)) (s .args .t9) (now (s .args .table)) (now (s .args .replies)), s .pre .1 .1 .1))
 
 -- the array has a place for each stand
-in-array : (c : tie.In-loop Inv-loop μ-loop) → c .before .before .before .before .before .before .before .before .before .before .before .before .before .args .count ≤ length (c .before .before .before .before .before .before .before .before .before .before .before .before .before .args .t8)
+in-array : (c : tie.In-loop Inv-loop μ-loop) → c .before .before .before .before .before .before .before .before .before .before .before .before .before .args .count ≤ length (c .before .before .before .before .before .before .before .before .before .before .before .before .before .args .t9)
 in-array c =
     let s = c .before .before .before .before .before .before .before .before .before .before .before .before .before in
-    let whole : length (s .args .t8) ≡ 32 = search needs in
+    let whole : length (s .args .t9) ≡ 32 = search needs in
     omega (arith, s .pre .1 .0 .few-stands)
 
 next-at : (c : tie.In-loop Inv-loop μ-loop) → Next (now (c .before .before .before .before .before .before .before .before .before .before .before .before .before .args .corners)) (c .before .loop .i) (c .before .loop .rows) (c .before .loop .crossings) (c .before .loop .table) (c .before .loop .replies)
 next-at c =
     let s = c .before .before .before .before .before .before .before .before .before .before .before .before .before in
-    next (s .pre .0 .0) (s .args .setting) (s .args .reach) (c .before .loop .inv .1 .0) (s .pre .1 .0) (c .loop-test .taken) (in-array c)
+    next (s .pre .0 .0) (s .args .setting) (s .args .reach) (s .args .ceiling) (c .before .loop .inv .1 .0) (s .pre .1 .0) (c .loop-test .taken) (in-array c)
 
 mul-stand : tie.Need-mul-stand Inv-loop μ-loop
 mul-stand c = omega (arith, c .before .before .before .before .before .before .before .before .before .before .before .before .before .pre .1 .0 .few-stands)
@@ -71,7 +71,7 @@ list-stand-requires : tie.Need-list-stand-requires Inv-loop μ-loop
 list-stand-requires c κs =
     let s = c .before .before .before .before .before .before .before .before .before .before .before .before .before .before .before .before .before .before in
     let d = c .before .before .before .before .before in
-    (s .pre .0, (c .before .before .before .before .before .before .before .before .before .lines-of .ensures, ((part-has-room (s .pre .0 .0) (s .args .setting) (s .args .reach) (d .before .loop .inv .1 .0) (s .pre .1 .0) (d .loop-test .taken) (in-array d), next-at d .places-left), d .before .loop .inv .1 .1)))
+    (s .pre .0, (c .before .before .before .before .before .before .before .before .before .lines-of .ensures, ((part-has-room (s .pre .0 .0) (s .args .setting) (s .args .reach) (s .args .ceiling) (d .before .loop .inv .1 .0) (s .pre .1 .0) (d .loop-test .taken) (in-array d), next-at d .places-left), d .before .loop .inv .1 .1)))
 
 -- the stand adds few rows and crossings
 few-at : (c : tie.After-struct-known Inv-loop μ-loop) → (c .before .before .before .before .before .before .list-stand .result .rows ≤ most-corners) × (c .before .before .before .before .before .before .list-stand .result .crossings ≤ most-corners * most-cells)
@@ -79,7 +79,7 @@ few-at c =
     let s = c .before .before .before .before .before .before .before .before .before .before .before .before .before .before .before .before .before .before .before .before .before .before .before .before .before in
     let d = c .before .before .before .before .before .before .before .before .before .before .before .before in
     let r = c .before .before .before .before .before .before .list-stand .ensures in
-    few-here (s .pre .0 .0) (s .args .setting) (s .args .reach) (d .before .loop .inv .1 .0) (s .pre .1 .0) (d .loop-test .taken) (in-array d) _ (r .0) (r .1 .0)
+    few-here (s .pre .0 .0) (s .args .setting) (s .args .reach) (s .args .ceiling) (d .before .loop .inv .1 .0) (s .pre .1 .0) (d .loop-test .taken) (in-array d) _ (r .0) (r .1 .0)
 
 add-rows : tie.Need-add-rows Inv-loop μ-loop
 add-rows c = omega (arith, next-at (c .before .before .before .before .before .before .before .before .before .before .before .before) .few-rows, c .before .before .before .before .before .before .before .before .before .before .before .before .before .before .before .before .before .before .before .before .before .before .before .before .before .pre .1 .0 .few-stands, few-at c .0)
@@ -98,7 +98,7 @@ loop-again c =
     let s = c .before .before .before .before .before .before .before .before .before .before .before .before .before .before .before .before .before .before .before .before .before .before .before .before .before .before in
     let d = c .before .before .before .before .before .before .before .before .before .before .before .before .before in
     let r = c .before .before .before .before .before .before .before .list-stand .ensures in
-    (omega arith, (one-more (s .pre .0 .0) (s .args .setting) (s .args .reach) (d .before .loop .inv .1 .0) (s .pre .1 .0) (d .loop-test .taken) (in-array d) _ r, search needs))
+    (omega arith, (one-more (s .pre .0 .0) (s .args .setting) (s .args .reach) (s .args .ceiling) (d .before .loop .inv .1 .0) (s .pre .1 .0) (d .loop-test .taken) (in-array d) _ r, search needs))
 
 same-length : tie.Need-same-length Inv-loop μ-loop
 same-length c = table-keeps-its-length (c .before .loop .inv .1 .0)

@@ -3,6 +3,7 @@ use mathlib.Core.Path.{sym, _∙_}
 use denote.Ref.{now}
 use Rattle.checking.proofs.Measures.{refused-likewise}
 use Rattle.sight.proofs.Views.{plan-refused, listing-refused}
+use Rattle.sight.proofs.UpTo.{up-to-it}
 use borrow.Author.Needs.{needs}
 use Rattle.sight.proofs.list.list.Statement.{statement}
 use Rattle.sight.proofs.list.list.Tie as tie
@@ -34,9 +35,10 @@ list-many-requires c κs = sym (c .before .before .before .before .before .measu
 returns-2 : tie.Need-returns-2
 returns-2 c =
     let a = c .before .before .before .before .before .before .before .args in
-    listing-refused (a .kind) (now (a .corners)) (now (a .cells)) (now (a .doors)) (a .query) (now (a .table))
+    up-to-it (a .kind) (now (a .corners)) (now (a .cells)) (now (a .doors)) (a .query) (a .ceiling) (now (a .table))
+    (listing-refused (a .kind) (now (a .corners)) (now (a .cells)) (now (a .doors)) (a .query) (now (a .table))
     (sym (plan-refused (a .kind) (now (a .corners)) (now (a .cells)) (now (a .doors)) (a .query)
-    (sym (refused-likewise (a .kind) (now (a .corners)) (now (a .cells)) (now (a .doors)) (c .before .before .before .measure .ensures) (c .before .r .given .1)))))
+    (sym (refused-likewise (a .kind) (now (a .corners)) (now (a .cells)) (now (a .doors)) (c .before .before .before .measure .ensures) (c .before .r .given .1))))))
 
 same-length-2 : tie.Need-same-length-2
 same-length-2 c = search needs

@@ -1,7 +1,6 @@
 -- `sight::list::list_from` meets its contract.
 use Rattle.stand.proofs.Located.{found-place-holds-the-stand}
-use Rattle.sight.proofs.Lined.{lined-is-lines, starts-stand}
-use Rattle.sight.proofs.Lister.{stands-in-the-tables, tree-is-whole, tree-has-room, few-crossings, listing-written}
+use Rattle.sight.proofs.Lister.{tables-serve, listing-written}
 use borrow.Author.Needs.{needs}
 use Rattle.sight.proofs.list.list_from.Statement.{statement}
 use Rattle.sight.proofs.list.list_from.Tie as tie
@@ -12,20 +11,12 @@ lines-of-requires c κs = search needs
 see-requires : tie.Need-see-requires
 see-requires c κs = search needs
 
-list-over-requires : tie.Need-list-over-requires
-list-over-requires c κs =
+list-all-requires : tie.Need-list-all-requires
+list-all-requires c κs =
     let s = c .before .before .before .before .before .before .before .before .before .before .before .before .before .before .before .before in
     let sound = s .pre .0 .0 in
-    let near = s .pre .1 .0 .0 in
-    let stands = found-place-holds-the-stand _ (sound .numbered) _ _ _ (s .pre .1 .0 .1) in
-    let lined = c .before .before .before .before .before .before .before .before .lines-of .ensures in
-    let seen = c .before .before .before .before .see .ensures in (
-      (lined-is-lines (s .args .setting) (s .args .reach) sound near lined seen, starts-stand (s .args .setting) (s .args .reach) sound near lined seen, s .pre .1 .1 .0 .1, sound .numbered),
-      (
-        (stands-in-the-tables sound (s .args .setting) (s .args .reach) _ near lined seen _ stands, lined .whole),
-        (tree-is-whole sound (s .args .setting) (s .args .reach) _ near lined seen _ stands, (tree-has-room sound (s .args .setting) (s .args .reach) _ near lined seen _ stands _ (s .pre .1 .1 .0 .0), few-crossings sound (s .args .setting) (s .args .reach) _ near lined seen _ stands)),
-      ),
-    )
+    let serve = tables-serve sound (s .args .setting) (s .args .reach) _ (s .pre .1 .0 .0) (c .before .before .before .before .before .before .before .before .lines-of .ensures) (c .before .before .before .before .see .ensures) _ (found-place-holds-the-stand _ (sound .numbered) _ _ _ (s .pre .1 .0 .1)) (s .pre .1 .1 .0 .1) _ (s .pre .1 .1 .0 .0) in
+    (serve .0, (serve .1 .0, (serve .1 .1 .0, (serve .1 .1 .1 .0, serve .1 .1 .1 .1 .1))))
 
 same-length : tie.Need-same-length
 same-length c = search needs
@@ -40,7 +31,7 @@ returns : tie.Need-returns
 returns c =
     let s = c .before .before .before .before .before .before .before .before .before .before .before .before .before .before .before .before .before .before .before in
     let sound = s .pre .0 .0 in
-    listing-written sound (s .args .setting) (s .args .reach) _ (s .pre .1 .0 .0) (c .before .before .before .before .before .before .before .before .before .before .before .lines-of .ensures) (c .before .before .before .before .before .before .before .see .ensures) _ (found-place-holds-the-stand _ (sound .numbered) _ _ _ (s .pre .1 .0 .1)) _ (c .before .before .list-over .ensures)
+    listing-written sound (s .args .setting) (s .args .reach) _ (s .pre .1 .0 .0) (c .before .before .before .before .before .before .before .before .before .before .before .lines-of .ensures) (c .before .before .before .before .before .before .before .see .ensures) _ (found-place-holds-the-stand _ (sound .numbered) _ _ _ (s .pre .1 .0 .1)) _ (c .before .before .list-all .ensures)
 
 pub list-from-spec : {M : Type 1} → statement M
 list-from-spec =
@@ -48,7 +39,7 @@ list-from-spec =
     (tie.spec
     lines-of-requires
     see-requires
-    list-over-requires
+    list-all-requires
     same-length
     same-length-2
     same-length-3

@@ -3,6 +3,7 @@ use mathlib.Core.Path.{sym, _∙_}
 use denote.Ref.{now}
 use borrow.Author.Needs.{needs}
 use Rattle.checking.proofs.Rooms.{drawn-cells, noted-backs, room-for-lines}
+use Rattle.sight.proofs.UpTo.{up-to-it}
 use Rattle.sight.proofs.Views.{listing-refused, room-refused, listing-sound, listing-stands, listing-in-range, listing-done}
 use Rattle.sight.proofs.list.list_in.Statement.{statement}
 use Rattle.sight.proofs.list.list_in.Tie as tie
@@ -31,13 +32,14 @@ same-length-3 c = search needs
 returns : tie.Need-returns
 returns c =
     let a = c .before .before .before .before .before .before .before .before .before .before .before .before .before .before .before .before .before .before .before .before .before .args in
-    room-refused (a .kind) (now (a .corners)) (now (a .cells)) (now (a .doors)) (a .query) (now (a .table)) (sym (c .before .before .before .before .before .before .before .before .before .before .view-in .ensures .0) ∙ c .before .before .x .given .1) (c .if1 .taken)
+    up-to-it (a .kind) (now (a .corners)) (now (a .cells)) (now (a .doors)) (a .query) (a .ceiling) (now (a .table))
+    (room-refused (a .kind) (now (a .corners)) (now (a .cells)) (now (a .doors)) (a .query) (now (a .table)) (sym (c .before .before .before .before .before .before .before .before .before .before .view-in .ensures .0) ∙ c .before .before .x .given .1) (c .if1 .taken))
 
 range-requires : tie.Need-range-requires
 range-requires c κs = tt
 
-list-from-requires : tie.Need-list-from-requires
-list-from-requires c κs =
+list-at-requires : tie.Need-list-at-requires
+list-at-requires c κs =
     let a = c .before .before .before .before .before .before .before .before .before .before .before .before .before .before .before .before .before .before .before .before .before .before .before .before .before .before .before .before .args in
     let p = c .before .before .before .before .before .before .before .before .before .before .before .before .before .before .before .before .before .before .before .before .before .before .before .before .before .before .before .before .pre in
     let v = c .before .before .before .before .before .before .before .before .before .before .before .before .before .before .before .before .before .view-in .ensures in
@@ -63,7 +65,8 @@ same-length-6 c = search needs
 returns-2 : tie.Need-returns-2
 returns-2 c =
     let a = c .before .before .before .before .before .before .before .before .before .before .before .before .before .before .before .before .before .before .before .before .args in
-    listing-refused (a .kind) (now (a .corners)) (now (a .cells)) (now (a .doors)) (a .query) (now (a .table)) (sym (c .before .before .before .before .before .before .before .before .before .view-in .ensures .0) ∙ c .before .r .given .1)
+    up-to-it (a .kind) (now (a .corners)) (now (a .cells)) (now (a .doors)) (a .query) (a .ceiling) (now (a .table))
+    (listing-refused (a .kind) (now (a .corners)) (now (a .cells)) (now (a .doors)) (a .query) (now (a .table)) (sym (c .before .before .before .before .before .before .before .before .before .view-in .ensures .0) ∙ c .before .r .given .1))
 
 same-length-7 : tie.Need-same-length-7
 same-length-7 c = search needs
@@ -87,8 +90,10 @@ returns-3 : tie.Need-returns-3
 returns-3 c =
     let a = c .before .before .before .before .before .before .before .before .before .before .before .before .before .before .before .before .before .before .before .before .before .before .before .before .before .before .before .before .before .before .before .before .before .before .args in
     let v = c .before .before .before .before .before .before .before .before .before .before .before .before .before .before .before .before .before .before .before .before .before .before .before .view-in .ensures in
-    listing-done (a .kind) (now (a .corners)) (now (a .cells)) (now (a .doors)) (a .query) (now (a .table)) (sym (v .0) ∙ c .before .before .before .before .before .before .before .before .before .before .before .before .before .before .before .x .given .1)
-    (drawn-cells (a .kind) (now (a .cells)) (v .1 .0) (v .1 .1 .0)) (c .before .before .before .before .before .before .before .before .before .before .before .before .range .ensures) (c .before .before .before .before .before .before .before .before .before .before .before .before .before .if1 .left) (c .before .before .before .before .before .list-from .ensures)
+    c .before .before .before .before .before .list-at .ensures
+    ∙ up-to-it (a .kind) (now (a .corners)) (now (a .cells)) (now (a .doors)) (a .query) (a .ceiling) (now (a .table))
+    (listing-done (a .kind) (now (a .corners)) (now (a .cells)) (now (a .doors)) (a .query) (now (a .table)) (sym (v .0) ∙ c .before .before .before .before .before .before .before .before .before .before .before .before .before .before .before .x .given .1)
+    (drawn-cells (a .kind) (now (a .cells)) (v .1 .0) (v .1 .1 .0)) (c .before .before .before .before .before .before .before .before .before .before .before .before .range .ensures) (c .before .before .before .before .before .before .before .before .before .before .before .before .before .if1 .left))
 
 pub list-in-spec : {M : Type 1} → statement M
 list-in-spec =
@@ -103,7 +108,7 @@ list-in-spec =
     same-length-3
     returns
     range-requires
-    list-from-requires
+    list-at-requires
     same-length-4
     same-length-5
     same-length-6

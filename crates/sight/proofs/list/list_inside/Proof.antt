@@ -45,7 +45,7 @@ sides-requires c κs =
     let s = c .before .before .before .before .before .before .before in
     let b = bounds (c .before .before .before .before .before .before .before .pre .0 .3) (c .before .before .before .before .before .before .before .pre .1 .0 .0) refl in (
       (s .pre .0 .0, s .pre .0 .1, s .pre .0 .2),
-      (omega (arith, s .pre .1 .0 .1, b .within, b .three-sides), rw (add-one (s .args .c)) (s .pre .1 .1 .0, (omega (arith, s .pre .1 .1 .1 .0), s .pre .1 .1 .1 .1))),
+      ((omega (arith, s .pre .1 .0 .1, b .within, b .three-sides), s .pre .1 .0 .2), rw (add-one (s .args .c)) (s .pre .1 .1 .0, omega (arith, s .pre .1 .1 .1))),
     )
 
 same-length : tie.Need-same-length

@@ -33,7 +33,7 @@ sub-list-within c = omega (arith, c .before .before .before .before .before .bef
 list-within-requires : tie.Need-list-within-requires
 list-within-requires c κs =
     let h = rw (c .before .before .before .p2 .given .1) at (c .before .before .before .before .before .before .before .before .before .pre .1) in
-    ((c .before .before .before .before .before .before .before .before .before .pre .0 .0, c .before .before .before .before .before .before .before .before .before .pre .0 .1, c .before .before .before .before .before .before .before .before .before .pre .0 .2), ((h .0 .0 .1, h .0 .0 .2, h .0 .0 .3), h .1))
+    ((c .before .before .before .before .before .before .before .before .before .pre .0 .0, c .before .before .before .before .before .before .before .before .before .pre .0 .1, c .before .before .before .before .before .before .before .before .before .pre .0 .2), ((h .0 .0 .1, h .0 .0 .2, h .0 .0 .3, h .0 .2), h .1))
 
 same-length : tie.Need-same-length
 same-length c = search needs

@@ -3,7 +3,7 @@ use mathlib.Core.Path.{refl}
 use Prim.Native.Nat.{_+_, _*_}
 use native.Mathlib.Omega.{arith}
 use borrow.Author.Needs.{needs}
-use Rattle.expand.proofs.Expansion.{room-for-the-first, none-remains}
+use Rattle.expand.proofs.Expansion.{room-for-the-first, none-remains, ends-in-the-first}
 use Rattle.sight.proofs.CellTree.{second-part-remains, second-part-fits}
 use Rattle.sight.proofs.list.list_within.Statement.{statement}
 use Rattle.sight.proofs.list.list_within.Tie as tie
@@ -27,45 +27,47 @@ sub-others : tie.Need-sub-others
 sub-others c = c .before .before .before .before .before .pre .1 .0 .2
 
 others-requires : tie.Need-others-requires
-others-requires c κs =
-    let p = c .before .before .before .before .before .pre in
-    (p .0, (p .1 .0 .0, room-for-the-first 0 _ refl (p .1 .1 .0, (omega (arith, p .1 .1 .1 .0), p .1 .1 .1 .1))))
-
-mul-after : tie.Need-mul-after
-mul-after c =
-    let p = c .before .before .before .before .before .before .before .before .before .pre in
-    let x = c .before .before .before .others in
-    omega (arith, second-part-fits _ _ (p .1 .1 .0, (omega (arith, p .1 .1 .1 .0), p .1 .1 .1 .1)) (x .ensures) (x .kept .1 .1 .1 .1 .0) .0 .1 .0, x .kept .1 .1 .1 .1 .0, c .before .before .before .before .before .before .before .before .before .good .1 .1 .1 .1 .0 .0)
-
-sub-others-2 : tie.Need-sub-others-2
-sub-others-2 c = c .before .before .before .before .before .before .before .before .before .before .pre .1 .0 .2
-
-others-requires-2 : tie.Need-others-requires-2
-others-requires-2 c κs =
-    let p = c .before .before .before .before .before .before .before .before .before .before .pre in
-    let x = c .before .before .before .before .others in
-    (p .0, (p .0 .0 .across-exists _ (p .1 .0 .0) (p .1 .0 .1), second-part-fits _ _ (p .1 .1 .0, (omega (arith, p .1 .1 .1 .0), p .1 .1 .1 .1)) (x .ensures) (x .kept .1 .1 .1 .1 .0) .0))
-
-add-t12 : tie.Need-add-t12
-add-t12 c =
-    let p = c .before .before .before .before .before .before .before .before .before .before .before .before .before .before .before .pre in
-    let x = c .before .before .before .before .before .before .before .before .before .others in
-    omega (arith, c .before .before .before .before .before .before .before .before .before .before .before .before .before .before .before .good .1 .1 .1 .1 .0 .0, x .kept .1 .1 .1 .1 .0, second-part-fits _ _ (p .1 .1 .0, (omega (arith, p .1 .1 .1 .0), p .1 .1 .1 .1)) (x .ensures) (x .kept .1 .1 .1 .1 .0) .0 .1 .0, c .before .before .before .before .others2 .ensures .0)
-
-add-t13 : tie.Need-add-t13
-add-t13 c =
-    let p = c .before .before .before .before .before .before .before .before .before .before .before .before .before .before .before .before .before .pre in
-    let x = c .before .before .before .before .before .before .before .before .before .before .before .others in
-    omega (arith, second-part-fits _ _ (p .1 .1 .0, (omega (arith, p .1 .1 .1 .0), p .1 .1 .1 .1)) (x .ensures) (x .kept .1 .1 .1 .1 .0) .1, c .before .before .before .before .before .before .others2 .ensures .1 .0)
+others-requires c κs = let p = c .before .before .before .before .before .pre in (p .0, ((p .1 .0 .0, p .1 .0 .3), room-for-the-first 0 _ refl (p .1 .1 .0, omega (arith, p .1 .1 .1))))
 
 same-length : tie.Need-same-length
 same-length c = search needs
 
 returns : tie.Need-returns
-returns c =
+returns c = ends-in-the-first refl (c .before .before .before .before .others .ensures) (c .if1 .taken)
+
+mul-after : tie.Need-mul-after
+mul-after c =
+    let p = c .before .before .before .before .before .before .before .before .before .before .before .pre in
+    let x = c .before .before .before .before .before .others in
+    let none = c .before .if1 .left in
+    omega (arith, second-part-fits _ _ _ (p .1 .1 .0, omega (arith, p .1 .1 .1)) (x .ensures) (omega arith) (x .kept .1 .1 .1 .1 .0) .1, x .kept .1 .1 .1 .1 .0, c .before .before .before .before .before .before .before .before .before .before .before .good .1 .1 .1 .1 .0 .0)
+
+sub-others-2 : tie.Need-sub-others-2
+sub-others-2 c = c .before .before .before .before .before .before .before .before .before .before .before .before .pre .1 .0 .2
+
+others-requires-2 : tie.Need-others-requires-2
+others-requires-2 c κs =
+    let p = c .before .before .before .before .before .before .before .before .before .before .before .before .pre in
+    let x = c .before .before .before .before .before .before .others in
+    let none = c .before .before .if1 .left in
+    (p .0, ((p .0 .0 .across-exists _ (p .1 .0 .0) (p .1 .0 .1), omega arith), second-part-fits _ _ _ (p .1 .1 .0, omega (arith, p .1 .1 .1)) (x .ensures) (omega arith) (x .kept .1 .1 .1 .1 .0)))
+
+add-t15 : tie.Need-add-t15
+add-t15 c =
     let p = c .before .before .before .before .before .before .before .before .before .before .before .before .before .before .before .before .before .pre in
     let x = c .before .before .before .before .before .before .before .before .before .before .before .others in
-    none-remains _ _ _ _ _ _ _ (second-part-remains _ _ (p .1 .1 .0, (omega (arith, p .1 .1 .1 .0), p .1 .1 .1 .1)) (x .ensures) (x .kept .1 .1 .1 .1 .0)) (c .before .before .before .before .before .before .others2 .ensures) refl refl
+    let none = c .before .before .before .before .before .before .before .if1 .left in
+    omega (arith, c .before .before .before .before .before .before .before .before .before .before .before .before .before .before .before .before .before .good .1 .1 .1 .1 .0 .0, x .kept .1 .1 .1 .1 .0, second-part-fits _ _ _ (p .1 .1 .0, omega (arith, p .1 .1 .1)) (x .ensures) (omega arith) (x .kept .1 .1 .1 .1 .0) .1, c .before .before .before .before .others2 .ensures .no-more)
+
+same-length-2 : tie.Need-same-length-2
+same-length-2 c = search needs
+
+returns-2 : tie.Need-returns-2
+returns-2 c =
+    let p = c .before .before .before .before .before .before .before .before .before .before .before .before .before .before .before .before .before .pre in
+    let x = c .before .before .before .before .before .before .before .before .before .before .before .others in
+    let none = c .before .before .before .before .before .before .before .if1 .left in
+    none-remains _ _ _ _ _ _ _ _ (second-part-remains _ _ _ (p .1 .1 .0, omega (arith, p .1 .1 .1)) (x .ensures) (omega arith) (x .kept .1 .1 .1 .1 .0)) (c .before .before .before .before .others2 .ensures) refl
 
 pub list-within-spec : {M : Type 1} → statement M
 list-within-spec =
@@ -78,10 +80,11 @@ list-within-spec =
     cast-g
     sub-others
     others-requires
+    same-length
+    returns
     mul-after
     sub-others-2
     others-requires-2
-    add-t12
-    add-t13
-    same-length
-    returns)
+    add-t15
+    same-length-2
+    returns-2)
