@@ -145,11 +145,11 @@ pub fn change(
     doors::change(corners, cells, doors, kind, query, given, door, shut, table)
 }
 
-// A morning's stands together: as many of the stands as are asked for, listed one after another in the order given, as `list` lists each of them with the
-// one setting, the one reach and the one ceiling, which each stand has for itself. The rows stand one behind the other from the beginning of the table, and three numbers a stand (reply number, row count,
-// crossings) from that of the replies; a refused stand has counts 0, writes no row and stops no other. Replies the sums of rows and crossings. Else 1 to 6
-// (SIZE also for more than 32 stands), SETTING, or ROOM for a table below 4·corners·stands numbers or fewer than 3·stands places for the replies, before any
-// stand is looked at.
+// A morning's stands together: as many of the stands as are asked for, listed one after another in the order given, as `list` lists each of them with the one
+// setting, the one reach and the one ceiling, which each stand has for itself. The rows stand one behind the other from the beginning of the table, and three
+// numbers a stand (reply number, row count, crossings) from that of the replies; a refused stand has counts 0, writes no row and stops no other. Replies the
+// sums of rows and crossings. Else 1 to 6 (SIZE also for more than 32 stands), SETTING, or ROOM for a table below 4·corners·stands numbers or fewer than
+// 3·stands places for the replies, before any stand is looked at.
 pub fn list_stands(
     corners: &[i32],
     cells: &[u16],

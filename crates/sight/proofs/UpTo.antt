@@ -80,13 +80,25 @@ pub all-followed : (table : List ℕ) (t : Sight) {new : List ℕ} {i j : ℕ} �
 unfolding exceeds
 all-followed table t h = λ x. (L.Rows (h .0 x) (h .1 .0 x), h .1 .1 x)
 
--- the pair passes at most one free line more than the ceiling before it answers
-pub passes-at-most : (n : ℕ) {old new : List ℕ} {t : Sight} {i j : ℕ} → Follows old 0 (allowance n) t new i j → allowance n - j ≤ n + 1
-passes-at-most n {j = j} w = by (decLt n enough)
-  where
-    by : Dec (n < enough) → allowance n - j ≤ n + 1
-    by (yes h) = omega (arith, few-allowed n h)
-    by (no h) = let e = all-allowed n (omega arith) in omega (arith, e)
+-- the free lines that the pair passes before it answers: those of the listing, all of them, where they do not exceed the ceiling; else one more than the
+-- ceiling, and none after it
+module _ (n : ℕ) {old new : List ℕ} {t : Sight} {i j : ℕ} (w : Follows old 0 (allowance n) t new i j) (few : crossings t < enough) where
+  pub passes-all : crossings t ≤ n → allowance n - j ≡ crossings t
+  passes-all h = by (decLt n enough)
+    where
+      by : Dec (n < enough) → allowance n - j ≡ crossings t
+      by (yes i) = omega (arith, few-allowed n i, w .passages)
+      by (no i) = let e = all-allowed n (omega arith) in omega (arith, e, w .passages)
+
+  pub passes-one-more : n < crossings t → allowance n - j ≡ n + 1
+  passes-one-more h = omega (arith, few-allowed n (omega (arith, h, few)), w .passages)
+
+  pub passes-at-most : allowance n - j ≤ n + 1
+  passes-at-most = by (decLt n (crossings t))
+    where
+      by : Dec (n < crossings t) → allowance n - j ≤ n + 1
+      by (yes h) = omega (arith, passes-one-more h)
+      by (no h) = omega (arith, passes-all (omega arith))
 
 -- ---- the listing
 
