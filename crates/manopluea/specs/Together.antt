@@ -1,4 +1,5 @@
--- Request A1 of document 02, of any counts, table and replies: they are those of single calls, one after another, each with the one setting, the one reach and the one ceiling.
+-- Request A1 of document 02, of any counts, table and replies: they are those of single calls, one after another, each with the one setting, the one reach
+-- and the one ceiling.
 use mathlib.Core.List.{List}
 use mathlib.Core.Path.{_≡_}
 use Prim.Native.Nat.{ℕ, _*_, _≤_}
