@@ -13,7 +13,7 @@
  *
  *   Stack. A call needs at most MANOPLUEA_STACK bytes. With less, the process may be ended by a signal at the guard
  *   page below its stack. Where lines are followed, calls go into one another no more often than the listing has rows.
- *   On a floor where they do so 2037 times, on one with 2999 lines behind one another, on one of cells with the most
+ *   On a floor where they do so 2044 times, on one with 2999 lines behind one another, on one of cells with the most
  *   sides and on the fullest plan, with no reach stated and with the longest, without a ceiling and with one that is
  *   just kept to, no call took more than 1140 KiB, on x86-64 and on AArch64. The number stated is 1.8 times that.
  *
@@ -33,6 +33,10 @@
  * of a cell one after another: in a list of triangles a face is 3*cell + side. Any number may be passed as the kind;
  * one that is neither of the two is refused with 1. Check, finding, listing, a morning and the door change answer a
  * plan of triangles alike in either kind.
+ *
+ * Cells may touch, in a corner or along a line, neighbours or not, but they do not overlap: a plan in which some point,
+ * whole or fractional, is strictly inside two cells is refused with 17, and the place is the least cell of any such
+ * pair. So at most one cell holds a stand strictly inside.
  *
  * Reach. A listing, a morning and the door change may state how far the scanner sees, in millimetres: `stated` says
  * whether they do. Where it is false the reach is unlimited, and the number after it means nothing. Where it is true,
@@ -61,10 +65,10 @@
  * for are 0. On a refusal the five values are 0. Numbers beyond the seven keep their values. Where reply_length is
  * below 7, the call does nothing at all: no lent memory is touched, the reply neither.
  *
- * The lowest number that applies is the reply, but for 15, which goes after 8 and before 9, and for 19, which goes
- * after 11 and is the last of a listing's. A refusal returns its number and place only, and every lent table, list and
- * file keeps its contents. On 0, numbers and bytes beyond those written keep their old values. Each call checks its
- * plan anew.
+ * The lowest number that applies is the reply, but for 17, which goes after 6 and before 7, for 15, which goes after 8
+ * and before 9, and for 19, which goes after 11 and is the last of a listing's. A refusal returns its number and place
+ * only, and every lent table, list and file keeps its contents. On 0, numbers and bytes beyond those written keep their
+ * old values. Each call checks its plan anew.
  *
  * Each promise below is proved: crates/exports/specs/Reply.antt defines what a call leaves in the lent memory and in
  * the reply as a function of its input, and the call's contract says that it leaves exactly that. The stack is not
@@ -83,7 +87,7 @@ extern "C" {
 #endif
 
 /* Counts up where a function, a number or a promise of this header changes. */
-#define MANOPLUEA_VERSION 6
+#define MANOPLUEA_VERSION 7
 
 /* The limits of a plan. A coordinate lies between -MANOPLUEA_MOST_COORDINATE and MANOPLUEA_MOST_COORDINATE. */
 #define MANOPLUEA_LEAST_CORNERS 3
@@ -114,7 +118,7 @@ extern "C" {
 /* In a list of stands, what a stand that is a point has in place of a corner. */
 #define MANOPLUEA_POINT (-1.0)
 
-/* The bytes of the largest plan file: 2048 corners, 3000 cells of 8 corners, 64 doors. */
+/* No plan file that is accepted has more bytes than 2048 corners, 3000 cells of 8 corners and 64 doors take. */
 #define MANOPLUEA_MOST_FILE 118530
 
 /* The bytes of the longest input of printing: a longer one is refused, in print. */
@@ -152,17 +156,20 @@ enum manopluea_number {
     MANOPLUEA_CHANGE = 12,   /* no such door, or already in that state */
     MANOPLUEA_ROWS = 13,     /* the given list differs from the true one, in length or any number */
     MANOPLUEA_REACH = 15,    /* a number is stated that is no reach; after MANOPLUEA_STAND, before MANOPLUEA_LINE */
+    MANOPLUEA_OVERLAP = 17,  /* cells that lie on top of each other: some point, whole or fractional, is strictly inside
+                                two of them; the least cell of any such pair; after MANOPLUEA_DOOR, before
+                                MANOPLUEA_SETTING */
     MANOPLUEA_CEILING = 19   /* more crossings than the ceiling; after MANOPLUEA_ROOM */
 };
 
-/* The plan check. Replies 0 to 6. On 0 the values are the counts of corners, cells and doors. Writes to the reply
- * only. */
+/* The plan check. Replies 0 to 6 and 17. On 0 the values are the counts of corners, cells and doors. Writes to the
+ * reply only. */
 void manopluea_check(const int32_t *corners, size_t corners_length,
                      const uint16_t *cells, size_t cells_length,
                      const uint16_t *doors, size_t doors_length, uint16_t kind,
                      uint64_t *reply, size_t reply_length);
 
-/* The reader. Replies 0 to 6 and 11. On 0 the values are the counts of corners, cells and doors, the kind that was
+/* The reader. Replies 0 to 6, 11 and 17. On 0 the values are the counts of corners, cells and doors, the kind that was
  * read, MANOPLUEA_TRIANGLES or MANOPLUEA_POLYGONS, and how many numbers the list of cells has in that kind; and the
  * three lists hold the numbers of the file from their beginnings on: 2*corners of them, as many as that, and doors.
  * Writing them again in that kind gives the same bytes. */
@@ -172,7 +179,7 @@ void manopluea_read(const uint8_t *file, size_t file_length,
                     uint16_t *doors, size_t doors_length,
                     uint64_t *reply, size_t reply_length);
 
-/* The writer. Replies 0 to 6 and 11. On 0 the values are the counts of corners, cells and doors, and the file holds
+/* The writer. Replies 0 to 6, 11 and 17. On 0 the values are the counts of corners, cells and doors, and the file holds
  * the one file of the three lists from its beginning on: 18 + 4*corners_length + 2*cells_length + 2*doors_length
  * bytes. The kind is that of its second record. Reading it returns those lists and that kind. */
 void manopluea_write(const int32_t *corners, size_t corners_length,
@@ -181,14 +188,14 @@ void manopluea_write(const int32_t *corners, size_t corners_length,
                      uint8_t *file, size_t file_length,
                      uint64_t *reply, size_t reply_length);
 
-/* Finding. Replies 0 to 10. On 0 the first value is the stand's cell. The second is 0 where the stand is strictly
- * inside that cell and 1 where it is strictly within a side of it; the third is the number of that side in its cell,
- * and 0 where the stand is inside. Writes to the reply only.
+/* Finding. Replies 0 to 10 and 17. On 0 the first value is the stand's cell. The second is 0 where the stand is
+ * strictly inside that cell and 1 where it is strictly within a side of it; the third is the number of that side in its
+ * cell, and 0 where the stand is inside. Writes to the reply only.
  *
- * A stand that some cell holds strictly inside, which is strictly left of every side, is inside the least-numbered such
- * cell. Any other stand that is strictly within a free side, which is on its line and strictly between its two ends, is
- * on the least such side of the least-numbered cell that has one. Any other stand on a border is refused with 9: on a
- * corner, on a wall, or on the line of a shut door.
+ * A stand that some cell holds strictly inside, which is strictly left of every side, is inside that cell: no other one
+ * holds it so. Any other stand that is strictly within a free side, which is on its line and strictly between its two
+ * ends, is on the least such side of the least-numbered cell that has one. Any other stand on a border is refused with
+ * 9: on a corner, on a wall, or on the line of a shut door.
  *
  * Bit i of the setting is one while door i is shut; both faces of a shut door count as wall. A side is free where its
  * neighbour is a cell and no shut door is on its line.
@@ -208,10 +215,10 @@ void manopluea_find_offset(const int32_t *corners, size_t corners_length,
                            uint64_t setting, uint16_t corner, double dx, double dy,
                            uint64_t *reply, size_t reply_length);
 
-/* The listing. Replies 0 to 11, 15 and 19. On 0 the first two values are row count and crossings, and the table holds
- * four numbers a row from its beginning on: face (on the side seen), right limit, left limit, and 0 in reach or 1 out
- * of reach. Rows never outnumber corners. Where no reach is stated every fourth number is 0. Crossings are counted for
- * the whole listing, from a side through both its cells, and 19 is the reply where they exceed the ceiling.
+/* The listing. Replies 0 to 11, 15, 17 and 19. On 0 the first two values are row count and crossings, and the table
+ * holds four numbers a row from its beginning on: face (on the side seen), right limit, left limit, and 0 in reach or 1
+ * out of reach. Rows never outnumber corners. Where no reach is stated every fourth number is 0. Crossings are counted
+ * for the whole listing, from a side through both its cells, and 19 is the reply where they exceed the ceiling.
  *
  * Setting and stand are as for finding. From a stand strictly inside a cell, the sides of that cell are followed to
  * their rows in order. From a stand strictly within a free side, the other sides of the cell found are followed in
@@ -233,7 +240,7 @@ void manopluea_list_offset(const int32_t *corners, size_t corners_length,
                            uint16_t *table, size_t table_length,
                            uint64_t *reply, size_t reply_length);
 
-/* A morning's stands together. Replies 0 to 7 and 11; 8 to 10, 15 and 19 are replies of single stands.
+/* A morning's stands together. Replies 0 to 7, 11 and 17; 8 to 10, 15 and 19 are replies of single stands.
  *
  * Stands are three numbers each: corner, x, y. Where the first is MANOPLUEA_POINT the stand is the point (x, y), else
  * the offset (x, y) from that corner. Minus zero reads as corner 0; a stand whose first number is neither
@@ -263,7 +270,7 @@ void manopluea_list_stands(const int32_t *corners, size_t corners_length,
                            uint64_t *replies, size_t replies_length,
                            uint64_t *reply, size_t reply_length);
 
-/* The door change. Replies 0 to 13 and 15. The given list is the one that is true under the setting and the reach,
+/* The door change. Replies 0 to 13, 15 and 17. The given list is the one that is true under the setting and the reach,
  * four numbers a row; a list that differs from it in length or any number is refused with 13, and a door that does not
  * exist or is already as wished with 12. On 0 the values and the table are those of the listing with that door shut or
  * open as wished and the same reach. The given list and the table do not overlap.

@@ -1,7 +1,7 @@
 //! Times of the public calls on four floors, of listings with a reach and up to a
-//! ceiling there, and on one of them of a morning's stands and of its triangles merged
-//! into larger cells: of the proved library, of the second program and of plain Rust,
-//! side by side.
+//! ceiling there, on one of them of a morning's stands and of its triangles merged
+//! into larger cells, and of the check alone on a floor of slivers: of the proved library,
+//! of the second program and of plain Rust, side by side.
 
 use crate::calls::{Calls, DoorChange, Listing, Lists, Morning, Plan, Query, Reach, Stand, ROW};
 use crate::generate::{self, Dice, Merged, Mesh};
@@ -100,8 +100,8 @@ impl Times {
     }
 }
 
-/// Times the calls on each floor, and on the first, the cathedral, a morning and
-/// the merged cells; reports medians.
+/// Times the calls on each floor, the check on slivers, and on the first floor, the
+/// cathedral, a morning and the merged cells; reports medians.
 pub fn report(proved: &dyn Calls) -> String {
     let floors = floors();
     let calls = floors.iter().map(|floor| {
@@ -112,12 +112,33 @@ pub fn report(proved: &dyn Calls) -> String {
         ];
         describe(floor, &medians(programs).map(Times::new))
     });
-    let text: String = calls.collect();
+    let text = calls.collect::<String>() + &report_slivers(proved);
     let reaches = floors.iter().map(|floor| report_reaches(floor, proved));
     let text = text + &reaches.collect::<String>();
     let ceilings = floors.iter().map(|floor| report_ceilings(floor, proved));
     let text = text + &ceilings.collect::<String>();
     text + &report_morning(&floors[0], proved) + "\n" + &report_merged(&floors[0], proved)
+}
+
+/// The check where no box tells of two cells that they do not overlap.
+fn report_slivers(proved: &dyn Calls) -> String {
+    let plan = generate::slivers().plan(&[]);
+    let lists = plan.lists();
+    let programs: [[Call<'_>; 1]; 3] = [
+        [Box::new(|| {
+            black_box(proved.check(lists));
+        })],
+        [Box::new(|| {
+            black_box(Paper.check(lists));
+        })],
+        [Box::new(|| {
+            black_box(plain::check(lists).is_ok());
+        })],
+    ];
+    let times = medians(programs);
+    let sizes = sizes("slivers", &plan);
+    let check = line("check", 0, times.map(|[check]| check));
+    format!("{sizes}\n{}{check}\n", columns())
 }
 
 fn report_reaches(floor: &Floor, proved: &dyn Calls) -> String {
@@ -176,11 +197,13 @@ fn floors() -> Vec<Floor> {
 fn floor(name: &'static str, mesh: &Mesh, dice: &mut Dice) -> Floor {
     let doors = most_doors(mesh, dice);
     let plan = mesh.plan(&doors);
+    // Checked once for all that is tried: that takes longer than most listings.
+    let checked = paper::Floor::check(plan.lists()).expect("it passes the check");
     let tried: Vec<_> = (0..STANDS_TRIED)
         .map(|_| {
             let [x, y] = generate::inside(mesh, dice);
             let stand = Stand::Point(x as f64, y as f64);
-            (stand, listing(&plan, Query::without_reach(0, stand)))
+            (stand, seen(&checked, Query::without_reach(0, stand)))
         })
         .collect();
     let stands = tried.iter().map(|&(stand, _)| stand);
@@ -191,7 +214,7 @@ fn floor(name: &'static str, mesh: &Mesh, dice: &mut Dice) -> Floor {
         .expect("some stand is tried");
     // A door that is seen, so that the change changes something.
     let door = (0..plan.doors.len())
-        .find(|door| listing(&plan, Query::without_reach(1 << door, stand)).0 != given)
+        .find(|door| seen(&checked, Query::without_reach(1 << door, stand)).0 != given)
         .expect("some door is seen");
     Floor {
         name,
@@ -231,10 +254,20 @@ fn cells(plan: &Plan) -> u64 {
 
 /// The rows and crossings that the second program lists.
 fn listing(plan: &Plan, query: Query) -> (Vec<u16>, u64) {
-    let mut table = table(plan);
-    let reply = paper::list(plan.lists(), query.without_ceiling(), &mut table);
-    table.truncate(ROW * reply.values[0] as usize);
-    (table, reply.values[1])
+    let checked = paper::Floor::check(plan.lists()).expect("it passes the check");
+    seen(&checked, query)
+}
+
+/// The same of a plan that it has checked; none where the stand is refused.
+fn seen(checked: &paper::Floor, query: Query) -> (Vec<u16>, u64) {
+    let view = paper::View::new(checked, query);
+    view.map_or_else(
+        |_| (Vec::new(), 0),
+        |view| {
+            let listed = view.list();
+            (listed.rows.concat(), listed.crossings)
+        },
+    )
 }
 
 fn table(plan: &Plan) -> Vec<u16> {
@@ -586,14 +619,23 @@ fn against(times: [f64; 3], others: [f64; 3]) -> [f64; 3] {
 
 fn heading(floor: &Floor) -> String {
     format!(
-        "{}: {} corners, {} cells, {} doors; {} rows, {} crossings\n{}",
-        floor.name,
-        floor.plan.corners.len() / 2,
-        cells(&floor.plan),
-        floor.plan.doors.len(),
+        "{}; {} rows, {} crossings\n{}",
+        sizes(floor.name, &floor.plan),
         floor.given.len() / ROW,
         floor.crossings,
         columns(),
+    )
+}
+
+/// How large a plan is that passes the check, and how many of its cells plain Rust
+/// compares for that.
+fn sizes(name: &str, plan: &Plan) -> String {
+    let [corners, cells, doors, ..] = paper::check(plan.lists()).values;
+    let pairs = plain::pairs(plan.lists()).expect("it passes the check");
+    format!(
+        "{name}: {corners} corners, {cells} cells, {doors} doors; {} pairs of cells looked at, {} \
+         with boxes that meet",
+        pairs.looked_at, pairs.meeting
     )
 }
 
@@ -634,6 +676,22 @@ mod tests {
                 (2_048, 3_000)
             ]
         );
+    }
+
+    /// Slivers are accepted by each program, and the boxes of all but one of them meet.
+    #[test]
+    fn the_slivers_are_checked_alike() {
+        let plan = generate::slivers().plan(&[]);
+        let lists = plan.lists();
+        let counts = Reply::done([1_503, 3_000, 0]);
+        assert_eq!(Paper.check(lists), counts);
+        assert_eq!(Proved.check(lists), counts);
+        let all = 2_999 * 2_998 / 2;
+        let pairs = plain::Pairs {
+            looked_at: all,
+            meeting: all,
+        };
+        assert_eq!(plain::pairs(lists), Ok(pairs));
     }
 
     /// What each program leaves for a listing: the same.

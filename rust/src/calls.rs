@@ -208,6 +208,8 @@ pub enum Refusal {
     Cell(usize),
     Neighbour(usize),
     Door(usize),
+    /// After DOOR and before SETTING, although its number is higher; the place is a cell.
+    Overlap(usize),
     Setting,
     Stand,
     /// After STAND, although its number is higher than those that follow.
@@ -230,6 +232,7 @@ impl Refusal {
             Refusal::Cell(cell) => (4, cell),
             Refusal::Neighbour(face) => (5, face),
             Refusal::Door(door) => (6, door),
+            Refusal::Overlap(cell) => (17, cell),
             Refusal::Setting => (7, 0),
             Refusal::Stand => (8, 0),
             Refusal::Reach => (15, 0),
@@ -261,6 +264,7 @@ impl Refusal {
             12 => Refusal::Change,
             13 => Refusal::Rows,
             15 => Refusal::Reach,
+            17 => Refusal::Overlap(place),
             19 => Refusal::Ceiling,
             _ => return None,
         })
@@ -298,7 +302,7 @@ impl Reply {
             return Ok(self.values);
         }
         let refusal = Refusal::numbered(self.number, self.place as usize);
-        Err(refusal.expect("a reply's number is one of 0 to 13, 15 or 19"))
+        Err(refusal.expect("a reply's number is one of 0 to 13, 15, 17 or 19"))
     }
 }
 

@@ -18,7 +18,7 @@ use std::thread;
 /// many is put to it.
 const PROGRAM_EVERY: u64 = 50;
 
-/// Reply numbers are below this one. There is no reply 14, and none from 16 to 18.
+/// Reply numbers are below this one. There is no reply 14, 16 or 18.
 pub const NUMBERS: usize = 20;
 
 /// How often each reply number came up, for each call.
@@ -227,6 +227,9 @@ impl fmt::Display for Tally {
         }
         writeln!(f, "cases {}", self.cases)?;
         writeln!(f, "rows {} crossings {}", self.rows, self.crossings)?;
+        let refused = Refusal::Overlap(0).reply().number as usize;
+        let overlaps = self.of_number(refused);
+        writeln!(f, "cells that overlap: {overlaps} replies are {refused}")?;
         writeln!(f, "demand 2: {} directions", self.directions)?;
         writeln!(f, "demand 3: {} door changes", self.changes)?;
         let sides = &self.sides;

@@ -10,13 +10,16 @@ mod lines;
 mod merge;
 mod mesh;
 mod morning;
+mod overlaps;
 mod reaches;
 mod stands;
 
 pub use ceilings::Ceiling;
 pub use dice::Dice;
-pub use extremes::{fullest, longest_fans, most_splits};
-pub use floors::{cathedral, corridor, deepest, fence, largest, spot_at, steps_between, OCTAGON};
+pub use extremes::{fullest, longest_fans, longest_lists, most_splits};
+pub use floors::{
+    cathedral, corridor, deepest, fence, largest, slivers, spot_at, steps_between, OCTAGON,
+};
 pub use lines::{Lines, OnLine};
 pub use merge::{in_other_kind, Merged};
 pub use mesh::{Mesh, Spot};
@@ -201,6 +204,10 @@ const ON_LINES: usize = 30;
 /// So many cases in a hundred have a floor that is turned.
 const TURNED: usize = 15;
 
+/// So many cases in a hundred have a floor with cells on top of others, or with cells that
+/// just are not.
+const ON_TOP: usize = 8;
+
 /// A floor whose coordinates go farther is so large that hardly any stand has a line
 /// in reach, where it is not beside one.
 const BEYOND_REACH: i64 = 4 * *REACHES.end() as i64;
@@ -209,13 +216,13 @@ const BEYOND_REACH: i64 = 4 * *REACHES.end() as i64;
 pub fn case(seed: u64, number: u64) -> Case {
     let dice = &mut Dice::for_case(seed, number);
     // The morning has dice of its own, and so have stands on lines, reaches with turned
-    // floors and stands beside lines, and ceilings: all else is what a seed gave before
-    // there were mornings, and a case without such floors and stands is what it gave
-    // before there were those.
+    // floors and stands beside lines, ceilings, and cells on top of others: one of them
+    // changes nothing of what the other dice give.
     let aside = &mut Dice::for_case(!seed, number);
     let other = &mut Dice::for_case(seed ^ 1 << 63, number);
     let far = &mut Dice::for_case(seed ^ 1 << 62, number);
     let tablet = &mut Dice::for_case(seed ^ 1 << 61, number);
+    let upon = &mut Dice::for_case(seed ^ 1 << 60, number);
     let mut mesh = floor(dice);
     let on_lines = other.percent(ON_LINES);
     if on_lines && other.percent(40) {
@@ -230,6 +237,9 @@ pub fn case(seed: u64, number: u64) -> Case {
             mesh = floors::straight(far);
         }
         floors::turn(&mut mesh, far);
+    }
+    if upon.percent(ON_TOP) {
+        mesh = overlaps::random(upon);
     }
     let mut stand = stands::random(&mesh, dice);
     let mut stands = morning::random(&mesh, aside);
@@ -332,7 +342,8 @@ pub fn floor(dice: &mut Dice) -> Mesh {
     let mut mesh = floors::random(dice);
     if dice.below(FULL_EVERY) == 0 {
         let corners = dice.percent(50);
-        floors::fill_up(&mut mesh, corners, !corners || dice.percent(30));
+        let cells = !corners || dice.percent(30);
+        floors::fill_up(&mut mesh, corners, cells, dice);
     }
     mesh
 }
@@ -501,7 +512,7 @@ fn just_beside(q: Spot, c: Spot, dice: &mut Dice) -> Direction {
 #[cfg(test)]
 mod tests {
     use super::*;
-    use crate::calls::{POLYGONS, TRIANGLES};
+    use crate::calls::{Refusal, POLYGONS, TRIANGLES};
     use crate::paper::{cut_cells, CELLS, COORDINATES, CORNERS};
 
     fn meshes(count: u64) -> impl Iterator<Item = (Mesh, Dice)> {
@@ -582,10 +593,8 @@ mod tests {
 
     #[test]
     fn floors_of_every_kind_come_up() {
-        let (mut on_top, mut parted, mut at_edges, mut largest) = (0, 0, 0, 0);
-        for (mesh, mut dice) in meshes(3_000) {
-            let at = inside(&mesh, &mut dice);
-            on_top += usize::from(cells_at(&mesh, at) > 1);
+        let (mut parted, mut at_edges, mut largest) = (0, 0, 0);
+        for (mesh, _) in meshes(3_000) {
             let mut corners = mesh.corners.clone();
             corners.sort_unstable();
             corners.dedup();
@@ -594,7 +603,50 @@ mod tests {
             let sizes = (mesh.corners.len(), mesh.cells.len());
             largest += usize::from(sizes == (*CORNERS.end(), *CELLS.end()));
         }
-        assert!(on_top > 100 && parted > 100 && at_edges > 100 && largest > 2);
+        assert!(parted > 100 && at_edges > 100 && largest > 2);
+    }
+
+    /// Cells on top of each other, in plans that are wrong in no other way and in such as
+    /// are; and cells that touch and are no neighbours.
+    #[test]
+    fn overlaps_of_every_kind_come_up() {
+        let (mut plans, mut places, mut larger, mut at_edges, mut touching) = (0, 0, 0, 0, 0);
+        let mut damaged = [0; 7];
+        for number in 0..12_000 {
+            let plan = case(8, number).scene.plan;
+            let lists = plan.lists();
+            let floor = Floor::agreeing(lists);
+            match Floor::check(lists).err() {
+                Some(Refusal::Overlap(place)) => {
+                    let floor = floor.unwrap_or_else(|_| panic!("case {number} overlaps only"));
+                    plans += 1;
+                    places += usize::from(place > 0);
+                    larger += usize::from(floor.faces(place).len() > 3);
+                    let edge = *COORDINATES.end() as i32;
+                    at_edges += usize::from(plan.corners.iter().any(|n| n.abs() == edge));
+                }
+                Some(refusal) if Dice::for_case(8 ^ 1 << 60, number).percent(ON_TOP) => {
+                    damaged[refusal.reply().number as usize] += 1;
+                }
+                None => touching += usize::from(touches(&floor.expect("it is accepted"))),
+                _ => {}
+            }
+        }
+        let counts = [plans, places, larger, at_edges, touching];
+        println!("{counts:?} {damaged:?}");
+        assert!(counts.iter().all(|&count| count > 50), "{counts:?}");
+        assert!(damaged[1..].iter().all(|&count| count > 2), "{damaged:?}");
+    }
+
+    /// Whether some corner is strictly within a side: the cells there are no neighbours.
+    fn touches(floor: &Floor) -> bool {
+        let mut faces = (0..floor.cell_count()).flat_map(|cell| floor.faces(cell));
+        let corners = floor.corners();
+        corners.len() < 50
+            && faces.any(|face| {
+                let mut corners = corners.iter();
+                corners.any(|&at| paper::is_within(floor, face, at))
+            })
     }
 
     #[test]
@@ -625,15 +677,5 @@ mod tests {
         assert!(counts[..6].iter().all(|&count| count > 100), "{counts:?}");
         assert!(counts[31..].iter().all(|&count| count > 10), "{counts:?}");
         assert!(uneven > 50 && minus_zero > 20 && not_a_number > 20);
-    }
-
-    /// How many cells hold a spot strictly inside.
-    fn cells_at(mesh: &Mesh, at: Spot) -> usize {
-        let left_of =
-            |a: usize, b: usize| mesh::side_value(mesh.corners[a], mesh.corners[b], at) > 0;
-        mesh.cells
-            .iter()
-            .filter(|&&[a, b, c]| left_of(a, b) && left_of(b, c) && left_of(c, a))
-            .count()
     }
 }

@@ -143,6 +143,7 @@ mod tests {
     use super::*;
     use crate::calls::{Query, Reach, POLYGONS, ROW, TRIANGLES};
     use crate::examples::{self, plan_q, plan_q_as_one_cell, Expected};
+    use crate::paper::WALL;
 
     #[test]
     fn the_twelve_examples_are_listed_or_refused() {
@@ -232,6 +233,11 @@ mod tests {
         let mut plan = plan_q();
         let found = find(plan.lists(), 2, Stand::Point(0.5, 0.0));
         assert_eq!(found, Err(Refusal::Setting));
+        // A third cell on top of the second.
+        plan.corners.extend([1, 8, 2, 8, 2, 9]);
+        plan.cells.extend([4, 5, 6, WALL, WALL, WALL]);
+        let found = find(plan.lists(), 2, Stand::Point(0.5, 0.0));
+        assert_eq!(found, Err(Refusal::Overlap(1)));
         plan.doors.push(3);
         assert_eq!(check(plan.lists()), Err(Refusal::Door(1)));
         plan.cells[6..9].reverse();

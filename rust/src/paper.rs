@@ -4,12 +4,15 @@
 //! other: the lists become cells with corners and neighbours of their own, which
 //! the check turns into a table of opposite faces; the expansion keeps an
 //! explicit stack of lines still to be followed, and gives each other side of a
-//! cell its part of the whole cone; side values are 128 bits wide. Whether a line
-//! is in reach is asked of the one point of it that is nearest, wherever that is. A
-//! ceiling is held against the crossings of the whole listing, once it is made.
+//! cell its part of the whole cone; side values are 128 bits wide. Whether two cells
+//! overlap is asked of the part that they have in common, whose corners are fractions.
+//! Whether a line is in reach is asked of the one point of it that is nearest, wherever
+//! that is. A ceiling is held against the crossings of the whole listing, once it is
+//! made.
 
 mod file;
 mod morning;
+mod overlap;
 mod plan;
 mod printing;
 mod reach;

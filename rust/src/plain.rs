@@ -1,6 +1,7 @@
 //! The check, the finding, the listings and the door change once more, by the
 //! steps that the proved library takes, as one writes them in Rust without a
-//! proof in mind: 64 bits wide, and a pair of functions that call each other. Where a
+//! proof in mind: 64 bits wide, and a pair of functions that call each other. Cells are
+//! compared by their sides, and only those whose boxes meet, from west to east. Where a
 //! reach is stated, the lines out of it are told before any is followed, which is
 //! faster the more crossings there are. Where there is a ceiling, a listing is given up
 //! as soon as it is passed. What they cost is what the benchmarks hold the proved
@@ -58,6 +59,21 @@ struct View {
     reach: i64,
 }
 
+/// The box that a cell lies in.
+#[derive(Clone, Copy)]
+struct Extent {
+    low: [i32; 2],
+    high: [i32; 2],
+    cell: usize,
+}
+
+/// How many pairs of cells the check looks at, and how many of them have boxes that meet.
+#[derive(Clone, Copy, Debug, Default, PartialEq, Eq)]
+pub struct Pairs {
+    pub looked_at: usize,
+    pub meeting: usize,
+}
+
 /// Row count and crossings.
 #[derive(Clone, Copy, Debug, Default, PartialEq, Eq)]
 pub struct Counts {
@@ -87,6 +103,16 @@ pub fn check(lists: Lists<'_>) -> Result<Plan<'_>, Refusal> {
     let cut = Cut::new(lists)?;
     cut.check_counts()?;
     cut.draw().checked()
+}
+
+/// The pairs of cells that the check of an accepted plan compares.
+pub fn pairs(lists: Lists<'_>) -> Result<Pairs, Refusal> {
+    let mut pairs = Pairs::default();
+    check(lists)?.sweep(|_, _, meet| {
+        pairs.looked_at += 1;
+        pairs.meeting += usize::from(meet);
+    });
+    Ok(pairs)
 }
 
 fn is_outside(corner: [i32; 2]) -> bool {
@@ -288,6 +314,9 @@ impl Plan<'_> {
         if let Some(door) = (0..self.doors.len()).find(|&door| !self.door_is_right(door)) {
             return Err(Refusal::Door(door));
         }
+        if let Some(cell) = self.least_overlapping() {
+            return Err(Refusal::Overlap(cell));
+        }
         Ok(self)
     }
 
@@ -368,6 +397,65 @@ impl Plan<'_> {
                 !earlier.contains(&face) && !earlier.contains(back)
             }
         }
+    }
+
+    /// The least cell of any two that overlap.
+    fn least_overlapping(&self) -> Option<usize> {
+        let mut least = None;
+        self.sweep(|a, b, meet| {
+            let lower = a.min(b);
+            // A pair of higher cells does not matter any more.
+            if meet && least.is_none_or(|least| lower < least) && self.overlap(a, b) {
+                least = Some(lower);
+            }
+        });
+        least
+    }
+
+    /// Looks at every two cells whose boxes meet from west to east, and says whether they
+    /// meet from south to north too.
+    fn sweep(&self, mut look: impl FnMut(usize, usize, bool)) {
+        let mut extents: Vec<Extent> = (0..self.cell_count())
+            .map(|cell| self.extent(cell))
+            .collect();
+        extents.sort_unstable_by_key(|extent| extent.low);
+        for (at, one) in extents.iter().enumerate() {
+            let further = extents[at + 1..].iter();
+            for other in further.take_while(|other| other.low[0] < one.high[0]) {
+                let meet = one.low[1] < other.high[1] && other.low[1] < one.high[1];
+                look(one.cell, other.cell, meet);
+            }
+        }
+    }
+
+    fn extent(&self, cell: usize) -> Extent {
+        let (mut low, mut high) = ([i32::MAX; 2], [i32::MIN; 2]);
+        for &[start, _] in &self.faces[self.faces_of(cell)] {
+            let at = self.corners[usize::from(start)];
+            for axis in 0..2 {
+                low[axis] = low[axis].min(at[axis]);
+                high[axis] = high[axis].max(at[axis]);
+            }
+        }
+        Extent { low, high, cell }
+    }
+
+    /// Whether no side of either cell has all of the other on its line or right of it.
+    fn overlap(&self, a: usize, b: usize) -> bool {
+        let [a, b] = [a, b].map(|cell| &self.faces[self.faces_of(cell)]);
+        !self.is_beside(a, b) && !self.is_beside(b, a)
+    }
+
+    /// Whether some side of the one cell has all corners of the other on its line or right
+    /// of it.
+    fn is_beside(&self, one: &[[u16; 2]], other: &[[u16; 2]]) -> bool {
+        let mut from = self.corner(one[one.len() - 1][0]);
+        one.iter().any(|&[start, _]| {
+            let to = self.corner(start);
+            let side = std::mem::replace(&mut from, to);
+            let is_right = |&[at, _]: &[u16; 2]| side_value(side, to, self.corner(at)) <= 0;
+            other.iter().all(is_right)
+        })
     }
 
     fn millimetres(&self, stand: Stand) -> Result<Point, Refusal> {
@@ -758,7 +846,7 @@ mod tests {
 
     #[test]
     fn plain_replies_are_the_paper_programs() {
-        let (mut changed, mut on_side, mut far, mut passed) = (0, 0, 0, 0);
+        let (mut changed, mut on_side, mut far, mut passed, mut refused) = (0, 0, 0, 0, 0);
         for number in 0..4_000 {
             let case = generate::case(17, number);
             let (scene, lists) = (&case.scene, case.scene.plan.lists());
@@ -767,6 +855,7 @@ mod tests {
                 [corners, cells, doors, 0, 0]
             });
             assert_eq!(reply(checked), paper::check(lists), "{number}");
+            refused += usize::from(matches!(checked, Err(Refusal::Overlap(_))));
             let (setting, stand) = (scene.setting, scene.stand);
             let found = find(lists, setting, stand).map(|footing| match footing {
                 Footing::Inside { cell } => [cell as u64, 0, 0, 0, 0],
@@ -806,5 +895,6 @@ mod tests {
         assert!(on_side > 300, "only {on_side} stands on a side");
         assert!(far > 3_000, "only {far} rows out of reach");
         assert!(passed > 300, "only {passed} over a ceiling");
+        assert!(refused > 150, "only {refused} with cells that overlap");
     }
 }

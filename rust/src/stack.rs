@@ -1,9 +1,10 @@
 //! Every function of `include/manopluea.h` on the deepest floor known, in either
 //! kind, on those with the longest fans and the most splits and on the fullest
 //! plan, inside the cell that all is seen from and on its free side, with no reach
-//! stated and with the longest, which goes through every free line there, without a
-//! ceiling and up to one that is just kept to, with a stack of so many bytes. A stack
-//! that is too small ends the process.
+//! stated and no ceiling, and with the longest reach, which goes through every free line
+//! there, and a ceiling that is just kept to, with a stack of so many bytes; and those
+//! that check a plan on the longest lists, which are refused. A stack that is too small
+//! ends the process.
 
 use crate::calls::{Calls, DoorChange, Listing, Morning, Plan, Query, Reach, Stand, POINT, ROW};
 use crate::generate::{self, in_other_kind, query_record, spot_at, steps_between, Spot};
@@ -24,7 +25,26 @@ pub fn ask_every_function(bytes: usize) -> Result<(), String> {
     let (splits, spot) = generate::most_splits();
     ask_on("the most splits", &splits, spot, bytes)?;
     let (fullest, spot) = generate::fullest();
-    ask_on("the fullest plan", &fullest, spot, bytes)
+    ask_on("the fullest plan", &fullest, spot, bytes)?;
+    let (longest, _) = generate::longest_lists();
+    println!("on the longest lists:");
+    ask_for_files(&longest, bytes)
+}
+
+/// The check, the reader and the writer.
+fn ask_for_files(plan: &Plan, bytes: usize) -> Result<(), String> {
+    let lists = plan.lists();
+    let file = paper::encode(lists);
+    same("check", bytes, |calls| calls.check(lists))?;
+    same("read", bytes, |calls| {
+        let mut read = plan.clone();
+        let reply = calls.read(&file, &mut read.corners, &mut read.cells, &mut read.doors);
+        (reply, read)
+    })?;
+    same("write", bytes, |calls| {
+        let mut written = vec![0; file.len()];
+        (calls.write(lists, &mut written), written)
+    })
 }
 
 /// Of the spots strictly within the free sides of the cell that a stand is inside,
@@ -62,16 +82,7 @@ fn ask_on(name: &str, plan: &Plan, inside: Spot, bytes: usize) -> Result<(), Str
         table.truncate(ROW * reply.values[0] as usize);
         table
     };
-    same("check", bytes, |calls| calls.check(lists))?;
-    same("read", bytes, |calls| {
-        let mut read = plan.clone();
-        let reply = calls.read(&file, &mut read.corners, &mut read.cells, &mut read.doors);
-        (reply, read)
-    })?;
-    same("write", bytes, |calls| {
-        let mut written = vec![0; file.len()];
-        (calls.write(lists, &mut written), written)
-    })?;
+    ask_for_files(plan, bytes)?;
     let point = |at: Spot| {
         let [x, y] = at.map(|number| number as f64);
         Stand::Point(x, y)
@@ -94,47 +105,46 @@ fn ask_on(name: &str, plan: &Plan, inside: Spot, bytes: usize) -> Result<(), Str
             return Err("some free line is out of reach".to_string());
         }
         let [_, crossings, ..] = unlimited.values;
-        for reach in reaches {
-            for (setting, shut) in [(0, true), (1 << last, false)] {
-                let query = Query {
-                    setting,
-                    ..within(reach)
-                };
-                let given = rows(query);
-                let asked = DoorChange {
-                    query,
-                    given: &given,
-                    door: last,
-                    shut,
-                };
-                same("change", bytes, |calls| {
-                    let mut table = table();
-                    (calls.change(lists, asked, &mut table), table)
-                })?;
-            }
+        // Each is asked for once without all that could be added, and once with it.
+        for (reach, setting, ceiling) in [
+            (reaches[0], 0, None),
+            (reaches[1], 1 << last, Some(crossings)),
+        ] {
+            let query = Query {
+                setting,
+                ..within(reach)
+            };
+            let given = rows(query);
+            let asked = DoorChange {
+                query,
+                given: &given,
+                door: last,
+                shut: setting == 0,
+            };
+            same("change", bytes, |calls| {
+                let mut table = table();
+                (calls.change(lists, asked, &mut table), table)
+            })?;
+            let query = within(reach);
+            same("list", bytes, |calls| {
+                let mut table = table();
+                let listing = Listing { query, ceiling };
+                (calls.list(lists, listing, &mut table), table)
+            })?;
             // As many as there may be; one listing is as deep as many.
             let mut stands = [POINT, f64::NAN, f64::NAN].repeat(MOST_STANDS - 1);
             stands.extend(stand.numbers());
-            for ceiling in [None, Some(crossings)] {
-                let query = within(reach);
-                same("list", bytes, |calls| {
-                    let mut table = table();
-                    let listing = Listing { query, ceiling };
-                    (calls.list(lists, listing, &mut table), table)
-                })?;
-                let morning = Morning {
-                    setting: 0,
-                    reach,
-                    ceiling,
-                };
-                same("list_stands", bytes, |calls| {
-                    let mut table = table().repeat(MOST_STANDS);
-                    let mut replies = vec![0; stands.len()];
-                    let reply =
-                        calls.list_stands(lists, morning, &stands, &mut table, &mut replies);
-                    (reply, table, replies)
-                })?;
-            }
+            let morning = Morning {
+                setting: 0,
+                reach,
+                ceiling,
+            };
+            same("list_stands", bytes, |calls| {
+                let mut table = table().repeat(MOST_STANDS);
+                let mut replies = vec![0; stands.len()];
+                let reply = calls.list_stands(lists, morning, &stands, &mut table, &mut replies);
+                (reply, table, replies)
+            })?;
         }
         let input = [query_record(0, stand), file.clone()].concat();
         same("print", bytes, |calls| calls.print(&input))?;

@@ -13,20 +13,28 @@ use manopluea_compare::paper::{
     CELLS, CORNERS, DOORS, MOST_STANDS, REACHES, WALL,
 };
 
-/// The enum of the faults, the list of all of them, those in the expansion, and
-/// those in where a stand is found.
+/// The enum of the faults, the list of all of them, those in the expansion, those in
+/// where a stand is found, and those in which cells overlap.
 macro_rules! faults {
-    (expansion { $($slip:ident,)* } place { $($found:ident,)* } elsewhere { $($fault:ident,)* }) => {
+    (
+        expansion { $($slip:ident,)* }
+        place { $($found:ident,)* }
+        overlap { $($upon:ident,)* }
+        elsewhere { $($fault:ident,)* }
+    ) => {
         #[derive(Clone, Copy, Debug, PartialEq, Eq)]
         enum Fault {
             $($slip,)*
             $($found,)*
+            $($upon,)*
             $($fault,)*
         }
 
-        const ALL: &[Fault] = &[$(Fault::$slip,)* $(Fault::$found,)* $(Fault::$fault,)*];
+        const ALL: &[Fault] =
+            &[$(Fault::$slip,)* $(Fault::$found,)* $(Fault::$upon,)* $(Fault::$fault,)*];
         const IN_EXPANSION: &[Fault] = &[$(Fault::$slip,)*];
         const IN_PLACE: &[Fault] = &[$(Fault::$found,)*];
+        const IN_OVERLAP: &[Fault] = &[$(Fault::$upon,)*];
     };
 }
 
@@ -69,9 +77,29 @@ faults! {
         EndIsWithin,
         WholeLineIsWithin,
         HighestSideIsFound,
-        SideComesBeforeInside,
+    }
+    overlap {
+        CellsThatTouchOverlap,
+        StrangersThatTouchOverlap,
+        OnlySidesOfTheLowerCellAreTried,
+        OnlySidesOfTheHigherCellAreTried,
+        BoxesOverlapForCells,
+        OnlyCornersInsideAreSeen,
+        OnlyWholePointsAreSeen,
+        SameCornersAreTheSameCell,
+        OverlapIsOfDoubles,
+        OverlapIsOf32Bits,
+        FirstPairFoundIsNamed,
+        HigherCellIsNamed,
     }
     elsewhere {
+        // In the order of the refusals.
+        OverlapComesBeforeNeighbour,
+        OverlapComesBeforeDoor,
+        OverlapComesAfterSetting,
+        OverlapComesAfterRoom,
+        ReaderTakesOverlaps,
+        OverlapHasNoPlace,
         // In larger cells.
         StraightCornerIsAccepted,
         PentagramIsAccepted,
@@ -155,15 +183,12 @@ faults! {
         DoorOutOfReachLosesItsRow,
         ChangeComesBeforeRoom,
         DoorOfTheLineMayBeChanged,
-        OnlyTheDoorOfTheSideFoundIsRefused,
         DoorOfTheLineStaysAsItIs,
         RoomComesBeforeDoorOfTheLine,
         MissingDoorIsRefusedFromASide,
-        DoorOfALineIsRefusedFromInside,
         // In the stand and the finding.
         StandIsTruncated,
         OffsetHasNoBound,
-        HighestCellIsFound,
         LineIsOutside,
         StandOnASideIsRefused,
         SideIsNumberedAsItsFace,
@@ -210,7 +235,32 @@ impl Calls for Faulty {
                 return self.check_unframed(lists);
             }
             RefusalCarriesValues if reply.number != 0 => reply.values[0] = 1,
-            LineIsItsCorners if reply.number == 0 => return doors_by_corners(lists, reply),
+            LineIsItsCorners if [0, 17].contains(&reply.number) => {
+                return doors_by_corners(lists, reply);
+            }
+            slip if IN_OVERLAP.contains(&slip) && [0, 17].contains(&reply.number) => {
+                return check_overlap_by(slip, lists);
+            }
+            OverlapHasNoPlace if reply.number == 17 => reply.place = 0,
+            OverlapComesBeforeDoor if reply.number == 6 => {
+                let without_doors = Paper.check(Lists {
+                    doors: &[],
+                    ..lists
+                });
+                if without_doors.number == 17 {
+                    return without_doors;
+                }
+            }
+            OverlapComesBeforeNeighbour if reply.number == 5 => {
+                let walled = Paper.check(Lists {
+                    cells: &walled(lists),
+                    doors: &[],
+                    ..lists
+                });
+                if walled.number == 17 {
+                    return walled;
+                }
+            }
             _ => {}
         }
         reply
@@ -230,6 +280,11 @@ impl Calls for Faulty {
         let mut reply = Paper.read(file, corners, cells, doors);
         match self.0 {
             ReaderWritesBeforeRoom if reply.number == 11 => corners.fill(0),
+            ReaderTakesOverlaps if reply.number == 17 => {
+                if let Ok(plan) = paper::decode(file) {
+                    reply = Reply::done([plan.corners.len() as u64 / 2]);
+                }
+            }
             ReaderSaysTheOldKind if reply.number == 0 => reply.values[3] = TRIANGLES.into(),
             _ => {}
         }
@@ -257,6 +312,9 @@ impl Calls for Faulty {
         let [cell, on_side, side, ..] = reply.values;
         match self.0 {
             LineIsOutside if reply.number == 9 => return refused(10),
+            OverlapComesAfterSetting if reply.number == 17 && has_wrong_bit(lists, setting) => {
+                return refused(7);
+            }
             FindingTakesAnySetting if reply.number == 7 => return Paper.find(lists, 0, stand),
             StandComesBeforeSetting if reply.number == 7 => {
                 let open = Paper.find(lists, 0, stand);
@@ -265,7 +323,6 @@ impl Calls for Faulty {
                 }
             }
             _ if reply.number != 0 => {}
-            HighestCellIsFound if on_side == 0 => return highest_cell(lists, stand),
             CellIsItsFirstThreeCorners if on_side == 0 => return first_triangle(lists, stand),
             SideOfAStandInsideIsLeft if on_side == 0 => reply.values[2] = 1,
             StandOnASideIsRefused if on_side == 1 => return refused(9),
@@ -331,6 +388,7 @@ impl Calls for Faulty {
             RoomComesBeforeStand if [8, 9, 10, 15].contains(&reply.number) && is_short => {
                 return refused(11)
             }
+            OverlapComesAfterRoom if reply.number == 17 && is_short => return refused(11),
             ReachComesBeforeSetting if reply.number == 7 && is_wrong(query.reach) => {
                 return refused(15);
             }
@@ -568,11 +626,6 @@ impl Calls for Faulty {
             DoorOfTheLineMayBeChanged if doorway.is_some() => {
                 reply = change_from_a_side(lists, asked, table);
             }
-            OnlyTheDoorOfTheSideFoundIsRefused
-                if doorway.is_some_and(|doorway| !doorway.is_found) =>
-            {
-                reply = change_from_a_side(lists, asked, table);
-            }
             DoorOfTheLineStaysAsItIs
                 if doorway.is_some_and(|doorway| doorway.is_as_wished) && !is_short =>
             {
@@ -582,15 +635,6 @@ impl Calls for Faulty {
             MissingDoorIsRefusedFromASide if reply.number == 12 && door >= lists.doors.len() => {
                 let [_, on_side, ..] = Paper.find(lists, setting, stand).values;
                 if on_side == 1 {
-                    reply = refused(9);
-                }
-            }
-            DoorOfALineIsRefusedFromInside if [0, 11, 12, 13].contains(&reply.number) => {
-                let floor = Floor::check(lists).expect("it passed the check");
-                let q = millimetres(&floor, stand).expect("the stand was found");
-                let line = lists.doors.get(door);
-                if line.is_some_and(|&face| is_within(&floor, face, q)) {
-                    table.copy_from_slice(&before);
                     reply = refused(9);
                 }
             }
@@ -1019,7 +1063,6 @@ fn found_by(slip: Fault, lists: Lists<'_>, setting: u64, stand: Stand) -> Option
             faces.rfind(is_found)
         }
         (HighestSideIsFound, _) => None,
-        (SideComesBeforeInside, Ok(_)) => faces.find(is_found),
         _ if is_on_border => faces.find(is_found),
         _ => None,
     };
@@ -1044,8 +1087,6 @@ fn move_to_corners(lists: Lists<'_>, setting: u64, stands: &mut [f64]) {
 /// A door whose line the stand, which is on a side, is strictly within.
 #[derive(Clone, Copy)]
 struct Doorway {
-    /// It is the line of the side that is found.
-    is_found: bool,
     is_as_wished: bool,
 }
 
@@ -1053,11 +1094,7 @@ impl Doorway {
     fn of(lists: Lists<'_>, asked: DoorChange<'_>) -> Option<Doorway> {
         let floor = Floor::check(lists).ok()?;
         let view = View::new(&floor, asked.query).ok()?;
-        let Place::Within(face) = view.place() else {
-            return None;
-        };
         view.is_in_doorway(asked.door).then(|| Doorway {
-            is_found: floor.door_faces(asked.door).contains(&face),
             is_as_wished: (asked.query.setting >> asked.door & 1 == 1) == asked.shut,
         })
     }
@@ -1089,7 +1126,7 @@ fn change_from_a_side(lists: Lists<'_>, asked: DoorChange<'_>, table: &mut [u16]
 /// Refuses a door that has the same two corners as an earlier one, as two
 /// different lines of a ramp can have.
 fn doors_by_corners(lists: Lists<'_>, reply: Reply) -> Reply {
-    let floor = Floor::check(lists).expect("it passed the check");
+    let floor = Floor::agreeing(lists).expect("its cells agree along their lines");
     let ends = |face: u16| {
         let [a, b] = floor.ends(face);
         (a.min(b), a.max(b))
@@ -1106,18 +1143,179 @@ fn doors_by_corners(lists: Lists<'_>, reply: Reply) -> Reply {
     }
 }
 
-fn highest_cell(lists: Lists<'_>, stand: Stand) -> Reply {
-    // With the cells in reverse order and walls everywhere, the least cell is
-    // the highest.
+/// The list of cells with a wall in place of every neighbour.
+fn walled(lists: Lists<'_>) -> Vec<u16> {
     let (mut cells, _) = cut_cells(lists.kind, lists.cells);
-    cells.reverse();
     cells
         .iter_mut()
         .for_each(|cell| cell.neighbours.to_mut().fill(WALL));
     let numbers = cells.iter().flat_map(|cell| cell.numbers(lists.kind));
-    let mut reply = find_walled(lists, &numbers.collect::<Vec<u16>>(), lists.kind, stand);
-    reply.values[0] = cells.len() as u64 - 1 - reply.values[0];
-    reply
+    numbers.collect()
+}
+
+/// Whether a setting has a bit at or above the door count.
+fn has_wrong_bit(lists: Lists<'_>, setting: u64) -> bool {
+    let doors = lists.doors.len() as u32;
+    setting.checked_shr(doors).unwrap_or(0) != 0
+}
+
+/// A cell by what its corners are, and where.
+struct Outline {
+    corners: Vec<u16>,
+    spots: Vec<[i128; 2]>,
+    low: [i128; 2],
+    high: [i128; 2],
+}
+
+impl Outline {
+    fn of(floor: &Floor, cell: usize) -> Outline {
+        let corners: Vec<u16> = floor.faces(cell).map(|face| floor.ends(face)[0]).collect();
+        let spot = |&corner: &u16| {
+            let at = floor.corner(corner);
+            [at.x, at.y].map(i128::from)
+        };
+        let spots: Vec<[i128; 2]> = corners.iter().map(spot).collect();
+        let along = |axis: usize| spots.iter().map(move |at| at[axis]);
+        let low = [0, 1].map(|axis| along(axis).min().expect("a cell has corners"));
+        let high = [0, 1].map(|axis| along(axis).max().expect("a cell has corners"));
+        Outline {
+            corners,
+            spots,
+            low,
+            high,
+        }
+    }
+
+    /// The side value of each side with a spot, which has a sign alone.
+    fn values(&self, at: [i128; 2], slip: Fault) -> impl Iterator<Item = i128> + '_ {
+        let next = self.spots.iter().cycle().skip(1);
+        self.spots.iter().zip(next).map(move |(&a, &b)| {
+            let [way, to] = [b, at].map(|end| [end[0] - a[0], end[1] - a[1]]);
+            match slip {
+                OverlapIsOfDoubles => {
+                    let [way, to] = [way, to].map(|at| at.map(|n| n as f64));
+                    let value = way[0] * to[1] - way[1] * to[0];
+                    value.partial_cmp(&0.0).unwrap() as i128
+                }
+                OverlapIsOf32Bits => {
+                    let [way, to] = [way, to].map(|at| at.map(|n| n as i32));
+                    let value = way[0]
+                        .wrapping_mul(to[1])
+                        .wrapping_sub(way[1].wrapping_mul(to[0]));
+                    value.signum().into()
+                }
+                _ => cross(way, to).signum(),
+            }
+        })
+    }
+
+    /// Whether no side has all of another cell on its line or right of it; or, where
+    /// touching is too much, right of it.
+    fn has_no_side_between(&self, other: &Outline, touching: bool, slip: Fault) -> bool {
+        let most = if touching { -1 } else { 0 };
+        let mut between = vec![true; self.spots.len()];
+        for &at in &other.spots {
+            let values = self.values(at, slip);
+            between
+                .iter_mut()
+                .zip(values)
+                .for_each(|(between, value)| *between &= value <= most);
+        }
+        !between.contains(&true)
+    }
+
+    fn holds(&self, at: [i128; 2]) -> bool {
+        self.values(at, OnlyCornersInsideAreSeen)
+            .all(|value| value > 0)
+    }
+
+    /// The whole spots strictly inside both boxes; none where they are too many.
+    fn spots_in_both(&self, other: &Outline) -> Option<Vec<[i128; 2]>> {
+        let low = [0, 1].map(|axis| self.low[axis].max(other.low[axis]));
+        let high = [0, 1].map(|axis| self.high[axis].min(other.high[axis]));
+        let few = (high[0] - low[0]).max(0) * (high[1] - low[1]).max(0) < 3_000;
+        few.then(|| {
+            let columns = low[0] + 1..high[0];
+            columns
+                .flat_map(|x| (low[1] + 1..high[1]).map(move |y| [x, y]))
+                .collect()
+        })
+    }
+
+    /// Whether two cells, of which this is the lower, overlap where there is a slip.
+    fn overlaps(&self, other: &Outline, slip: Fault) -> bool {
+        let boxes = (0..2)
+            .all(|axis| self.low[axis] < other.high[axis] && other.low[axis] < self.high[axis]);
+        let shares = self
+            .corners
+            .iter()
+            .any(|corner| other.corners.contains(corner));
+        let touching = match slip {
+            CellsThatTouchOverlap => true,
+            StrangersThatTouchOverlap => !shares,
+            _ => false,
+        };
+        if !boxes && !touching {
+            return false;
+        }
+        let lower = || self.has_no_side_between(other, touching, slip);
+        let higher = || other.has_no_side_between(self, touching, slip);
+        match slip {
+            OnlySidesOfTheLowerCellAreTried => lower(),
+            OnlySidesOfTheHigherCellAreTried => higher(),
+            BoxesOverlapForCells => true,
+            OnlyCornersInsideAreSeen => {
+                self.spots.iter().any(|&at| other.holds(at))
+                    || other.spots.iter().any(|&at| self.holds(at))
+            }
+            OnlyWholePointsAreSeen => match self.spots_in_both(other) {
+                Some(spots) => spots
+                    .into_iter()
+                    .any(|at| self.holds(at) && other.holds(at)),
+                None => lower() && higher(),
+            },
+            SameCornersAreTheSameCell if self.corners.len() == other.corners.len() => {
+                let same = |corner| other.corners.contains(corner);
+                !self.corners.iter().all(same) && lower() && higher()
+            }
+            _ => lower() && higher(),
+        }
+    }
+}
+
+/// The check of a plan whose cells agree along their lines, with a slip in which of them
+/// overlap.
+fn check_overlap_by(slip: Fault, lists: Lists<'_>) -> Reply {
+    let floor = Floor::agreeing(lists).expect("its cells agree along their lines");
+    let cells: Vec<Outline> = (0..floor.cell_count())
+        .map(|cell| Outline::of(&floor, cell))
+        .collect();
+    let higher = |cell: usize| {
+        let mut others = cell + 1..cells.len();
+        others.find(|&other| cells[cell].overlaps(&cells[other], slip))
+    };
+    let named = match slip {
+        FirstPairFoundIsNamed => {
+            // From west to east.
+            let mut order: Vec<usize> = (0..cells.len()).collect();
+            order.sort_by_key(|&cell| cells[cell].low);
+            let mut pairs = order.iter().enumerate().flat_map(|(at, &one)| {
+                let others = order[at + 1..].iter();
+                others.map(move |&other| (one.min(other), one.max(other)))
+            });
+            let found = pairs.find(|&(one, other)| cells[one].overlaps(&cells[other], slip));
+            found.map(|(lower, _)| lower)
+        }
+        HigherCellIsNamed => (0..cells.len()).find_map(higher),
+        _ => (0..cells.len()).find(|&cell| higher(cell).is_some()),
+    };
+    match named {
+        Some(cell) => Reply::refused(17, cell as u32),
+        None => {
+            let counts = [floor.corners().len(), cells.len(), floor.doors().len()];
+            Reply::done(counts.map(|count| count as u64))
+        }
+    }
 }
 
 fn joined(table: &[u16], count: usize) -> Vec<Row> {
@@ -1448,8 +1646,12 @@ fn a_mismatch_is_made_small() {
         LineEndsBecomeLimits,
         OldListIsCopied,
         LineStoodOnIsCrossed,
-        SideComesBeforeInside,
         DoorOfTheLineMayBeChanged,
+        CellsThatTouchOverlap,
+        OnlySidesOfTheLowerCellAreTried,
+        OnlyCornersInsideAreSeen,
+        OnlyWholePointsAreSeen,
+        FirstPairFoundIsNamed,
         InfiniteLineIsInReach,
         SeenPartIsInReach,
         ReachIsExclusive,
@@ -1489,7 +1691,8 @@ fn a_morning_is_made_small() {
         match mismatch(fault).trial {
             Trial::Lists(scene, Asked::ListStands { .. } | Asked::EitherKind { .. }) => {
                 assert_eq!(scene.stands.len(), 3 * stands, "{fault:?}: {scene:?}");
-                assert!(scene.plan.cells.len() <= 6 * 2, "{fault:?}: {scene:?}");
+                // Two cells for each of two stands: they do not overlap.
+                assert!(scene.plan.cells.len() <= 6 * 4, "{fault:?}: {scene:?}");
             }
             trial => panic!("{fault:?} is found by {trial}"),
         }

@@ -51,15 +51,21 @@ fn the_limits() {
     assert_eq!(defined("MOST_REACH"), *REACHES.end() as i64);
 }
 
-/// The fullest plan is accepted, and no list of it could be longer.
+/// No list could be longer, and only because its cells overlap is the plan refused.
 #[test]
 fn the_largest_file() {
-    let (fullest, _) = generate::fullest();
-    let [corners, cells, doors] = [CORNERS, CELLS, DOORS].map(|counts| *counts.end() as u64);
-    let counts = paper::check(fullest.lists());
-    assert_eq!(counts.values, [corners, cells, doors, 0, 0]);
-    assert_eq!(fullest.cells.len(), (1 + 2 * SIDES.end()) * CELLS.end());
-    let most = encode(fullest.lists()).len() as i64;
+    let (longest, _) = generate::longest_lists();
+    let floor = Floor::agreeing(longest.lists()).expect("its cells agree along their lines");
+    let counts = [
+        floor.corners().len(),
+        floor.cell_count(),
+        floor.doors().len(),
+    ];
+    assert_eq!(counts, [CORNERS, CELLS, DOORS].map(|counts| *counts.end()));
+    assert_eq!(longest.cells.len(), (1 + 2 * SIDES.end()) * CELLS.end());
+    let refused = paper::check(longest.lists());
+    assert_eq!(refused, Refusal::Overlap(0).reply());
+    let most = encode(longest.lists()).len() as i64;
     assert_eq!(defined("MOST_FILE"), most);
 }
 
@@ -92,6 +98,7 @@ fn the_reply_numbers() {
         Refusal::Change,
         Refusal::Rows,
         Refusal::Reach,
+        Refusal::Overlap(0),
         Refusal::Ceiling,
     ];
     let expected = refusals.map(|refusal| {

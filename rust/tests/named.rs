@@ -10,7 +10,7 @@ use manopluea_compare::examples::{
     all, hall, one_cell, plan_q, plan_q_as_one_cell, polygons, row_of_cells, widest, Example,
 };
 use manopluea_compare::generate::{
-    fullest, in_other_kind, longest_fans, most_splits, query_record,
+    fullest, in_other_kind, largest, longest_fans, longest_lists, most_splits, query_record, Dice,
 };
 use manopluea_compare::paper::{cut_cells, encode, WALL};
 
@@ -227,8 +227,11 @@ fn counts_at_each_limit_and_beyond() {
     let reply = |corners, cells| check(&stack(corners, cells));
     assert_eq!(reply(3, 1), Reply::done([3, 1, 0]));
     assert_eq!(reply(2_048, 1), Reply::done([2_048, 1, 0]));
-    assert_eq!(reply(3, 3_000), Reply::done([3, 3_000, 0]));
-    assert_eq!(reply(2_048, 3_000), Reply::done([2_048, 3_000, 0]));
+    let largest = check(&largest(0, &mut Dice::new(1)).plan(&[]));
+    assert_eq!(largest, Reply::done([2_048, 3_000, 0]));
+    // Of so many, but all in the same place.
+    assert_eq!(reply(3, 3_000), Reply::refused(17, 0));
+    assert_eq!(reply(2_048, 3_000), Reply::refused(17, 0));
     for (corners, cells) in [
         (0, 1),
         (2, 1),
@@ -617,13 +620,12 @@ fn stands_on_corners_and_lines_and_beside_them() {
     }
 }
 
+/// Wherever the stand is.
 #[test]
-fn the_least_of_cells_on_top_of_each_other() {
-    assert_eq!(
-        find(&stack(3, 5), Stand::Point(2.0, 2.0)),
-        Reply::done([0, 0, 0])
-    );
-    // A cell elsewhere, one that has the stand on its border, then two that hold it.
+fn no_cell_is_found_where_some_overlap() {
+    let five = find(&stack(3, 5), Stand::Point(2.0, 2.0));
+    assert_eq!(five, Reply::refused(17, 0));
+    // A cell elsewhere, one that has (2, 2) on its border, then two that hold it.
     let plan = Plan {
         corners: vec![90, 90, 99, 90, 90, 99, 2, 0, 9, 2, 2, 9, 0, 0, 9, 0, 0, 9],
         cells: [[0, 1, 2], [3, 4, 5], [6, 7, 8], [6, 7, 8]]
@@ -633,9 +635,10 @@ fn the_least_of_cells_on_top_of_each_other() {
         doors: vec![],
         kind: TRIANGLES,
     };
-    assert_eq!(find(&plan, Stand::Point(2.0, 2.0)), Reply::done([2, 0, 0]));
-    assert_eq!(find(&plan, Stand::Point(0.0, 0.0)), Reply::refused(9, 0));
-    assert_eq!(find(&plan, Stand::Point(50.0, 50.0)), Reply::refused(10, 0));
+    for at in [[2.0, 2.0], [0.0, 0.0], [50.0, 50.0], [92.0, 92.0]] {
+        let found = find(&plan, Stand::Point(at[0], at[1]));
+        assert_eq!(found, Reply::refused(17, 1), "{at:?}");
+    }
 }
 
 #[test]
@@ -1576,18 +1579,41 @@ fn larger_cells_with_every_byte_changed() {
 fn the_fullest_plan() {
     let (plan, [x, y]) = fullest();
     assert_eq!(check(&plan), Reply::done([2_048, 3_000, 64]));
-    assert_eq!(plan.cells.len(), 17 * 3_000);
+    // 906 cells of four corners, 2,094 of three.
+    assert_eq!(plan.cells.len(), 9 * 906 + 7 * 2_094);
     let stand = Stand::Point(x as f64, y as f64);
     assert_eq!(find(&plan, stand), Reply::done([0]));
-    let open = rows(&plan, 0, stand);
-    assert_eq!(toggle(&plan, 0, stand, 0).len(), ROW * 8);
-    assert_eq!(toggle(&plan, 0, stand, 63), open);
+    for door in [0, 1, 62, 63] {
+        toggle(&plan, 0, stand, door);
+    }
     let file = encode(plan.lists());
     assert_eq!(write(&plan, file.len() - 1).0, Reply::refused(11, 0));
     assert_eq!(
-        read(&file, [4_096, 17 * 3_000 - 1, 64]).0,
+        read(&file, [4_096, plan.cells.len() - 1, 64]).0,
         Reply::refused(11, 0)
     );
+    // One cell more.
+    let mut longer = plan;
+    longer.cells.extend_from_within(..9);
+    assert_eq!(check(&longer), Reply::refused(2, 0));
+    longer.cells.push(3);
+    assert_eq!(check(&longer), Reply::refused(1, 0));
+}
+
+/// No list could be longer. Its cells overlap, which is found before room is asked for.
+#[test]
+fn the_longest_lists() {
+    let (plan, [x, y]) = longest_lists();
+    assert_eq!(check(&plan), Reply::refused(17, 0));
+    assert_eq!(plan.cells.len(), 17 * 3_000);
+    let stand = Stand::Point(x as f64, y as f64);
+    assert_eq!(find(&plan, stand), Reply::refused(17, 0));
+    let file = encode(plan.lists());
+    assert_eq!(write(&plan, file.len() - 1).0, Reply::refused(17, 0));
+    assert_eq!(write(&plan, file.len()).0, Reply::refused(17, 0));
+    for room in [[4_096, 17 * 3_000 - 1, 64], [4_096, 17 * 3_000, 64]] {
+        assert_eq!(read(&file, room).0, Reply::refused(17, 0));
+    }
     // It is too long for the printing program.
     let input = [query_record(0, stand), file].concat();
     assert_eq!(both(|calls| calls.print(&input)), b"refused 2 0\n");
@@ -1604,10 +1630,10 @@ fn the_fullest_plan() {
 #[test]
 fn the_longest_fans() {
     let (plan, [x, y]) = longest_fans();
-    assert_eq!(check(&plan), Reply::done([2_047, 2_040, 64]));
+    assert_eq!(check(&plan), Reply::done([2_046, 584, 64]));
     let stand = Stand::Point(x as f64, y as f64);
-    let (reply, _) = list(&plan, 0, stand, 4 * 2_047);
-    assert_eq!((reply.number, reply.values[1]), (0, 2_039));
+    let (reply, _) = list(&plan, 0, stand, 4 * 2_046);
+    assert_eq!((reply.number, reply.values[1]), (0, 583));
     for door in [0, 1, 62, 63] {
         toggle(&plan, 0, stand, door);
     }
@@ -1618,12 +1644,12 @@ fn the_longest_fans() {
 #[test]
 fn the_most_splits() {
     let (plan, [x, y]) = most_splits();
-    assert_eq!(check(&plan), Reply::done([2_048, 2_400, 64]));
+    assert_eq!(check(&plan), Reply::done([2_048, 2_726, 64]));
     let stand = Stand::Point(x as f64, y as f64);
     let (reply, _) = list(&plan, 0, stand, 4 * 2_048);
     assert_eq!(
         (reply.number, reply.values[..2].to_vec()),
-        (0, vec![2_040, 2_037])
+        (0, vec![2_047, 2_044])
     );
     for door in [0, 1, 62, 63] {
         toggle(&plan, 0, stand, door);
@@ -1634,7 +1660,9 @@ fn the_most_splits() {
 fn counts_at_each_limit_in_larger_cells() {
     let reply = |corners, cells| check(&other_kind(&stack(corners, cells)));
     assert_eq!(reply(3, 1), Reply::done([3, 1, 0]));
-    assert_eq!(reply(2_048, 3_000), Reply::done([2_048, 3_000, 0]));
+    let largest = largest(0, &mut Dice::new(1)).plan(&[]);
+    assert_eq!(check(&other_kind(&largest)), Reply::done([2_048, 3_000, 0]));
+    assert_eq!(reply(2_048, 3_000), Reply::refused(17, 0));
     for (corners, cells) in [(2, 1), (2_049, 1), (3, 0), (3, 3_001), (20_000, 9_000)] {
         let reply = reply(corners, cells);
         assert_eq!(reply, Reply::refused(2, 0), "{corners}, {cells}");
@@ -2003,69 +2031,47 @@ fn plan_q_below(spots: [[i32; 2]; 3]) -> Plan {
     plan
 }
 
-/// A cell on top that holds the stand strictly inside wins, whatever its number;
-/// one that has it on its border does not.
+/// A cell that holds the stand strictly inside, on its wall or on its corner overlaps
+/// those at the doorway.
 #[test]
 fn a_cell_on_top_of_a_doorway() {
-    let plan = plan_q_below([[-5, -5], [20, -5], [-5, 20]]);
-    let seen = in_reach(&[[6, 4, 5], [7, 5, 6], [8, 6, 4]]);
-    for setting in [0, 1] {
-        let found = find_under(&plan, setting, IN_DOORWAY);
-        assert_eq!(found, Reply::done([2, 0, 0]));
-        let (reply, table) = list(&plan, setting, IN_DOORWAY, 28);
-        assert_eq!((reply, &table[..12]), (Reply::done([3, 0]), &seen[..]));
-        // The door's line holds the stand, and it is changed all the same.
-        assert_eq!(toggle(&plan, setting, IN_DOORWAY, 0), seen);
-        let asked = DoorChange {
-            query: Query::without_reach(setting, IN_DOORWAY),
-            given: &seen,
-            door: 0,
-            shut: setting == 1,
-        };
-        assert_eq!(change_in(&plan, asked, 28), 12);
-        assert_eq!(change_in(&plan, asked, 27), 11);
-    }
-    // (8, 8) is outside of it, and on the side of plan Q.
-    assert_eq!(find(&plan, Stand::Point(8.0, 8.0)), Reply::done([0, 1, 2]));
-    // The stand on its wall, and on its corner.
-    for spots in [[[5, 0], [20, 5], [5, 20]], [[5, 5], [20, 5], [5, 20]]] {
+    for spots in [
+        [[-5, -5], [20, -5], [-5, 20]],
+        [[5, 0], [20, 5], [5, 20]],
+        [[5, 5], [20, 5], [5, 20]],
+    ] {
         let plan = plan_q_below(spots);
-        assert_eq!(find(&plan, IN_DOORWAY), Reply::done([0, 1, 2]), "{spots:?}");
-        let shut = find_under(&plan, 1, IN_DOORWAY);
-        assert_eq!(shut, Reply::refused(9, 0), "{spots:?}");
+        for setting in [0, 1] {
+            let found = find_under(&plan, setting, IN_DOORWAY);
+            assert_eq!(found, Reply::refused(17, 0), "{spots:?}");
+            let (reply, _) = list(&plan, setting, IN_DOORWAY, 28);
+            assert_eq!(reply, Reply::refused(17, 0), "{spots:?}");
+            let asked = DoorChange {
+                query: Query::without_reach(setting, IN_DOORWAY),
+                given: &SEEN,
+                door: 0,
+                shut: setting == 0,
+            };
+            assert_eq!(change_in(&plan, asked, 27), 17, "{spots:?}");
+        }
     }
 }
 
-/// Plan Q twice in the same place: the least free side is found, and no door is
-/// changed whose line holds the stand, whichever of the two it is on.
+/// Plan Q twice in the same place: two lines between the same corners.
 #[test]
 fn doorways_on_top_of_each_other() {
     let mut plan = plan_q();
     plan.cells
         .extend([0, 1, 2, WALL, WALL, 3, 0, 2, 3, 2, WALL, WALL]);
     plan.doors = vec![2, 9];
-    assert_eq!(check(&plan), Reply::done([4, 4, 2]));
-    let first = SEEN.to_vec();
-    let second = in_reach(&[[6, 0, 1], [7, 1, 2], [10, 2, 3], [11, 3, 0]]);
-    for (setting, cell, seen) in [(0, 0, &first), (1, 2, &second), (2, 0, &first)] {
+    assert_eq!(check(&plan), Reply::refused(17, 0));
+    for setting in 0..5 {
         let found = find_under(&plan, setting, IN_DOORWAY);
-        assert_eq!(found, Reply::done([cell, 1, 2]), "{setting}");
-        let listed = list(&plan, setting, IN_DOORWAY, 16);
-        assert_eq!(listed, (Reply::done([4, 0]), seen.clone()), "{setting}");
-        for door in [0, 1] {
-            for shut in [false, true] {
-                let asked = DoorChange {
-                    query: Query::without_reach(setting, IN_DOORWAY),
-                    given: seen,
-                    door,
-                    shut,
-                };
-                assert_eq!(change_in(&plan, asked, 16), 9, "{setting}, {door}");
-            }
-        }
+        assert_eq!(found, Reply::refused(17, 0), "{setting}");
     }
-    let shut = find_under(&plan, 3, IN_DOORWAY);
-    assert_eq!(shut, Reply::refused(9, 0));
+    // They are two lines: a third door on one of them is wrong.
+    plan.doors.push(3);
+    assert_eq!(check(&plan), Reply::refused(6, 2));
 }
 
 #[test]

@@ -12,11 +12,11 @@ use Rattle.exact.proofs.Truth.{both-true}
 use Rattle.limits.specs.Limits.{most-corners, most-doors, sized}
 use Rattle.cells.specs.Lists.{Cells, corner-count, cell-count, face-count}
 use Rattle.cells.specs.Cut.{cut, is-whole, cells-of}
-use Rattle.cells.specs.Check.{framed, wrong-door, refuse-if, checked-cells, checked, first-wrong-corner, first-wrong-cell, first-wrong-face, first-wrong-door}
+use Rattle.cells.specs.Check.{framed, wrong-door, in-a-pair, refuse-if, checked-cells, checked, first-wrong-corner, first-wrong-cell, first-wrong-face, first-wrong-door, first-overlapping}
 use Rattle.cells.specs.Sound.{Numbered, Sound}
 use Rattle.limits.specs.declared.Plan.{Plan}
 use Rattle.limits.specs.declared.Refusal.{Refusal}
-use Rattle.limits.specs.declared.Refusal.the-variants.{Frame, Size, Corner, Cell, Neighbour, Door}
+use Rattle.limits.specs.declared.Refusal.the-variants.{Frame, Size, Corner, Cell, Neighbour, Door, Overlap}
 use Rattle.limits.specs.declared.Checked.{Checked}
 use Rattle.limits.specs.declared.Checked.the-variants.{Accepted, Refused}
 use Rattle.cells.proofs.Least.{none-holds}
@@ -44,7 +44,8 @@ accepted-cells-are-sound cs {T} ds p even numbered e =
     let t₃ = passed (ltb (first-wrong-corner cs) (corner-count cs)) (Corner (first-wrong-corner cs)) _ (t₂ .1) in
     let t₄ = passed (ltb (first-wrong-cell cs T) (cell-count T)) (Cell (first-wrong-cell cs T)) _ (t₃ .1) in
     let t₅ = passed (ltb (first-wrong-face T) (face-count T)) (Neighbour (first-wrong-face T)) _ (t₄ .1) in
-    let t₆ = passed (ltb (first-wrong-door T ds) (length ds)) (Door (first-wrong-door T ds)) _ (t₅ .1) in (
+    let t₆ = passed (ltb (first-wrong-door T ds) (length ds)) (Door (first-wrong-door T ds)) _ (t₅ .1) in
+    let t₇ = passed (ltb (first-overlapping cs T) (cell-count T)) (Overlap (first-overlapping cs T)) _ (t₆ .1) in (
       record {
         whole-corners = even;
         numbered = numbered;
@@ -53,8 +54,9 @@ accepted-cells-are-sound cs {T} ds p even numbered e =
         cells = cells-right cs T (ltb-false _ _ (t₄ .0));
         neighbours = neighbours-right T (ltb-false _ _ (t₅ .0));
         doors = none-holds (wrong-door T ds) (length ds) (ltb-false _ _ (t₆ .0));
+        apart = none-holds (in-a-pair cs T) (cell-count T) (ltb-false _ _ (t₇ .0));
       },
-      sym (same (t₆ .1)),
+      sym (same (t₇ .1)),
     )
   where
     same : {q : Plan} → Accepted q ≡ Accepted p → q ≡ p

@@ -15,9 +15,9 @@ use Rattle.exact.proofs.Truth.{neither-true}
 use Rattle.limits.specs.Limits.{sized, coordinate-limit}
 use Rattle.cells.specs.Lists.{Cells, corner-count, cell-count, face-count, corner-at}
 use Rattle.cells.specs.Cut.{cells-of}
-use Rattle.cells.specs.Check.{framed, outside, wrong-corner, checked-cells, checked, first-wrong-corner, first-wrong-cell, first-wrong-face, first-wrong-door}
+use Rattle.cells.specs.Check.{framed, outside, wrong-corner, checked-cells, checked, first-wrong-corner, first-wrong-cell, first-wrong-face, first-wrong-door, first-overlapping}
 use Rattle.cells.specs.Sound.{CornersNear, CellsRight, NeighboursRight}
-use Rattle.limits.specs.declared.Refusal.the-variants.{Frame, Size, Corner, Cell, Neighbour, Door}
+use Rattle.limits.specs.declared.Refusal.the-variants.{Frame, Size, Corner, Cell, Neighbour, Door, Overlap}
 use Rattle.limits.specs.declared.Checked.the-variants.{Accepted, Refused}
 use Rattle.cells.proofs.Least.{none-holds}
 
@@ -102,7 +102,14 @@ module _ (cs : List ℤ) (T : Cells) (ds : List ℕ) where
               let k : first-wrong-door T ds < length ds = rw e at h in
               simp (in-size, le-ltb _ _ corners, le-ltb _ _ cells, le-ltb _ _ faces, lt-ltb _ _ k, e)
 
-          pub accepted : length ds ≤ first-wrong-door T ds → Accepted (record { corners = corner-count cs; cells = cell-count T; doors = length ds }) ≡ checked-cells cs T ds
-          unfolding checked-cells
-          accepted h =
-              simp (in-size, le-ltb _ _ corners, le-ltb _ _ cells, le-ltb _ _ faces, le-ltb _ _ h)
+          module _ (doors : length ds ≤ first-wrong-door T ds) where
+            pub at-an-overlap : {i : ℕ} → i ≡ first-overlapping cs T → i < cell-count T → Refused (Overlap i) ≡ checked-cells cs T ds
+            unfolding checked-cells
+            at-an-overlap {i} e h =
+                let k : first-overlapping cs T < cell-count T = rw e at h in
+                simp (in-size, le-ltb _ _ corners, le-ltb _ _ cells, le-ltb _ _ faces, le-ltb _ _ doors, lt-ltb _ _ k, e)
+
+            pub accepted : cell-count T ≤ first-overlapping cs T → Accepted (record { corners = corner-count cs; cells = cell-count T; doors = length ds }) ≡ checked-cells cs T ds
+            unfolding checked-cells
+            accepted h =
+                simp (in-size, le-ltb _ _ corners, le-ltb _ _ cells, le-ltb _ _ faces, le-ltb _ _ doors, le-ltb _ _ h)

@@ -3,14 +3,14 @@
 use mathlib.Core.List.{List, [], _∷_}
 use mathlib.Core.Logic.{_⊎_, inl, inr}
 use mathlib.Core.Path.{_≡_, sym, subst}
-use Prim.Native.Nat.{ℕ, zero, suc, _<_}
+use Prim.Native.Nat.{ℕ, _<_}
 use native.Mathlib.Decide.{ℕ-discrete}
-use native.Mathlib.Omega.{arith}
-use lib.IntN.{ℤ, pos, negℤ, _+ℤ_, _*ℤ_}
+use lib.IntN.{ℤ, negℤ, _+ℤ_, _*ℤ_}
 use lib.Signed.{_<ℤ_, clashℤ}
 use Rattle.exact.proofs.Order.{𝟘, trichotomy, less-is-at-most}
+use Rattle.exact.proofs.Outweigh.{Outweighs, outweighs}
 use Rattle.exact.proofs.Solver.{Expr, solve, _⊕_, _⊗_}
-use Rattle.exact.proofs.Solver.Expr.{var, lit, neg}
+use Rattle.exact.proofs.Solver.Expr.{var, neg}
 use Rattle.exact.proofs.Certificate.{prove, _≺_, _≈_, _⊞_, _⊠_}
 use Rattle.exact.proofs.Certificate.Cert.{given, square, number, by, one-less}
 use Rattle.exact.proofs.Certificate.Proof.{only}
@@ -74,44 +74,6 @@ left-of-both u v h k = by-side (trichotomy (cross u v) 𝟘) (trichotomy (dot u 
         })
 
 -- ---- a step that is short enough
-
--- one n outweighs every value before the k-th
-record Outweighs (value : ℕ → ℤ) (k : ℕ) : Type 0 where
-  n : ℤ
-  positive : 𝟘 <ℤ n
-  each : (e : ℕ) → e < k → 𝟘 <ℤ (n +ℤ value e)
-
-module _ (value : ℕ → ℤ) where
-  -- a square and one more outweigh the next
-  one-more : (k : ℕ) → Outweighs value k → Outweighs value (suc k)
-  one-more k before =
-      record {
-        n = before .n +ℤ (pos 1 +ℤ t *ℤ t);
-        positive = prove (before .n ∷ t ∷ []) ((𝟘ᵉ ≺ var 0) ∷ []) (𝟘ᵉ ≺ more) (only (given 0 ⊞ given 1 ⊞ number 0 ⊞ square (var 1))) tt (before .positive);
-        each = λ e h. by-place e h (ℕ-discrete e k);
-      }
-    where
-      t : ℤ
-      t = value k
-
-      more : Expr
-      more = var 0 ⊕ (lit (pos 1) ⊕ var 1 ⊗ var 1)
-
-      by-place : (e : ℕ) → e < suc k → Dec (e ≡ k) → 𝟘 <ℤ (before .n +ℤ (pos 1 +ℤ t *ℤ t) +ℤ value e)
-      by-place e h (yes p) =
-          subst (λ (i : ℕ). 𝟘 <ℤ (before .n +ℤ (pos 1 +ℤ t *ℤ t) +ℤ value i)) (sym p)
-          (prove (before .n ∷ t ∷ []) ((𝟘ᵉ ≺ var 0) ∷ []) (𝟘ᵉ ≺ more ⊕ var 1) (only (number 1 ⊠ given 0 ⊞ number 1 ⊠ given 1 ⊞ square (var 1) ⊞ square (var 1 ⊕ lit (pos 1)) ⊞ number 0)) tt (before .positive))
-      by-place e h (no p) =
-          prove (before .n ∷ t ∷ value e ∷ []) ((𝟘ᵉ ≺ var 0 ⊕ var 2) ∷ []) (𝟘ᵉ ≺ more ⊕ var 2) (only (given 0 ⊞ given 1 ⊞ number 0 ⊞ square (var 1))) tt (before .each e (omega arith))
-
-  outweighs : (k : ℕ) → Outweighs value k
-  outweighs zero =
-      record {
-        n = pos 1;
-        positive = prove [] [] (𝟘ᵉ ≺ lit (pos 1)) (only (given 0 ⊞ number 0)) tt;
-        each = λ e h. absurd (omega arith);
-      }
-  outweighs (suc k) = one-more k (outweighs k)
 
 -- n times q, and d from there
 abbrev stepped : ℤ → Point → Point → Point

@@ -1,4 +1,4 @@
--- The plan check (document 01, "Side value and plan check"; document 02, A14): the lowest number that applies, at its least place.
+-- The plan check (document 01, "Side value and plan check"; document 02, A14 and A7): the lowest number that applies, at its least place.
 use mathlib.Core.Bool.{Bool, true, false, not, _&&_, _||_}
 use mathlib.Core.List.{List}
 use Prim.Native.Nat.{ℕ, suc, _%_}
@@ -12,7 +12,7 @@ use Rattle.cells.specs.Least.{least}
 use Rattle.cells.specs.Lists.{Cells, corner-count, corner-at, cell-count, face-count, first, side-count, next, start, neighbour, back}
 use Rattle.cells.specs.Cut.{cut, is-whole, cells-of}
 use Rattle.limits.specs.declared.Refusal.{Refusal}
-use Rattle.limits.specs.declared.Refusal.the-variants.{Frame, Size, Corner, Cell, Neighbour, Door}
+use Rattle.limits.specs.declared.Refusal.the-variants.{Frame, Size, Corner, Cell, Neighbour, Door, Overlap}
 use Rattle.limits.specs.declared.Checked.{Checked}
 use Rattle.limits.specs.declared.Checked.the-variants.{Accepted, Refused}
 
@@ -66,7 +66,24 @@ wrong-door T ds i =
     && not (eqb (neighbour T (getD ds i 0)) wall)
     && eqb (least (names ds (getD ds i 0) (back T (getD ds i 0))) i 0) i)
 
--- the least wrong corner, cell, face and door, or the count where none is wrong
+-- the corner at which face g starts is strictly left of face f
+unfoldable pub strictly-left : List ℤ → Cells → ℕ → ℕ → Bool
+strictly-left cs T f g =
+    ltZ (pos 0) (side (corner-at cs (start T f)) (corner-at cs (start T (next T f))) (corner-at cs (start T g)))
+
+-- face f has every corner of cell e on its line or right of it
+unfoldable pub separates : List ℤ → Cells → ℕ → ℕ → Bool
+separates cs T e f = not (some-face T e (strictly-left cs T f))
+
+-- two cells overlap when no side of either separates them: exactly if some point lies strictly inside both (`Overlap`; A7)
+unfoldable pub overlapping : List ℤ → Cells → ℕ → ℕ → Bool
+overlapping cs T c e = not (eqb c e) && not (some-face T c (separates cs T e)) && not (some-face T e (separates cs T c))
+
+-- cell c is in some overlapping pair
+unfoldable pub in-a-pair : List ℤ → Cells → ℕ → Bool
+in-a-pair cs T c = ltb (least (overlapping cs T c) (cell-count T) 0) (cell-count T)
+
+-- the least wrong corner, cell, face and door, and the least cell of any overlapping pair, or the count where none is wrong
 abbrev pub first-wrong-corner : List ℤ → ℕ
 first-wrong-corner cs = least (wrong-corner cs) (corner-count cs) 0
 
@@ -78,6 +95,9 @@ first-wrong-face T = least (wrong-neighbour T) (face-count T) 0
 
 abbrev pub first-wrong-door : Cells → List ℕ → ℕ
 first-wrong-door T ds = least (wrong-door T ds) (length ds) 0
+
+abbrev pub first-overlapping : List ℤ → Cells → ℕ
+first-overlapping cs T = least (in-a-pair cs T) (cell-count T) 0
 
 -- refused where the test holds; else what follows is asked
 abbrev pub refuse-if : Bool → Refusal → Checked → Checked
@@ -92,7 +112,8 @@ checked-cells cs T ds =
     (refuse-if (ltb (first-wrong-cell cs T) (cell-count T)) (Cell (first-wrong-cell cs T))
     (refuse-if (ltb (first-wrong-face T) (face-count T)) (Neighbour (first-wrong-face T))
     (refuse-if (ltb (first-wrong-door T ds) (length ds)) (Door (first-wrong-door T ds))
-    (Accepted (record { corners = corner-count cs; cells = cell-count T; doors = length ds }))))))
+    (refuse-if (ltb (first-overlapping cs T) (cell-count T)) (Overlap (first-overlapping cs T))
+    (Accepted (record { corners = corner-count cs; cells = cell-count T; doors = length ds })))))))
 
 -- the check of three lists, the cells in a list of kind k
 unfoldable pub checked : ℕ → List ℤ → List ℕ → List ℕ → Checked

@@ -8,7 +8,7 @@ use lib.IntN.{ℤ}
 use Rattle.plane.specs.Side.{Near}
 use Rattle.limits.specs.Limits.{sized, least-sides, most-sides}
 use Rattle.cells.specs.Lists.{Cells, corner-count, corner-at, cell-count, face-count, first, start}
-use Rattle.cells.specs.Check.{wrong-cell, wrong-neighbour, wrong-door}
+use Rattle.cells.specs.Check.{wrong-cell, wrong-neighbour, wrong-door, in-a-pair}
 
 -- every corner's coordinates are within the limits
 pub record CornersNear (cs : List ℤ) : Type 0 where
@@ -44,3 +44,4 @@ pub record Sound (cs : List ℤ) (T : Cells) (ds : List ℕ) : Type 0 where
   pub cells : CellsRight cs T
   pub neighbours : NeighboursRight T
   pub doors : (i : ℕ) → i < length ds → wrong-door T ds i ≡ false
+  pub apart : (c : ℕ) → c < cell-count T → in-a-pair cs T c ≡ false

@@ -11,8 +11,8 @@ use Rattle.cells.specs.Check.{some-face, wrong-for-side, missing-corner, wrong-
 use Rattle.cells.specs.Sound.{Numbered, CornersNear}
 use Rattle.cells.proofs.Faces.{SideOf, next-is-a-side, no-face}
 use Rattle.cells.proofs.Cells.{at, not-missing, starts-there-again, its-own-finish, by-side-value}
-use Rattle.checking.specs.Tables.{around}
-use Rattle.checking.proofs.Tables.{read-next}
+use Rattle.face.specs.Tables.{around}
+use Rattle.face.proofs.Tables.{read-next}
 
 -- ---- three corners, by what was read of them
 

@@ -1,5 +1,3 @@
--- a cell's sides in the tables: the next one, and a loop over them
-pub mod Tables
 -- right and wrong cells, by what the code read
 pub mod Cells
 -- a cell with three sides: one side value decides

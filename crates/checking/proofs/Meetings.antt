@@ -15,7 +15,7 @@ use Rattle.cells.specs.Sound.{Numbered}
 use Rattle.cells.proofs.Least.{not-both, least-bounds}
 use Rattle.cells.proofs.Faces.{SideOf, side-exists, side-of-home, home-is}
 use Rattle.cells.proofs.Neighbours.{Answer, answered, answered-by}
-use Rattle.checking.proofs.Tables.{Looks, looked-past}
+use Rattle.face.proofs.Tables.{Looks, looked-past}
 
 -- ---- a face is reversed or not, by what was read of it
 

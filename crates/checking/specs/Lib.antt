@@ -1,5 +1,3 @@
--- the cells that two lent tables stand for
-pub mod Tables
 -- a table of the faces on the other side
 pub mod Backed
 -- the counts of three lists, or the refusal

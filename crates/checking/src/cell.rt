@@ -11,7 +11,6 @@ ghost use Rattle.cells.specs.Check.{some-face, missing-corner, wrong-side, wron
 ghost use Rattle.cells.specs.Sound.{CornersNear, Numbered};
 ghost use Rattle.cells.proofs.Faces.{SideOf};
 ghost use Rattle.cells.specs.Lists.{tabled};
-use crate::face;
 use cells::corner;
 
 // Is corner d strictly left of the line from corner a to corner b?

@@ -8,7 +8,6 @@ ghost use Rattle.cells.specs.Check.{names, wrong-door};
 ghost use Rattle.cells.specs.Lists.{tabled};
 ghost use Rattle.cells.specs.Backed.{Backed};
 use crate::Plan;
-use crate::face;
 
 // The least of the first i doors that names face f or face g, or i.
 fn named(doors: &[u16], i: usize, f: usize, g: usize) -> usize

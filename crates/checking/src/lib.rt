@@ -1,4 +1,4 @@
-// The plan check (document 01, "Side value and plan check"; document 02, A14), on lists and on the tables drawn from them.
+// The plan check (document 01, "Side value and plan check"; document 02, A14 and A7), on lists and on the tables drawn from them.
 ghost use Prim.Native.Nat.{suc, _+_, _*_, _<_, _≤_};
 ghost use mathlib.Core.Bool.{true};
 ghost use mathlib.Core.Path.{_≡_};
@@ -19,7 +19,6 @@ pub use limits::Refusal;
 mod cell;
 mod corner;
 mod door;
-pub mod face;
 mod neighbour;
 
 // The check of corners, of cells in tables and of doors, from CORNER on. Of an accepted plan the faces on the other side are noted.
@@ -54,6 +53,10 @@ pub fn check_tables(
     let d = door::least_wrong(faces, backs, doors);
     if d < k {
         return Checked::Refused(Refusal::Door(d));
+    }
+    let o = overlap::least_overlapping(corners, faces, firsts);
+    if o < m {
+        return Checked::Refused(Refusal::Overlap(o));
     }
     Checked::Accepted(Plan {
         corners: n,

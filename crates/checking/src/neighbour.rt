@@ -13,7 +13,6 @@ ghost use Rattle.cells.specs.Lists.{tabled};
 ghost use Rattle.cells.specs.Backed.{Backed};
 ghost use Rattle.checking.specs.Backed.{BackedBelow};
 use crate::Plan;
-use crate::face;
 
 // Has side g of cell d the same two corners as side f of cell c, reversed?
 fn is_reversed(faces: &[u16], firsts: &[u16], c: usize, f: usize, d: usize, g: usize) -> bool

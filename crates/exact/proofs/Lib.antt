@@ -6,6 +6,8 @@ pub mod Order
 pub mod Solver
 -- inequalities by certificates over the solver, as `tools/certificate.py` finds them
 pub mod Certificate
+-- a number that outweighs each of finitely many
+pub mod Outweigh
 -- machine numbers: a value within a bound fits its width and reads back as itself
 pub mod Bounds
 -- what `&&` and `||` say of their two sides

@@ -2,7 +2,7 @@
 use mathlib.Core.List.{List, [], _∷_}
 use Prim.Native.Nat.{ℕ}
 use Rattle.limits.specs.declared.Refusal.{Refusal}
-use Rattle.limits.specs.declared.Refusal.the-variants.{Frame, Size, Corner, Cell, Neighbour, Door, Setting, Stand, Line, Outside, Room, Change, Rows, Reach, Ceiling}
+use Rattle.limits.specs.declared.Refusal.the-variants.{Frame, Size, Corner, Cell, Neighbour, Door, Overlap, Setting, Stand, Line, Outside, Room, Change, Rows, Reach, Ceiling}
 use Rattle.limits.specs.declared.Checked.{Checked}
 use Rattle.limits.specs.declared.Checked.the-variants.{Accepted, Refused}
 
@@ -13,6 +13,7 @@ number (Corner i) = 3
 number (Cell c) = 4
 number (Neighbour f) = 5
 number (Door i) = 6
+number (Overlap c) = 17
 number Setting = 7
 number Stand = 8
 number Line = 9
@@ -30,6 +31,7 @@ place (Corner i) = i
 place (Cell c) = c
 place (Neighbour f) = f
 place (Door i) = i
+place (Overlap c) = c
 place Setting = 0
 place Stand = 0
 place Line = 0

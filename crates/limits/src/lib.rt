@@ -68,6 +68,7 @@ pub enum Refusal {
     Cell(usize),
     Neighbour(usize),
     Door(usize),
+    Overlap(usize),
     Setting,
     Stand,
     Line,

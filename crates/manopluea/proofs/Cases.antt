@@ -9,7 +9,7 @@ use Rattle.plane.specs.Tests.{is-within}
 use Rattle.limits.specs.Limits.{polygons, sized}
 use Rattle.cells.specs.Least.{least}
 use Rattle.cells.specs.Lists.{next, start, neighbour, answers, back, home}
-use Rattle.cells.specs.Check.{outside, wrong-corner, wrong-cell, wrong-neighbour, names, wrong-door, checked, framed, some-face, wrong-for-side, missing-corner, wrong-side, checked-cells}
+use Rattle.cells.specs.Check.{outside, wrong-corner, wrong-cell, wrong-neighbour, names, wrong-door, strictly-left, separates, overlapping, in-a-pair, checked, framed, some-face, wrong-for-side, missing-corner, wrong-side, checked-cells}
 use Rattle.cells.specs.Cut.{cell-of, cut-triangles, cut-polygons, cut, pairs, faces-of, firsts-from, tables, cells-of}
 use Rattle.setting.specs.Setting.{shut, wrong-setting, bars, ends}
 use Rattle.number.specs.Whole.{whole}
@@ -26,15 +26,15 @@ use Rattle.sight.specs.declared.list.Listed.the-variants.{Rows}
 use Rattle.manopluea.specs.Cases.{cases, in-the-shut-doorway, computed, stated, square-of-Q, six, three, untouched}
 
 pub the-twelve-cases : map computed cases ≡ map stated cases
-unfolding ofBits side sized least home next start neighbour answers back cell-of cut-triangles cut-polygons cut pairs faces-of firsts-from tables cells-of framed outside wrong-corner some-face wrong-for-side missing-corner wrong-side wrong-cell wrong-neighbour names wrong-door checked-cells checked shut wrong-setting bars ends whole whole-point stood not-left-of right-of against is-within strictly-within within-free minus dot located fan follow sides lines-around unentered lines-seen seen-from numbers row-count crossings placed viewed no-room listing-numbers listing-row-count listing-crossings listed listed-up-to exceeds out-of-reach far wrong-reach
+unfolding ofBits side sized least home next start neighbour answers back cell-of cut-triangles cut-polygons cut pairs faces-of firsts-from tables cells-of framed outside wrong-corner some-face wrong-for-side missing-corner wrong-side wrong-cell wrong-neighbour names wrong-door strictly-left separates overlapping in-a-pair checked-cells checked shut wrong-setting bars ends whole whole-point stood not-left-of right-of against is-within strictly-within within-free minus dot located fan follow sides lines-around unentered lines-seen seen-from numbers row-count crossings placed viewed no-room listing-numbers listing-row-count listing-crossings listed listed-up-to exceeds out-of-reach far wrong-reach
 the-twelve-cases = refl
 
 -- in the doorway of case h, its door shut, the stand is on a line (document 02, A4)
 pub the-shut-doorway : computed in-the-shut-doorway ≡ stated in-the-shut-doorway
-unfolding ofBits side sized least home next start neighbour answers back cell-of cut-triangles cut-polygons cut pairs faces-of firsts-from tables cells-of framed outside wrong-corner some-face wrong-for-side missing-corner wrong-side wrong-cell wrong-neighbour names wrong-door checked-cells checked shut wrong-setting bars ends whole whole-point stood not-left-of right-of against is-within strictly-within within-free minus dot located fan follow sides lines-around unentered lines-seen seen-from numbers row-count crossings placed viewed no-room listing-numbers listing-row-count listing-crossings listed listed-up-to exceeds out-of-reach far wrong-reach
+unfolding ofBits side sized least home next start neighbour answers back cell-of cut-triangles cut-polygons cut pairs faces-of firsts-from tables cells-of framed outside wrong-corner some-face wrong-for-side missing-corner wrong-side wrong-cell wrong-neighbour names wrong-door strictly-left separates overlapping in-a-pair checked-cells checked shut wrong-setting bars ends whole whole-point stood not-left-of right-of against is-within strictly-within within-free minus dot located fan follow sides lines-around unentered lines-seen seen-from numbers row-count crossings placed viewed no-room listing-numbers listing-row-count listing-crossings listed listed-up-to exceeds out-of-reach far wrong-reach
 the-shut-doorway = refl
 
 -- plan Q as one cell of four corners, without a door, from the stand of case a: its four sides are the rows, and nothing is crossed
 pub one-cell-of-four : listed polygons corners-of-Q square-of-Q [] (record { setting = 0; stand = Point six three; reach = NotStated }) untouched ≡ (Rows 4 0, 0 ∷ 0 ∷ 1 ∷ 0 ∷ 1 ∷ 1 ∷ 2 ∷ 0 ∷ 2 ∷ 2 ∷ 3 ∷ 0 ∷ 3 ∷ 3 ∷ 0 ∷ 0 ∷ [])
-unfolding ofBits side sized least home next start neighbour answers back cell-of cut-triangles cut-polygons cut pairs faces-of firsts-from tables cells-of framed outside wrong-corner some-face wrong-for-side missing-corner wrong-side wrong-cell wrong-neighbour names wrong-door checked-cells checked shut wrong-setting bars ends whole whole-point stood not-left-of right-of against is-within strictly-within within-free minus dot located fan follow sides lines-around unentered lines-seen seen-from numbers row-count crossings placed viewed no-room listing-numbers listing-row-count listing-crossings listed out-of-reach far wrong-reach
+unfolding ofBits side sized least home next start neighbour answers back cell-of cut-triangles cut-polygons cut pairs faces-of firsts-from tables cells-of framed outside wrong-corner some-face wrong-for-side missing-corner wrong-side wrong-cell wrong-neighbour names wrong-door strictly-left separates overlapping in-a-pair checked-cells checked shut wrong-setting bars ends whole whole-point stood not-left-of right-of against is-within strictly-within within-free minus dot located fan follow sides lines-around unentered lines-seen seen-from numbers row-count crossings placed viewed no-room listing-numbers listing-row-count listing-crossings listed out-of-reach far wrong-reach
 one-cell-of-four = refl

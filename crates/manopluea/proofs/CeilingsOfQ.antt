@@ -10,7 +10,7 @@ use Rattle.plane.specs.Tests.{is-within}
 use Rattle.limits.specs.Limits.{triangles, sized}
 use Rattle.cells.specs.Least.{least}
 use Rattle.cells.specs.Lists.{next, start, neighbour, answers, back, home}
-use Rattle.cells.specs.Check.{outside, wrong-corner, wrong-cell, wrong-neighbour, names, wrong-door, checked, framed, some-face, wrong-for-side, missing-corner, wrong-side, checked-cells}
+use Rattle.cells.specs.Check.{outside, wrong-corner, wrong-cell, wrong-neighbour, names, wrong-door, strictly-left, separates, overlapping, in-a-pair, checked, framed, some-face, wrong-for-side, missing-corner, wrong-side, checked-cells}
 use Rattle.cells.specs.Cut.{cell-of, cut-triangles, cut-polygons, cut, pairs, faces-of, firsts-from, tables, cells-of}
 use Rattle.setting.specs.Setting.{shut, wrong-setting, bars, ends}
 use Rattle.limits.specs.declared.Refusal.the-variants.{Room, Outside, Ceiling as TooMany}
@@ -44,5 +44,5 @@ shut-rows = 0 ∷ 0 ∷ 1 ∷ 0 ∷ 1 ∷ 1 ∷ 2 ∷ 0 ∷ 2 ∷ 2 ∷ 0 ∷ 0 
 -- one crossing: exceeds 0, and is allowed by 1, by the largest number and by no ceiling. No crossing, with the door shut and in the doorway: allowed by 0. A table
 -- that is one short is 11 and a stand outside is 10, though the ceiling is exceeded
 pub ceilings-of-Q : (from 0 six three (No.Stated 0) untouched ∷ from 0 six three (No.Stated 1) untouched ∷ from 0 six three (No.Stated 18446744073709551615) untouched ∷ from 0 six three No.NotStated untouched ∷ from 1 six three (No.Stated 0) untouched ∷ from 0 five five (No.Stated 0) untouched ∷ from 0 six three (No.Stated 0) (replicate 15 old) ∷ from 0 eleven five (No.Stated 0) untouched ∷ []) ≡ ((Refused TooMany, untouched) ∷ (Rows 4 1, rows) ∷ (Rows 4 1, rows) ∷ (Rows 4 1, rows) ∷ (Rows 3 0, shut-rows ++ replicate 4 old) ∷ (Rows 4 0, rows) ∷ (Refused Room, replicate 15 old) ∷ (Refused Outside, untouched) ∷ [])
-unfolding ofBits side sized least home next start neighbour answers back cell-of cut-triangles cut-polygons cut pairs faces-of firsts-from tables cells-of framed outside wrong-corner some-face wrong-for-side missing-corner wrong-side wrong-cell wrong-neighbour names wrong-door checked-cells checked shut wrong-setting bars ends whole whole-point stood not-left-of right-of against is-within strictly-within within-free minus dot located fan follow sides lines-around unentered lines-seen seen-from numbers row-count crossings placed viewed no-room listing-numbers listing-row-count listing-crossings listed listed-up-to exceeds out-of-reach far wrong-reach
+unfolding ofBits side sized least home next start neighbour answers back cell-of cut-triangles cut-polygons cut pairs faces-of firsts-from tables cells-of framed outside wrong-corner some-face wrong-for-side missing-corner wrong-side wrong-cell wrong-neighbour names wrong-door strictly-left separates overlapping in-a-pair checked-cells checked shut wrong-setting bars ends whole whole-point stood not-left-of right-of against is-within strictly-within within-free minus dot located fan follow sides lines-around unentered lines-seen seen-from numbers row-count crossings placed viewed no-room listing-numbers listing-row-count listing-crossings listed listed-up-to exceeds out-of-reach far wrong-reach
 ceilings-of-Q = refl

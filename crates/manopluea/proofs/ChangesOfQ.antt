@@ -10,7 +10,7 @@ use Rattle.plane.specs.Tests.{is-within}
 use Rattle.limits.specs.Limits.{triangles, sized}
 use Rattle.cells.specs.Least.{least}
 use Rattle.cells.specs.Lists.{next, start, neighbour, answers, back, home}
-use Rattle.cells.specs.Check.{outside, wrong-corner, wrong-cell, wrong-neighbour, names, wrong-door, checked, framed, some-face, wrong-for-side, missing-corner, wrong-side, checked-cells}
+use Rattle.cells.specs.Check.{outside, wrong-corner, wrong-cell, wrong-neighbour, names, wrong-door, strictly-left, separates, overlapping, in-a-pair, checked, framed, some-face, wrong-for-side, missing-corner, wrong-side, checked-cells}
 use Rattle.cells.specs.Cut.{cell-of, cut-triangles, cut-polygons, cut, pairs, faces-of, firsts-from, tables, cells-of}
 use Rattle.setting.specs.Setting.{shut, with-shut, with-open, wrong-setting, bars, ends}
 use Rattle.limits.specs.declared.Refusal.the-variants.{Line, Change, Rows as Untrue}
@@ -42,5 +42,5 @@ changed-on-Q w s = changed triangles corners-of-Q cells-of-Q doors-of-Q (record 
 -- door 0 of Q: shut from case a gives case b, opened from case b gives case a, and each list is untrue under the other setting; shut twice, and a door 1. From
 -- the doorway: the door underfoot, also where it is already open and the table is short, and a door 1
 pub changes-of-Q : (changed-on-Q 0 (Point six three) list-a 0 true untouched ∷ changed-on-Q 1 (Point six three) list-b 0 false untouched ∷ changed-on-Q 0 (Point six three) list-b 0 true untouched ∷ changed-on-Q 1 (Point six three) list-a 0 false untouched ∷ changed-on-Q 1 (Point six three) list-b 0 true untouched ∷ changed-on-Q 0 (Point six three) list-a 1 true untouched ∷ changed-on-Q 0 (Point five five) list-a 0 true untouched ∷ changed-on-Q 0 (Point five five) list-a 0 false [] ∷ changed-on-Q 0 (Point five five) list-a 1 true untouched ∷ []) ≡ ((Rows 3 0, 0 ∷ 0 ∷ 1 ∷ 0 ∷ 1 ∷ 1 ∷ 2 ∷ 0 ∷ 2 ∷ 2 ∷ 0 ∷ 0 ∷ old ∷ old ∷ old ∷ old ∷ []) ∷ (Rows 4 1, list-a) ∷ (Refused Untrue, untouched) ∷ (Refused Untrue, untouched) ∷ (Refused Change, untouched) ∷ (Refused Change, untouched) ∷ (Refused Line, untouched) ∷ (Refused Line, []) ∷ (Refused Change, untouched) ∷ [])
-unfolding ofBits side sized least home next start neighbour answers back cell-of cut-triangles cut-polygons cut pairs faces-of firsts-from tables cells-of framed outside wrong-corner some-face wrong-for-side missing-corner wrong-side wrong-cell wrong-neighbour names wrong-door checked-cells checked shut with-shut with-open wrong-setting bars ends whole whole-point stood not-left-of right-of against is-within strictly-within within-free minus dot located fan follow sides lines-around unentered lines-seen seen-from numbers row-count crossings placed viewed listing-numbers listing-row-count listing-crossings same-list no-change changed underfoot no-room out-of-reach far wrong-reach
+unfolding ofBits side sized least home next start neighbour answers back cell-of cut-triangles cut-polygons cut pairs faces-of firsts-from tables cells-of framed outside wrong-corner some-face wrong-for-side missing-corner wrong-side wrong-cell wrong-neighbour names wrong-door strictly-left separates overlapping in-a-pair checked-cells checked shut with-shut with-open wrong-setting bars ends whole whole-point stood not-left-of right-of against is-within strictly-within within-free minus dot located fan follow sides lines-around unentered lines-seen seen-from numbers row-count crossings placed viewed listing-numbers listing-row-count listing-crossings same-list no-change changed underfoot no-room out-of-reach far wrong-reach
 changes-of-Q = refl

@@ -11,7 +11,7 @@ use Rattle.plane.specs.Tests.{is-within}
 use Rattle.limits.specs.Limits.{triangles, sized}
 use Rattle.cells.specs.Least.{least}
 use Rattle.cells.specs.Lists.{next, start, neighbour, answers, back, home}
-use Rattle.cells.specs.Check.{outside, wrong-corner, wrong-cell, wrong-neighbour, names, wrong-door, checked, framed, some-face, wrong-for-side, missing-corner, wrong-side, checked-cells}
+use Rattle.cells.specs.Check.{outside, wrong-corner, wrong-cell, wrong-neighbour, names, wrong-door, strictly-left, separates, overlapping, in-a-pair, checked, framed, some-face, wrong-for-side, missing-corner, wrong-side, checked-cells}
 use Rattle.cells.specs.Cut.{cell-of, cut-triangles, cut-polygons, cut, pairs, faces-of, firsts-from, tables, cells-of}
 use Rattle.setting.specs.Setting.{shut, wrong-setting, bars, ends}
 use Rattle.limits.specs.declared.Refusal.the-variants.{Size, Room}
@@ -50,5 +50,5 @@ listed-on-Q reach ceiling n room places =
 -- accepted replies 15; with a ceiling of 0, where the two stands that cross a line reply 19 and the one on a side, which crosses none, is listed; and with a
 -- ceiling of 1, which each stand has for itself
 pub morning-of-Q : (listed-on-Q NotStated No.NotStated 5 80 15 ∷ listed-on-Q NotStated No.NotStated 2 32 9 ∷ listed-on-Q NotStated No.NotStated 0 1 1 ∷ listed-on-Q NotStated No.NotStated 5 79 15 ∷ listed-on-Q NotStated No.NotStated 5 80 14 ∷ listed-on-Q NotStated No.NotStated 33 1 1 ∷ listed-on-Q (Stated 0) No.NotStated 5 80 15 ∷ listed-on-Q NotStated (No.Stated 0) 5 80 15 ∷ listed-on-Q NotStated (No.Stated 1) 5 80 15 ∷ []) ≡ ((Rows 12 2, (rows ++ rows ++ rows ++ replicate 32 old, 8 ∷ 0 ∷ 0 ∷ 0 ∷ 4 ∷ 1 ∷ 10 ∷ 0 ∷ 0 ∷ 0 ∷ 4 ∷ 1 ∷ 0 ∷ 4 ∷ 0 ∷ [])) ∷ (Rows 4 1, (rows ++ replicate 16 old, 8 ∷ 0 ∷ 0 ∷ 0 ∷ 4 ∷ 1 ∷ old ∷ old ∷ old ∷ [])) ∷ (Rows 0 0, (old ∷ [], old ∷ [])) ∷ (Refused Room, (replicate 79 old, replicate 15 old)) ∷ (Refused Room, (replicate 80 old, replicate 14 old)) ∷ (Refused Size, (old ∷ [], old ∷ [])) ∷ (Rows 0 0, (replicate 80 old, 8 ∷ 0 ∷ 0 ∷ 15 ∷ 0 ∷ 0 ∷ 15 ∷ 0 ∷ 0 ∷ 15 ∷ 0 ∷ 0 ∷ 15 ∷ 0 ∷ 0 ∷ [])) ∷ (Rows 4 0, (rows ++ replicate 64 old, 8 ∷ 0 ∷ 0 ∷ 19 ∷ 0 ∷ 0 ∷ 10 ∷ 0 ∷ 0 ∷ 19 ∷ 0 ∷ 0 ∷ 0 ∷ 4 ∷ 0 ∷ [])) ∷ (Rows 12 2, (rows ++ rows ++ rows ++ replicate 32 old, 8 ∷ 0 ∷ 0 ∷ 0 ∷ 4 ∷ 1 ∷ 10 ∷ 0 ∷ 0 ∷ 0 ∷ 4 ∷ 1 ∷ 0 ∷ 4 ∷ 0 ∷ [])) ∷ [])
-unfolding ofBits side sized least home next start neighbour answers back cell-of cut-triangles cut-polygons cut pairs faces-of firsts-from tables cells-of framed outside wrong-corner some-face wrong-for-side missing-corner wrong-side wrong-cell wrong-neighbour names wrong-door checked-cells checked shut wrong-setting bars ends whole whole-point stood not-left-of right-of against is-within strictly-within within-free minus dot located fan follow sides lines-around unentered lines-seen seen-from numbers row-count crossings placed viewed no-room listing-numbers listing-row-count listing-crossings listed listed-up-to exceeds one-after-another in-all single asked listed-stands out-of-reach far wrong-reach
+unfolding ofBits side sized least home next start neighbour answers back cell-of cut-triangles cut-polygons cut pairs faces-of firsts-from tables cells-of framed outside wrong-corner some-face wrong-for-side missing-corner wrong-side wrong-cell wrong-neighbour names wrong-door strictly-left separates overlapping in-a-pair checked-cells checked shut wrong-setting bars ends whole whole-point stood not-left-of right-of against is-within strictly-within within-free minus dot located fan follow sides lines-around unentered lines-seen seen-from numbers row-count crossings placed viewed no-room listing-numbers listing-row-count listing-crossings listed listed-up-to exceeds one-after-another in-all single asked listed-stands out-of-reach far wrong-reach
 morning-of-Q = refl

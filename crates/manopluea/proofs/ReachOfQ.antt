@@ -13,7 +13,7 @@ use Rattle.plane.specs.Tests.{is-within}
 use Rattle.limits.specs.Limits.{triangles, sized}
 use Rattle.cells.specs.Least.{least}
 use Rattle.cells.specs.Lists.{next, start, neighbour, answers, back, home}
-use Rattle.cells.specs.Check.{outside, wrong-corner, wrong-cell, wrong-neighbour, names, wrong-door, checked, framed, some-face, wrong-for-side, missing-corner, wrong-side, checked-cells}
+use Rattle.cells.specs.Check.{outside, wrong-corner, wrong-cell, wrong-neighbour, names, wrong-door, strictly-left, separates, overlapping, in-a-pair, checked, framed, some-face, wrong-for-side, missing-corner, wrong-side, checked-cells}
 use Rattle.cells.specs.Cut.{cell-of, cut-triangles, cut-polygons, cut, pairs, faces-of, firsts-from, tables, cells-of}
 use Rattle.setting.specs.Setting.{shut, with-shut, with-open, wrong-setting, bars, ends}
 use Rattle.limits.specs.declared.Refusal.the-variants.{Stand as NoStand, Line, Rows as Untrue, Reach as NoReach}
@@ -52,7 +52,7 @@ within-2 = 0 ∷ 0 ∷ 1 ∷ 1 ∷ 1 ∷ 1 ∷ 2 ∷ 1 ∷ 2 ∷ 2 ∷ 0 ∷ 1 �
 -- the least reach; the door's line out of reach; a wall exactly at the reach, and the door's line crossed; one wall short; all in reach; the most. No reach are 0
 -- and one more than the most; that is 15, which goes after a stand that is not accepted and before one on a line
 pub reach-of-Q : (listed-within 1 (Point six three) ∷ listed-within 2 (Point six three) ∷ listed-within 3 (Point six three) ∷ listed-within 6 (Point six three) ∷ listed-within 7 (Point six three) ∷ listed-within 262144 (Point six three) ∷ listed-within 0 (Point six three) ∷ listed-within 262145 (Point six three) ∷ listed-within 0 (Point six-and-a-half three) ∷ listed-within 0 (Point six minus-zero) ∷ listed-within 1 (Point six minus-zero) ∷ []) ≡ ((Rows 3 0, within-2 ++ replicate 4 old) ∷ (Rows 3 0, within-2 ++ replicate 4 old) ∷ (Rows 4 1, open-within-3) ∷ (Rows 4 1, 0 ∷ 0 ∷ 1 ∷ 0 ∷ 1 ∷ 1 ∷ 2 ∷ 0 ∷ 4 ∷ 2 ∷ 3 ∷ 1 ∷ 5 ∷ 3 ∷ 0 ∷ 0 ∷ []) ∷ (Rows 4 1, 0 ∷ 0 ∷ 1 ∷ 0 ∷ 1 ∷ 1 ∷ 2 ∷ 0 ∷ 4 ∷ 2 ∷ 3 ∷ 0 ∷ 5 ∷ 3 ∷ 0 ∷ 0 ∷ []) ∷ (Rows 4 1, 0 ∷ 0 ∷ 1 ∷ 0 ∷ 1 ∷ 1 ∷ 2 ∷ 0 ∷ 4 ∷ 2 ∷ 3 ∷ 0 ∷ 5 ∷ 3 ∷ 0 ∷ 0 ∷ []) ∷ (Refused NoReach, untouched) ∷ (Refused NoReach, untouched) ∷ (Refused NoStand, untouched) ∷ (Refused NoReach, untouched) ∷ (Refused Line, untouched) ∷ [])
-unfolding ofBits side sized least home next start neighbour answers back cell-of cut-triangles cut-polygons cut pairs faces-of firsts-from tables cells-of framed outside wrong-corner some-face wrong-for-side missing-corner wrong-side wrong-cell wrong-neighbour names wrong-door checked-cells checked shut wrong-setting bars ends whole whole-point stood not-left-of right-of against is-within strictly-within within-free minus dot located fan follow sides lines-around unentered lines-seen seen-from numbers row-count crossings placed viewed listing-numbers listing-row-count listing-crossings listed no-room out-of-reach far wrong-reach in-reach cross
+unfolding ofBits side sized least home next start neighbour answers back cell-of cut-triangles cut-polygons cut pairs faces-of firsts-from tables cells-of framed outside wrong-corner some-face wrong-for-side missing-corner wrong-side wrong-cell wrong-neighbour names wrong-door strictly-left separates overlapping in-a-pair checked-cells checked shut wrong-setting bars ends whole whole-point stood not-left-of right-of against is-within strictly-within within-free minus dot located fan follow sides lines-around unentered lines-seen seen-from numbers row-count crossings placed viewed listing-numbers listing-row-count listing-crossings listed no-room out-of-reach far wrong-reach in-reach cross
 reach-of-Q = refl
 
 abbrev changed-within : ℕ → ℕ → List ℕ → Bool → Listed × List ℕ
@@ -60,7 +60,7 @@ changed-within R w given b = changed triangles corners-of-Q cells-of-Q doors-of-
 
 -- the door in reach, shut and opened; out of reach, shut and opened: the rows are the same; and a list that is true within another reach
 pub changes-within-reach : (changed-within 3 0 open-within-3 true ∷ changed-within 3 1 shut-within-3 false ∷ changed-within 2 0 within-2 true ∷ changed-within 2 1 within-2 false ∷ changed-within 3 1 within-2 false ∷ []) ≡ ((Rows 3 0, shut-within-3 ++ replicate 4 old) ∷ (Rows 4 1, open-within-3) ∷ (Rows 3 0, within-2 ++ replicate 4 old) ∷ (Rows 3 0, within-2 ++ replicate 4 old) ∷ (Refused Untrue, untouched) ∷ [])
-unfolding ofBits side sized least home next start neighbour answers back cell-of cut-triangles cut-polygons cut pairs faces-of firsts-from tables cells-of framed outside wrong-corner some-face wrong-for-side missing-corner wrong-side wrong-cell wrong-neighbour names wrong-door checked-cells checked shut with-shut with-open wrong-setting bars ends whole whole-point stood not-left-of right-of against is-within strictly-within within-free minus dot located fan follow sides lines-around unentered lines-seen seen-from numbers row-count crossings placed viewed listing-numbers listing-row-count listing-crossings same-list no-change changed underfoot no-room out-of-reach far wrong-reach in-reach cross
+unfolding ofBits side sized least home next start neighbour answers back cell-of cut-triangles cut-polygons cut pairs faces-of firsts-from tables cells-of framed outside wrong-corner some-face wrong-for-side missing-corner wrong-side wrong-cell wrong-neighbour names wrong-door strictly-left separates overlapping in-a-pair checked-cells checked shut with-shut with-open wrong-setting bars ends whole whole-point stood not-left-of right-of against is-within strictly-within within-free minus dot located fan follow sides lines-around unentered lines-seen seen-from numbers row-count crossings placed viewed listing-numbers listing-row-count listing-crossings same-list no-change changed underfoot no-room out-of-reach far wrong-reach in-reach cross
 changes-within-reach = refl
 
 -- two triangles, the far wall of the second hidden where it is near: its face 4 comes within √1800 mm of (30, 10), which is between 42 and 43, but there it is
@@ -71,5 +71,5 @@ listed-in-the-nook R =
     (within R 0 (Point (double 0x403e000000000000) (double 0x4024000000000000))) untouched
 
 pub in-reach-though-not-seen : (listed-in-the-nook 42 ∷ listed-in-the-nook 43 ∷ []) ≡ ((Rows 3 1, 0 ∷ 0 ∷ 1 ∷ 0 ∷ 4 ∷ 1 ∷ 2 ∷ 1 ∷ 2 ∷ 2 ∷ 0 ∷ 0 ∷ replicate 4 old) ∷ (Rows 3 1, 0 ∷ 0 ∷ 1 ∷ 0 ∷ 4 ∷ 1 ∷ 2 ∷ 0 ∷ 2 ∷ 2 ∷ 0 ∷ 0 ∷ replicate 4 old) ∷ [])
-unfolding ofBits side sized least home next start neighbour answers back cell-of cut-triangles cut-polygons cut pairs faces-of firsts-from tables cells-of framed outside wrong-corner some-face wrong-for-side missing-corner wrong-side wrong-cell wrong-neighbour names wrong-door checked-cells checked shut wrong-setting bars ends whole whole-point stood not-left-of right-of against is-within strictly-within within-free minus dot located fan follow sides lines-around unentered lines-seen seen-from numbers row-count crossings placed viewed listing-numbers listing-row-count listing-crossings listed no-room out-of-reach far wrong-reach in-reach cross
+unfolding ofBits side sized least home next start neighbour answers back cell-of cut-triangles cut-polygons cut pairs faces-of firsts-from tables cells-of framed outside wrong-corner some-face wrong-for-side missing-corner wrong-side wrong-cell wrong-neighbour names wrong-door strictly-left separates overlapping in-a-pair checked-cells checked shut wrong-setting bars ends whole whole-point stood not-left-of right-of against is-within strictly-within within-free minus dot located fan follow sides lines-around unentered lines-seen seen-from numbers row-count crossings placed viewed listing-numbers listing-row-count listing-crossings listed no-room out-of-reach far wrong-reach in-reach cross
 in-reach-though-not-seen = refl

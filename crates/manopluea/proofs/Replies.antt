@@ -11,11 +11,11 @@ use Rattle.plane.specs.Side.{Point}
 use Rattle.limits.specs.Limits.{most-stands, sized}
 use Rattle.cells.specs.Lists.{Cells, corner-count, cell-count, face-count}
 use Rattle.cells.specs.Cut.{cells-of}
-use Rattle.cells.specs.Check.{framed, first-wrong-corner, first-wrong-cell, first-wrong-face, first-wrong-door, refuse-if, checked-cells, checked}
+use Rattle.cells.specs.Check.{framed, first-wrong-corner, first-wrong-cell, first-wrong-face, first-wrong-door, first-overlapping, refuse-if, checked-cells, checked}
 use Rattle.limits.specs.Reply.{Reply, number, place, checked-reply}
 use Rattle.limits.specs.declared.Plan.{Plan}
 use Rattle.limits.specs.declared.Refusal.{Refusal}
-use Rattle.limits.specs.declared.Refusal.the-variants.{Frame, Size, Corner, Cell, Neighbour, Door, Setting, Stand as NoStand, Line, Outside, Room, Change, Rows, Reach as NoReach, Ceiling as NoCeiling}
+use Rattle.limits.specs.declared.Refusal.the-variants.{Frame, Size, Corner, Cell, Neighbour, Door, Overlap, Setting, Stand as NoStand, Line, Outside, Room, Change, Rows, Reach as NoReach, Ceiling as NoCeiling}
 use Rattle.limits.specs.declared.Checked.{Checked}
 use Rattle.limits.specs.declared.Checked.the-variants as C
 use Rattle.setting.specs.Setting.{wrong-setting}
@@ -59,7 +59,7 @@ told r = (r .number, r .place)
 -- the refusal with this number and place
 refusal-of : ℕ → ℕ → Refusal
 refusal-of n p =
-    getD (Frame ∷ Frame ∷ Size ∷ Corner p ∷ Cell p ∷ Neighbour p ∷ Door p ∷ Setting ∷ NoStand ∷ Line ∷ Outside ∷ Room ∷ Change ∷ Rows ∷ Frame ∷ NoReach ∷ Frame ∷ Frame ∷ Frame ∷ NoCeiling ∷ []) n Frame
+    getD (Frame ∷ Frame ∷ Size ∷ Corner p ∷ Cell p ∷ Neighbour p ∷ Door p ∷ Setting ∷ NoStand ∷ Line ∷ Outside ∷ Room ∷ Change ∷ Rows ∷ Frame ∷ NoReach ∷ Frame ∷ Overlap p ∷ Frame ∷ NoCeiling ∷ []) n Frame
 
 number-tells : (r : Refusal) → refusal-of (number r) (place r) ≡ r
 unfolding refusal-of
@@ -69,6 +69,7 @@ number-tells (Corner i) = refl
 number-tells (Cell c) = refl
 number-tells (Neighbour f) = refl
 number-tells (Door i) = refl
+number-tells (Overlap c) = refl
 number-tells Setting = refl
 number-tells NoStand = refl
 number-tells Line = refl
@@ -108,7 +109,8 @@ module _ (f : Checked → ℕ × ℕ) (as-refused : (r : Refusal) → f (C.Refus
       (refused-or (ltb (first-wrong-corner cs) (corner-count cs)) (Corner (first-wrong-corner cs)) _ _
       (refused-or (ltb (first-wrong-cell cs (cells-of kind ts)) (cell-count (cells-of kind ts))) (Cell (first-wrong-cell cs (cells-of kind ts))) _ _
       (refused-or (ltb (first-wrong-face (cells-of kind ts)) (face-count (cells-of kind ts))) (Neighbour (first-wrong-face (cells-of kind ts))) _ _
-      (refused-or (ltb (first-wrong-door (cells-of kind ts) ds) (length ds)) (Door (first-wrong-door (cells-of kind ts) ds)) _ _ e)))))
+      (refused-or (ltb (first-wrong-door (cells-of kind ts) ds) (length ds)) (Door (first-wrong-door (cells-of kind ts) ds)) _ _
+      (refused-or (ltb (first-overlapping cs (cells-of kind ts)) (cell-count (cells-of kind ts))) (Overlap (first-overlapping cs (cells-of kind ts))) _ _ e))))))
 
 pub check-answers : (kind : ℕ) (cs : List ℤ) (ts ds : List ℕ) → CheckAnswers kind cs ts ds
 unfolding lowest

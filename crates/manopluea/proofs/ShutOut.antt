@@ -16,11 +16,11 @@ use Rattle.plane.specs.Tests.{is-within}
 use Rattle.limits.specs.Limits.{triangles, sized}
 use Rattle.cells.specs.Least.{least}
 use Rattle.cells.specs.Lists.{corner-at, next, start, neighbour, answers, back, home}
-use Rattle.cells.specs.Check.{outside, wrong-corner, wrong-cell, wrong-neighbour, names, wrong-door, checked, framed, some-face, wrong-for-side, missing-corner, wrong-side, checked-cells}
+use Rattle.cells.specs.Check.{outside, wrong-corner, wrong-cell, wrong-neighbour, names, wrong-door, strictly-left, separates, overlapping, in-a-pair, checked, framed, some-face, wrong-for-side, missing-corner, wrong-side, checked-cells}
 use Rattle.limits.specs.Reply.{number, refused}
 use Rattle.cells.specs.PlanQ.{corners-of-Q, cells-of-Q, doors-of-Q}
 use Rattle.limits.specs.declared.Refusal.{Refusal}
-use Rattle.limits.specs.declared.Refusal.the-variants.{Frame, Size, Corner, Cell as NoCell, Neighbour, Door, Setting, Stand as NoStand, Line, Outside, Room, Change, Rows as Untrue, Reach as NoReach, Ceiling as NoCeiling}
+use Rattle.limits.specs.declared.Refusal.the-variants.{Frame, Size, Corner, Cell as NoCell, Neighbour, Door, Overlap, Setting, Stand as NoStand, Line, Outside, Room, Change, Rows as Untrue, Reach as NoReach, Ceiling as NoCeiling}
 use Rattle.cells.specs.Cut.{cell-of, cut-triangles, cut-polygons, cut, pairs, faces-of, firsts-from, tables, cells-of}
 use Rattle.setting.specs.Setting.{shut, with-shut, wrong-setting, bars, ends}
 use Rattle.number.specs.Whole.{whole}
@@ -71,11 +71,11 @@ abbrev q : Vector
 q = record { x = pos 6; y = pos 3 }
 
 view-open : viewed triangles corners-of-Q cells-of-Q doors-of-Q (query 0) ≡ From (pos 6) (pos 3) (Inside 0)
-unfolding ofBits side sized least home next start neighbour answers back cell-of cut-triangles cut-polygons cut pairs faces-of firsts-from tables cells-of framed outside wrong-corner some-face wrong-for-side missing-corner wrong-side wrong-cell wrong-neighbour names wrong-door checked-cells checked wrong-setting whole whole-point stood not-left-of right-of against is-within strictly-within within-free minus dot located viewed wrong-reach
+unfolding ofBits side sized least home next start neighbour answers back cell-of cut-triangles cut-polygons cut pairs faces-of firsts-from tables cells-of framed outside wrong-corner some-face wrong-for-side missing-corner wrong-side wrong-cell wrong-neighbour names wrong-door strictly-left separates overlapping in-a-pair checked-cells checked wrong-setting whole whole-point stood not-left-of right-of against is-within strictly-within within-free minus dot located viewed wrong-reach
 view-open = refl
 
 view-shut : viewed triangles corners-of-Q cells-of-Q doors-of-Q (query 1) ≡ From (pos 6) (pos 3) (Inside 0)
-unfolding ofBits side sized least home next start neighbour answers back cell-of cut-triangles cut-polygons cut pairs faces-of firsts-from tables cells-of framed outside wrong-corner some-face wrong-for-side missing-corner wrong-side wrong-cell wrong-neighbour names wrong-door checked-cells checked wrong-setting whole whole-point stood not-left-of right-of against is-within strictly-within within-free minus dot located viewed wrong-reach
+unfolding ofBits side sized least home next start neighbour answers back cell-of cut-triangles cut-polygons cut pairs faces-of firsts-from tables cells-of framed outside wrong-corner some-face wrong-for-side missing-corner wrong-side wrong-cell wrong-neighbour names wrong-door strictly-left separates overlapping in-a-pair checked-cells checked wrong-setting whole whole-point stood not-left-of right-of against is-within strictly-within within-free minus dot located viewed wrong-reach
 view-shut = refl
 
 -- the direction (−3, 5) meets no corner
@@ -142,6 +142,7 @@ no-refusal-is-0 (Corner i) e = omega arith
 no-refusal-is-0 (NoCell c) e = omega arith
 no-refusal-is-0 (Neighbour f) e = omega arith
 no-refusal-is-0 (Door i) e = omega arith
+no-refusal-is-0 (Overlap c) e = omega arith
 no-refusal-is-0 Setting e = omega arith
 no-refusal-is-0 NoStand e = omega arith
 no-refusal-is-0 Line e = omega arith
@@ -154,7 +155,7 @@ no-refusal-is-0 NoCeiling e = omega arith
 
 -- no condition applies to plan Q, so whatever is refused there breaks demand 1
 listed-open : listed-up-to triangles corners-of-Q cells-of-Q doors-of-Q (query 0) C.NotStated untouched .0 ≡ Rows 4 1
-unfolding ofBits side sized least home next start neighbour answers back cell-of cut-triangles cut-polygons cut pairs faces-of firsts-from tables cells-of framed outside wrong-corner some-face wrong-for-side missing-corner wrong-side wrong-cell wrong-neighbour names wrong-door checked-cells checked shut wrong-setting bars ends whole whole-point stood not-left-of right-of against is-within strictly-within within-free minus dot located fan follow sides lines-around unentered lines-seen seen-from numbers row-count crossings placed viewed no-room listing-numbers listing-row-count listing-crossings listed listed-up-to exceeds out-of-reach far wrong-reach
+unfolding ofBits side sized least home next start neighbour answers back cell-of cut-triangles cut-polygons cut pairs faces-of firsts-from tables cells-of framed outside wrong-corner some-face wrong-for-side missing-corner wrong-side wrong-cell wrong-neighbour names wrong-door strictly-left separates overlapping in-a-pair checked-cells checked shut wrong-setting bars ends whole whole-point stood not-left-of right-of against is-within strictly-within within-free minus dot located fan follow sides lines-around unentered lines-seen seen-from numbers row-count crossings placed viewed no-room listing-numbers listing-row-count listing-crossings listed listed-up-to exceeds out-of-reach far wrong-reach
 listed-open = refl
 
 pub always-refused-breaks-demand-1 : (r : Refusal) (after : List ℕ) {numbers : List ℕ} → Answers numbers (list-conditions triangles corners-of-Q cells-of-Q doors-of-Q (query 0) C.NotStated 16) (refused r) untouched after → ⊥
@@ -199,7 +200,7 @@ the-same-rows-always-break-demand-2 n k before before′ after as-open as-shut =
 
 -- all sides of the stand's cell but side 0 as walls: the direction (−3, 5) is on the row of face 2, while its walk ends at face 4
 walls-listed : other-sides-as-walls triangles corners-of-Q cells-of-Q doors-of-Q (query 0) untouched ≡ (Rows 3 0, 0 ∷ 0 ∷ 1 ∷ 0 ∷ 1 ∷ 1 ∷ 2 ∷ 0 ∷ 2 ∷ 2 ∷ 0 ∷ 0 ∷ old ∷ old ∷ old ∷ old ∷ [])
-unfolding ofBits side sized least home next start neighbour answers back cell-of cut-triangles cut-polygons cut pairs faces-of firsts-from tables cells-of framed outside wrong-corner some-face wrong-for-side missing-corner wrong-side wrong-cell wrong-neighbour names wrong-door checked-cells checked shut wrong-setting bars ends whole whole-point stood not-left-of right-of against is-within strictly-within within-free minus dot located fan follow sides lines-around unentered lines-seen seen-from numbers row-count crossings placed viewed no-room as-walls first-line-alone out-of-reach far wrong-reach
+unfolding ofBits side sized least home next start neighbour answers back cell-of cut-triangles cut-polygons cut pairs faces-of firsts-from tables cells-of framed outside wrong-corner some-face wrong-for-side missing-corner wrong-side wrong-cell wrong-neighbour names wrong-door strictly-left separates overlapping in-a-pair checked-cells checked shut wrong-setting bars ends whole whole-point stood not-left-of right-of against is-within strictly-within within-free minus dot located fan follow sides lines-around unentered lines-seen seen-from numbers row-count crossings placed viewed no-room as-walls first-line-alone out-of-reach far wrong-reach
 walls-listed = refl
 
 no-row-of-face-4 : (i : ℕ) → i < 3 → row-at (0 ∷ 0 ∷ 1 ∷ 0 ∷ 1 ∷ 1 ∷ 2 ∷ 0 ∷ 2 ∷ 2 ∷ 0 ∷ 0 ∷ old ∷ old ∷ old ∷ old ∷ []) i .face ≡ 4 → ⊥
@@ -223,15 +224,15 @@ invented-crossings-break-demand-2 kind cs ts ds a before after n k demand at the
 -- ---- demand 3, in the hall: its door is shut, from the true list
 
 listed-while-open : listed triangles corners-of-hall cells-of-hall doors-of-hall query-in-hall hall-table ≡ (Rows 6 6, open-hall)
-unfolding ofBits side sized least home next start neighbour answers back cell-of cut-triangles cut-polygons cut pairs faces-of firsts-from tables cells-of framed outside wrong-corner some-face wrong-for-side missing-corner wrong-side wrong-cell wrong-neighbour names wrong-door checked-cells checked shut wrong-setting bars ends whole whole-point stood not-left-of right-of against is-within strictly-within within-free minus dot located fan follow sides lines-around unentered lines-seen seen-from numbers row-count crossings placed viewed no-room listing-numbers listing-row-count listing-crossings listed out-of-reach far wrong-reach
+unfolding ofBits side sized least home next start neighbour answers back cell-of cut-triangles cut-polygons cut pairs faces-of firsts-from tables cells-of framed outside wrong-corner some-face wrong-for-side missing-corner wrong-side wrong-cell wrong-neighbour names wrong-door strictly-left separates overlapping in-a-pair checked-cells checked shut wrong-setting bars ends whole whole-point stood not-left-of right-of against is-within strictly-within within-free minus dot located fan follow sides lines-around unentered lines-seen seen-from numbers row-count crossings placed viewed no-room listing-numbers listing-row-count listing-crossings listed out-of-reach far wrong-reach
 listed-while-open = refl
 
 listed-once-shut : listed triangles corners-of-hall cells-of-hall doors-of-hall (wished-for true query-in-hall 0) hall-table ≡ (Rows 5 4, sets hall-table 0 shut-hall)
-unfolding ofBits side sized least home next start neighbour answers back cell-of cut-triangles cut-polygons cut pairs faces-of firsts-from tables cells-of framed outside wrong-corner some-face wrong-for-side missing-corner wrong-side wrong-cell wrong-neighbour names wrong-door checked-cells checked shut with-shut wrong-setting bars ends whole whole-point stood not-left-of right-of against is-within strictly-within within-free minus dot located fan follow sides lines-around unentered lines-seen seen-from numbers row-count crossings placed viewed no-room listing-numbers listing-row-count listing-crossings listed out-of-reach far wrong-reach
+unfolding ofBits side sized least home next start neighbour answers back cell-of cut-triangles cut-polygons cut pairs faces-of firsts-from tables cells-of framed outside wrong-corner some-face wrong-for-side missing-corner wrong-side wrong-cell wrong-neighbour names wrong-door strictly-left separates overlapping in-a-pair checked-cells checked shut with-shut wrong-setting bars ends whole whole-point stood not-left-of right-of against is-within strictly-within within-free minus dot located fan follow sides lines-around unentered lines-seen seen-from numbers row-count crossings placed viewed no-room listing-numbers listing-row-count listing-crossings listed out-of-reach far wrong-reach
 listed-once-shut = refl
 
 not-underfoot : door-underfoot corners-of-hall (cells-of triangles cells-of-hall) doors-of-hall 0 0 (stood corners-of-hall stand-in-hall) ≡ false
-unfolding ofBits side sized least home next start neighbour answers back cell-of cut-triangles cut-polygons cut pairs faces-of firsts-from tables cells-of framed outside wrong-corner some-face wrong-for-side missing-corner wrong-side wrong-cell wrong-neighbour names wrong-door checked-cells checked wrong-setting whole whole-point stood not-left-of right-of against is-within strictly-within within-free minus dot located
+unfolding ofBits side sized least home next start neighbour answers back cell-of cut-triangles cut-polygons cut pairs faces-of firsts-from tables cells-of framed outside wrong-corner some-face wrong-for-side missing-corner wrong-side wrong-cell wrong-neighbour names wrong-door strictly-left separates overlapping in-a-pair checked-cells checked wrong-setting whole whole-point stood not-left-of right-of against is-within strictly-within within-free minus dot located
 not-underfoot = refl
 
 may-shut : no-change doors-of-hall 0 0 true ≡ false

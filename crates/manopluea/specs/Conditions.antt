@@ -1,6 +1,6 @@
 -- The table of replies (document 01, "Reply numbers"; document 02), call by call: each number that the paper gives the call, when it applies, and its place. They
--- stand in the order in which they are asked: that of the numbers, where 15 goes after 8 and before 9. So the first that applies is the reply. `CheckAnswers` and
--- the like are demand 1 of that call.
+-- stand in the order in which they are asked: that of the numbers, where 17 goes after 6 and before 7, and 15 after 8 and before 9. So the first that applies
+-- is the reply. `CheckAnswers` and the like are demand 1 of that call.
 use mathlib.Core.Bool.{Bool, true, false, not, _&&_, _||_}
 use mathlib.Core.List.{List, [], _∷_, _++_, map}
 use mathlib.Core.Path.{_≡_}
@@ -12,7 +12,7 @@ use Rattle.plane.specs.Side.{Point}
 use Rattle.limits.specs.Limits.{most-stands, sized}
 use Rattle.cells.specs.Lists.{Cells, corner-count, cell-count, face-count}
 use Rattle.cells.specs.Cut.{cells-of}
-use Rattle.cells.specs.Check.{framed, first-wrong-corner, first-wrong-cell, first-wrong-face, first-wrong-door}
+use Rattle.cells.specs.Check.{framed, first-wrong-corner, first-wrong-cell, first-wrong-face, first-wrong-door, first-overlapping}
 use Rattle.limits.specs.Reply.{Reply}
 use Rattle.setting.specs.Setting.{wrong-setting}
 use Rattle.records.specs.Record.{framed as framed-records}
@@ -67,13 +67,14 @@ plan-conditions-with too-many kind cs ts ds =
     ∷ when 4 (ltb (first-wrong-cell cs (cells-of kind ts)) (cell-count (cells-of kind ts))) (first-wrong-cell cs (cells-of kind ts))
     ∷ when 5 (ltb (first-wrong-face (cells-of kind ts)) (face-count (cells-of kind ts))) (first-wrong-face (cells-of kind ts))
     ∷ when 6 (ltb (first-wrong-door (cells-of kind ts) ds) (length ds)) (first-wrong-door (cells-of kind ts) ds)
+    ∷ when 17 (ltb (first-overlapping cs (cells-of kind ts)) (cell-count (cells-of kind ts))) (first-overlapping cs (cells-of kind ts))
     ∷ []
 
 abbrev pub plan-conditions : ℕ → List ℤ → List ℕ → List ℕ → List Condition
 plan-conditions = plan-conditions-with false
 
 abbrev pub CheckAnswers : ℕ → List ℤ → List ℕ → List ℕ → Type 0
-CheckAnswers kind cs ts ds = Answers {M = Unit {0}} (1 ∷ 2 ∷ 3 ∷ 4 ∷ 5 ∷ 6 ∷ []) (plan-conditions kind cs ts ds) (check-replies kind cs ts ds) tt tt
+CheckAnswers kind cs ts ds = Answers {M = Unit {0}} (1 ∷ 2 ∷ 3 ∷ 4 ∷ 5 ∷ 6 ∷ 17 ∷ []) (plan-conditions kind cs ts ds) (check-replies kind cs ts ds) tt tt
 
 -- ---- the plan file: reader and writer
 
@@ -86,7 +87,7 @@ read-conditions s n m k =
 
 abbrev pub ReadAnswers : List ℕ → List ℤ → List ℕ → List ℕ → Type 0
 ReadAnswers file corners cells doors =
-    Answers (1 ∷ 1 ∷ 2 ∷ 3 ∷ 4 ∷ 5 ∷ 6 ∷ 11 ∷ []) (read-conditions file (length corners) (length cells) (length doors)) (read-replies file corners cells doors .0) (corners, (cells, doors)) (read-replies file corners cells doors .1)
+    Answers (1 ∷ 1 ∷ 2 ∷ 3 ∷ 4 ∷ 5 ∷ 6 ∷ 17 ∷ 11 ∷ []) (read-conditions file (length corners) (length cells) (length doors)) (read-replies file corners cells doors .0) (corners, (cells, doors)) (read-replies file corners cells doors .1)
 
 -- the plan; then bytes shorter than the file
 abbrev pub write-conditions : ℕ → List ℤ → List ℕ → List ℕ → ℕ → List Condition
@@ -94,7 +95,7 @@ write-conditions kind cs ts ds room = plan-conditions kind cs ts ds ++ (when 11 
 
 abbrev pub WriteAnswers : ℕ → List ℤ → List ℕ → List ℕ → List ℕ → Type 0
 WriteAnswers kind cs ts ds file =
-    Answers (1 ∷ 2 ∷ 3 ∷ 4 ∷ 5 ∷ 6 ∷ 11 ∷ []) (write-conditions kind cs ts ds (length file)) (write-replies kind cs ts ds file .0) file (write-replies kind cs ts ds file .1)
+    Answers (1 ∷ 2 ∷ 3 ∷ 4 ∷ 5 ∷ 6 ∷ 17 ∷ 11 ∷ []) (write-conditions kind cs ts ds (length file)) (write-replies kind cs ts ds file .0) file (write-replies kind cs ts ds file .1)
 
 -- ---- the stand: finding
 
@@ -141,7 +142,7 @@ find-conditions kind cs ts ds w s =
 
 abbrev pub FindAnswers : ℕ → List ℤ → List ℕ → List ℕ → ℕ → Stand → Type 0
 FindAnswers kind cs ts ds w s =
-    Answers {M = Unit {0}} (1 ∷ 2 ∷ 3 ∷ 4 ∷ 5 ∷ 6 ∷ 7 ∷ 8 ∷ 9 ∷ 10 ∷ []) (find-conditions kind cs ts ds w s) (find-replies kind cs ts ds w s) tt tt
+    Answers {M = Unit {0}} (1 ∷ 2 ∷ 3 ∷ 4 ∷ 5 ∷ 6 ∷ 17 ∷ 7 ∷ 8 ∷ 9 ∷ 10 ∷ []) (find-conditions kind cs ts ds w s) (find-replies kind cs ts ds w s) tt tt
 
 -- ---- listing and door change
 
@@ -188,7 +189,7 @@ list-conditions kind cs ts ds a c room =
 
 abbrev pub ListAnswers : ℕ → List ℤ → List ℕ → List ℕ → Query → Ceiling → List ℕ → Type 0
 ListAnswers kind cs ts ds a c table =
-    Answers (1 ∷ 2 ∷ 3 ∷ 4 ∷ 5 ∷ 6 ∷ 7 ∷ 8 ∷ 15 ∷ 9 ∷ 10 ∷ 11 ∷ 19 ∷ []) (list-conditions kind cs ts ds a c (length table)) (list-replies kind cs ts ds a c table .0) table (list-replies kind cs ts ds a c table .1)
+    Answers (1 ∷ 2 ∷ 3 ∷ 4 ∷ 5 ∷ 6 ∷ 17 ∷ 7 ∷ 8 ∷ 15 ∷ 9 ∷ 10 ∷ 11 ∷ 19 ∷ []) (list-conditions kind cs ts ds a c (length table)) (list-replies kind cs ts ds a c table .0) table (list-replies kind cs ts ds a c table .1)
 
 -- the stand is on a side, and the door is there and its line holds the stand strictly within (document 02, A4)
 abbrev pub door-underfoot : List ℤ → Cells → List ℕ → ℕ → ℕ → Spot → Bool
@@ -206,7 +207,7 @@ change-conditions kind cs ts ds a given i b room =
 
 abbrev pub ChangeAnswers : ℕ → List ℤ → List ℕ → List ℕ → Query → List ℕ → ℕ → Bool → List ℕ → Type 0
 ChangeAnswers kind cs ts ds a given i b table =
-    Answers (1 ∷ 2 ∷ 3 ∷ 4 ∷ 5 ∷ 6 ∷ 7 ∷ 8 ∷ 15 ∷ 9 ∷ 10 ∷ 11 ∷ 12 ∷ 13 ∷ []) (change-conditions kind cs ts ds a given i b (length table)) (change-replies kind cs ts ds a given i b table .0) table (change-replies kind cs ts ds a given i b table .1)
+    Answers (1 ∷ 2 ∷ 3 ∷ 4 ∷ 5 ∷ 6 ∷ 17 ∷ 7 ∷ 8 ∷ 15 ∷ 9 ∷ 10 ∷ 11 ∷ 12 ∷ 13 ∷ []) (change-conditions kind cs ts ds a given i b (length table)) (change-replies kind cs ts ds a given i b table .0) table (change-replies kind cs ts ds a given i b table .1)
 
 -- ---- a morning's stands together (document 02, A1)
 
@@ -222,4 +223,4 @@ list-stands-conditions kind cs ts ds m room places =
 
 abbrev pub ListStandsAnswers : ℕ → List ℤ → List ℕ → List ℕ → Morning → List Stand → List ℕ → List ℕ → Type 0
 ListStandsAnswers kind cs ts ds m stands table replies =
-    Answers (1 ∷ 2 ∷ 3 ∷ 4 ∷ 5 ∷ 6 ∷ 7 ∷ 11 ∷ []) (list-stands-conditions kind cs ts ds m (length table) (length replies)) (list-stands-replies kind cs ts ds m stands table replies .0) (table, replies) (list-stands-replies kind cs ts ds m stands table replies .1)
+    Answers (1 ∷ 2 ∷ 3 ∷ 4 ∷ 5 ∷ 6 ∷ 17 ∷ 7 ∷ 11 ∷ []) (list-stands-conditions kind cs ts ds m (length table) (length replies)) (list-stands-replies kind cs ts ds m stands table replies .0) (table, replies) (list-stands-replies kind cs ts ds m stands table replies .1)

@@ -11,7 +11,7 @@ use Rattle.limits.specs.declared.Checked.the-variants.{Accepted}
 use Rattle.cells.specs.Least.{least}
 use Rattle.cells.specs.Lists.{home, next, start, neighbour}
 use Rattle.cells.specs.Cut.{cell-of, cut-polygons, cut, pairs, faces-of, firsts-from, tables, cells-of}
-use Rattle.cells.specs.Check.{framed as Check·framed, outside, wrong-corner, some-face, wrong-for-side, missing-corner, wrong-side, wrong-cell, wrong-neighbour, wrong-door, checked-cells, checked}
+use Rattle.cells.specs.Check.{framed as Check·framed, outside, wrong-corner, some-face, wrong-for-side, missing-corner, wrong-side, wrong-cell, wrong-neighbour, wrong-door, strictly-left, separates, overlapping, in-a-pair, checked-cells, checked}
 use Rattle.cells.specs.PlanQ.{corners-of-Q, cells-of-Q, doors-of-Q}
 use Rattle.records.specs.Bytes.{bytes, number-at, all-bytes, numbers-at, complement, signed}
 use Rattle.records.specs.Record.{record-of, corner-record, cell-record, door-record, end-of, is-record, is-cells, framed}
@@ -68,7 +68,7 @@ unfolding framed is-cells is-record end-of number-at
 the-frame-of-one-cell = refl
 
 pub one-cell-is-accepted : checked polygons corners-of-Q one-cell [] ≡ Accepted (record { corners = 4; cells = 1; doors = 0 })
-unfolding checked Check·framed cut cut-polygons cell-of cells-of tables faces-of pairs firsts-from checked-cells sized wrong-corner outside wrong-cell some-face missing-corner wrong-side wrong-for-side wrong-neighbour wrong-door least start next home neighbour side
+unfolding checked Check·framed cut cut-polygons cell-of cells-of tables faces-of pairs firsts-from checked-cells sized wrong-corner outside wrong-cell some-face missing-corner wrong-side wrong-for-side wrong-neighbour wrong-door strictly-left separates overlapping in-a-pair least start next home neighbour side
 one-cell-is-accepted = refl
 
 pub the-reply-to-one-cell : read-reply file-of-one-cell 8 9 0 ≡ ReadAccepted (record { corners = 4; cells = 1; doors = 0 }) polygons 9

@@ -12,7 +12,7 @@ use Rattle.limits.specs.Limits.{sized}
 use Rattle.cells.specs.Least.{least}
 use Rattle.cells.specs.Lists.{home, next, start, neighbour, answers, back}
 use Rattle.cells.specs.Cut.{cell-of, cut-triangles, cut-polygons, cut, pairs, faces-of, firsts-from, tables, cells-of}
-use Rattle.cells.specs.Check.{framed as framed-lists, outside, wrong-corner, some-face, wrong-for-side, missing-corner, wrong-side, wrong-cell, wrong-neighbour, names, wrong-door, checked-cells, checked}
+use Rattle.cells.specs.Check.{framed as framed-lists, outside, wrong-corner, some-face, wrong-for-side, missing-corner, wrong-side, wrong-cell, wrong-neighbour, names, wrong-door, strictly-left, separates, overlapping, in-a-pair, checked-cells, checked}
 use Rattle.setting.specs.Setting.{shut, wrong-setting, bars, ends}
 use Rattle.records.specs.Bytes.{number-at, numbers-at, signed}
 use Rattle.records.specs.Record.{end-of, is-record, is-cells, framed}
@@ -38,7 +38,7 @@ query =
 
 -- query (6,3), setting 0, with plan Q prints exactly
 pub case-a-is-printed : printed (query ++ file) ≡ word "rows 4 crossings 1\n0 0 1 0\n1 1 2 0\n4 2 3 0\n5 3 0 0\n"
-unfolding ofBits side sized least home next start neighbour answers back cell-of cut-triangles cut-polygons cut pairs faces-of firsts-from tables cells-of framed-lists outside wrong-corner some-face wrong-for-side missing-corner wrong-side wrong-cell wrong-neighbour names wrong-door checked-cells checked shut wrong-setting bars ends whole whole-point stood not-left-of right-of against is-within strictly-within within-free minus dot located fan follow sides lines-around unentered lines-seen seen-from numbers row-count crossings placed viewed no-room listing-numbers listing-row-count listing-crossings listed number-at numbers-at signed end-of is-record is-cells framed corners-in cells-in doors-in digits decimal refusal-line count-line row-line row-lines begins file-listed printed out-of-reach far wrong-reach
+unfolding ofBits side sized least home next start neighbour answers back cell-of cut-triangles cut-polygons cut pairs faces-of firsts-from tables cells-of framed-lists outside wrong-corner some-face wrong-for-side missing-corner wrong-side wrong-cell wrong-neighbour names wrong-door strictly-left separates overlapping in-a-pair checked-cells checked shut wrong-setting bars ends whole whole-point stood not-left-of right-of against is-within strictly-within within-free minus dot located fan follow sides lines-around unentered lines-seen seen-from numbers row-count crossings placed viewed no-room listing-numbers listing-row-count listing-crossings listed number-at numbers-at signed end-of is-record is-cells framed corners-in cells-in doors-in digits decimal refusal-line count-line row-line row-lines begins file-listed printed out-of-reach far wrong-reach
 case-a-is-printed = refl
 
 -- a missing query

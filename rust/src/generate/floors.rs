@@ -1,4 +1,5 @@
-//! The families of floors.
+//! The families of floors. No two cells of a floor overlap, but for those of ramps that
+//! wind more than once; others that do are in `overlaps`.
 
 use super::dice::Dice;
 use super::mesh::{side_value, Mesh, Spot};
@@ -6,7 +7,7 @@ use crate::paper::{CELLS, COORDINATES, CORNERS};
 use std::collections::BTreeMap;
 
 /// The end of the coordinate range.
-const EDGE: i64 = *COORDINATES.end();
+pub const EDGE: i64 = *COORDINATES.end();
 
 /// A random floor of a random family.
 pub fn random(dice: &mut Dice) -> Mesh {
@@ -28,8 +29,8 @@ pub fn random(dice: &mut Dice) -> Mesh {
     mesh
 }
 
-/// A floor whose lines are worth standing on: between cells of every size, or with
-/// other cells on top of them.
+/// A floor whose lines are worth standing on: between cells of every size, or all towards
+/// one corner or core.
 pub fn with_lines(dice: &mut Dice) -> Mesh {
     let mut mesh = if dice.percent(60) {
         tiles(dice)
@@ -51,17 +52,19 @@ pub fn straight(dice: &mut Dice) -> Mesh {
 /// out as pillars; the rest of the surplus goes at one end, whose corners then
 /// are in no cell.
 pub fn largest(pillars: usize, dice: &mut Dice) -> Mesh {
-    let mut mesh = grid(&even(31, 1_000), &even(63, 1_000), 300, dice);
-    let surplus = mesh.cells.len() - CELLS.end();
-    let pillars = pillars.min(surplus);
-    let rest = mesh.cells.len() - (surplus - pillars);
-    let mut keep = vec![true; rest];
-    keep[..pillars].fill(false);
-    dice.shuffle(&mut keep);
-    keep.resize(mesh.cells.len(), false);
-    mesh.keep_cells(&keep);
-    flip_some(&mut mesh, dice, 500);
-    mesh
+    without_overlap(|| {
+        let mut mesh = grid(&even(31, 1_000), &even(63, 1_000), 300, dice);
+        let surplus = mesh.cells.len() - CELLS.end();
+        let pillars = pillars.min(surplus);
+        let rest = mesh.cells.len() - (surplus - pillars);
+        let mut keep = vec![true; rest];
+        keep[..pillars].fill(false);
+        dice.shuffle(&mut keep);
+        keep.resize(mesh.cells.len(), false);
+        mesh.keep_cells(&keep);
+        flip_some(&mut mesh, dice, 500);
+        mesh
+    })
 }
 
 /// The deepest floor: a stand in it, and as many cells as a plan may have, all
@@ -92,6 +95,22 @@ pub fn deepest() -> (Mesh, Spot) {
     (Mesh::of_cells(corners, &cells), [wide, ray])
 }
 
+/// Slivers: as many cells as a plan may have, and the boxes of all but one of them meet.
+///
+/// A row of corners goes from west to east, up and down in turn. From each of its lines
+/// there is a cell to a tip in the north and one to a tip in the south, both west of all.
+pub fn slivers() -> Mesh {
+    let lines = CELLS.end() / 2 - 1;
+    let mut corners = vec![[-1_000, 20_000], [-1_000, -20_000], [-3_000, 0]];
+    let (north, south, west, first) = (0, 1, 2, 3);
+    corners.extend((0..=lines as i64).map(|i| [100 * i, 10 * (i % 2)]));
+    let mut cells = vec![[west, south, north], [first, north, south]];
+    for at in first..first + lines {
+        cells.extend([[north, at, at + 1], [south, at + 1, at]]);
+    }
+    Mesh::of_cells(corners, &cells)
+}
+
 fn one_cell(dice: &mut Dice) -> Mesh {
     let size = scale(dice);
     loop {
@@ -103,18 +122,29 @@ fn one_cell(dice: &mut Dice) -> Mesh {
     }
 }
 
-/// A grid whose corners are moved, sometimes so far that cells fall out.
+/// A grid whose corners are moved, sometimes so far that cells fall out. Where cells come
+/// to lie on top of others for that, it is drawn again.
 fn jittered_grid(dice: &mut Dice) -> Mesh {
     let (columns, rows) = (1 + some(6, dice), 1 + some(6, dice));
     // Twenty columns of the largest step still lie within the limits.
     let step = dice.pick(&[6, 20, 1_000, 40_000_000]);
     let jitter = step * dice.pick(&[0, 10, 30, 45]) / 100;
-    let mut mesh = grid(&even(columns, step), &even(rows, step), jitter, dice);
+    let mut mesh = without_overlap(|| grid(&even(columns, step), &even(rows, step), jitter, dice));
     if mesh.cells.is_empty() {
         return one_cell(dice);
     }
     flip_some(&mut mesh, dice, 3 * columns * rows);
     mesh
+}
+
+/// Draws until no two cells overlap.
+fn without_overlap(mut draw: impl FnMut() -> Mesh) -> Mesh {
+    loop {
+        let mesh = draw();
+        if !mesh.overlaps() {
+            return mesh;
+        }
+    }
 }
 
 /// Cell corners at these x and y, moved at random; each square is parted by
@@ -364,27 +394,47 @@ impl Winding {
     }
 }
 
-/// Cells that wind around a core, mostly more than once, and so lie on top of
-/// each other. The ends are walls, or join into a ring.
+/// Cells that wind around a core, once at most. The ends are walls, or join into a ring.
 fn ramp(dice: &mut Dice) -> Mesh {
-    let around = match dice.below(3) {
+    let around = directions(dice);
+    let turn = around.len();
+    let part = 1 + dice.below(turn);
+    let sections = dice.pick(&[turn, part]);
+    wind(around, sections, sections == turn && dice.percent(70), dice)
+}
+
+/// Cells that wind around a core more than once, and so lie on top of each other, now and
+/// then with a wall between two turns.
+pub fn wound(dice: &mut Dice) -> Mesh {
+    let around = directions(dice);
+    let turn = around.len();
+    let turns = 2 + dice.below(2);
+    let is_ring = dice.percent(50);
+    let surplus = if is_ring { 0 } else { dice.below(turn) };
+    let mut mesh = wind(around, turn * turns - surplus, is_ring, dice);
+    if dice.percent(30) {
+        mesh.cut(dice.below(mesh.across.len()));
+    }
+    mesh
+}
+
+/// The directions that sections of a ramp begin in.
+fn directions(dice: &mut Dice) -> Vec<Spot> {
+    match dice.below(3) {
         0 => vec![AROUND[0], AROUND[3], AROUND[5]],
         1 => AROUND.iter().copied().step_by(2).collect(),
         _ => AROUND.to_vec(),
-    };
-    let turn = around.len();
-    let turns = 1 + dice.below(3);
-    let (sections, stations) = if dice.percent(50) {
-        (turn * turns, turn * turns)
-    } else {
-        let sections = turn * turns + dice.below(turn);
-        (sections, sections + 1)
-    };
+    }
+}
+
+fn wind(around: Vec<Spot>, sections: usize, is_ring: bool, dice: &mut Dice) -> Mesh {
+    let stations = sections + usize::from(!is_ring);
+    let own = dice.pick(&[around.len().min(stations), stations]);
     let winding = Winding {
         around,
         sections,
         stations,
-        own: dice.pick(&[turn, stations]),
+        own,
     };
     if dice.percent(50) {
         ramp_round_corner(&winding, dice)
@@ -441,7 +491,7 @@ fn ramp_round_core(winding: &Winding, dice: &mut Dice) -> Mesh {
     mesh
 }
 
-fn times(at: Spot, factor: i64) -> Spot {
+pub fn times(at: Spot, factor: i64) -> Spot {
     [at[0] * factor, at[1] * factor]
 }
 
@@ -524,7 +574,7 @@ fn rays(dice: &mut Dice) -> Mesh {
 }
 
 /// Triangles that a convex cell is parted into, cut off at random corners.
-fn part(mut corners: Vec<usize>, dice: &mut Dice) -> Vec<[usize; 3]> {
+pub fn part(mut corners: Vec<usize>, dice: &mut Dice) -> Vec<[usize; 3]> {
     let mut cells = Vec::new();
     while corners.len() > 2 {
         let first = dice.below(corners.len());
@@ -583,7 +633,7 @@ fn build_inside(mesh: &mut Mesh, dice: &mut Dice) {
 }
 
 /// Place, size and numbers of a floor.
-fn finish(mesh: &mut Mesh, dice: &mut Dice) {
+pub fn finish(mesh: &mut Mesh, dice: &mut Dice) {
     if dice.percent(30) {
         mesh.drop_unused_corners();
     }
@@ -639,15 +689,39 @@ pub fn slant(extent: i64, dice: &mut Dice) -> impl Fn(Spot) -> Spot {
     }
 }
 
-/// Fills a floor up with corners in no cell, and with cells between walls on
-/// top of its first one, up to a corner and a cell limit.
-pub fn fill_up(mesh: &mut Mesh, corners: bool, cells: bool) {
+/// Fills a floor up with cells beside it, and with corners in no cell, up to a cell and a
+/// corner limit. Where there is no room for so many cells, there are none.
+pub fn fill_up(mesh: &mut Mesh, corners: bool, cells: bool, dice: &mut Dice) {
+    if cells {
+        add_hall(mesh, CELLS.end() - mesh.cells.len(), dice);
+    }
     while corners && mesh.corners.len() < *CORNERS.end() {
         mesh.corners.push(mesh.corners[0]);
     }
-    while cells && mesh.cells.len() < *CELLS.end() {
-        mesh.add_cell(mesh.cells[0]);
-    }
+}
+
+/// Adds a hall of so many cells west or east of a floor, if there is room for it.
+fn add_hall(mesh: &mut Mesh, count: usize, dice: &mut Dice) {
+    // The wider it is, the fewer corners it has.
+    let columns = 20;
+    let rows = count.div_ceil(2 * columns);
+    let (wide, high) = (columns as i64, rows as i64);
+    let least = |axis: usize| mesh.corners.iter().map(|at| at[axis]).min().unwrap_or(0);
+    let most = |axis: usize| mesh.corners.iter().map(|at| at[axis]).max().unwrap_or(0);
+    let mut sides = [least(0) - wide, most(0)].into_iter();
+    let west = sides.find(|west| (-EDGE..=EDGE - wide).contains(west));
+    let corners = mesh.corners.len() + (columns + 1) * (rows + 1);
+    let Some(west) = west.filter(|_| corners <= *CORNERS.end()) else {
+        return;
+    };
+    let south = least(1).min(EDGE - high);
+    let xs: Vec<i64> = (0..=wide).map(|x| west + x).collect();
+    let ys: Vec<i64> = (0..=high).map(|y| south + y).collect();
+    let mut hall = grid(&xs, &ys, 0, dice);
+    let mut keep = vec![true; count];
+    keep.resize(hall.cells.len(), false);
+    hall.keep_cells(&keep);
+    mesh.add(&hall);
 }
 
 fn flip_some(mesh: &mut Mesh, dice: &mut Dice, tries: usize) {
@@ -667,7 +741,7 @@ fn scale(dice: &mut Dice) -> i64 {
     dice.pick(&[3, 10, 10, 100, 10_000, 1_000_000, EDGE])
 }
 
-fn spot(dice: &mut Dice, size: i64) -> Spot {
+pub fn spot(dice: &mut Dice, size: i64) -> Spot {
     [dice.between(-size, size), dice.between(-size, size)]
 }
 

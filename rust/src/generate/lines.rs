@@ -90,8 +90,7 @@ impl Lines {
     pub fn random(&self, dice: &mut Dice) -> Option<OnLine> {
         match dice.below(20) {
             0..=8 => self.in_doorway(dice).or_else(|| self.within_free(dice)),
-            9..=14 => self.within_free(dice),
-            15 => self.inside_another(dice).or_else(|| self.within_free(dice)),
+            9..=15 => self.within_free(dice),
             16 | 17 => within_some(&self.walls, dice),
             // An end, and a step beyond it.
             18 => self.free_side(dice).map(|ends| OnLine::new(ends[0], ends)),
@@ -128,14 +127,6 @@ impl Lines {
             let lines = dice.pick(&sizes);
             dice.pick(lines)
         })
-    }
-
-    /// A spot on a line that a cell on top of it holds strictly inside.
-    fn inside_another(&self, dice: &mut Dice) -> Option<OnLine> {
-        let tries = if self.cells.len() > 100 { 2 } else { 40 };
-        (0..tries)
-            .filter_map(|_| self.in_doorway(dice).or_else(|| self.within_free(dice)))
-            .find(|on_line| self.cells.iter().any(|cell| is_inside(cell, on_line.at)))
     }
 }
 

@@ -1,11 +1,12 @@
 //! A floor under construction: corners, cells and the links between faces.
 //!
 //! Every step keeps what the plan check asks for: cells of positive side
-//! value, and links that answer each other along the same two corners.
+//! value, and links that answer each other along the same two corners. Where no two
+//! cells overlap it keeps that too, but for a cell that is added.
 
 use super::dice::Dice;
-use crate::calls::{Plan, TRIANGLES};
-use crate::paper::WALL;
+use crate::calls::{Plan, Refusal, TRIANGLES};
+use crate::paper::{Floor, WALL};
 
 pub type Spot = [i64; 2];
 
@@ -261,6 +262,33 @@ impl Mesh {
             *corner = new;
         }
         self.corners = kept;
+    }
+
+    /// Adds the cells of another floor, with the corners that they have there.
+    pub fn add(&mut self, other: &Mesh) {
+        let (corners, faces) = (self.corners.len(), self.across.len());
+        self.corners.extend(&other.corners);
+        let cells = other.cells.iter();
+        self.cells
+            .extend(cells.map(|cell| cell.map(|corner| corners + corner)));
+        let across = other.across.iter();
+        self.across
+            .extend(across.map(|other| other.map(|other| faces + other)));
+    }
+
+    /// Makes one corner of all that are at the same spot. No cells become neighbours.
+    pub fn share_corners(&mut self) {
+        let spots = &self.corners;
+        for corner in self.cells.iter_mut().flatten() {
+            let at = spots.iter().position(|&spot| spot == spots[*corner]);
+            *corner = at.expect("it is at its own spot");
+        }
+    }
+
+    /// Whether two of its cells overlap, where it has no more than a plan may have.
+    pub fn overlaps(&self) -> bool {
+        let checked = Floor::check(self.plan(&[]).lists());
+        matches!(checked, Err(Refusal::Overlap(_)))
     }
 
     /// Largest distance of a coordinate from zero.

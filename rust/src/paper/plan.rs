@@ -1,6 +1,7 @@
 //! "Side value and plan check" for cells of 3 to 8 corners: the limits, the
 //! cells of a list, and the check, which turns the lists into a floor.
 
+use super::overlap::least_overlapping;
 use crate::calls::{Lists, Refusal, POLYGONS, TRIANGLES};
 use std::borrow::Cow;
 use std::ops::{Range, RangeInclusive};
@@ -116,8 +117,18 @@ pub struct Floor {
 }
 
 impl Floor {
-    /// The plan check. The order of the steps is the order of the numbers.
+    /// The plan check: last of all, no two cells overlap.
     pub fn check(lists: Lists<'_>) -> Result<Floor, Refusal> {
+        let floor = Floor::agreeing(lists)?;
+        match least_overlapping(&floor) {
+            Some(cell) => Err(Refusal::Overlap(cell)),
+            None => Ok(floor),
+        }
+    }
+
+    /// The check up to the doors, in the order of the numbers: cells that agree along
+    /// their lines, and yet may lie on top of each other.
+    pub fn agreeing(lists: Lists<'_>) -> Result<Floor, Refusal> {
         let cells = check_frame(lists)?;
         check_sizes(lists, &cells)?;
         let corners = check_corners(lists.corners)?;

@@ -10,7 +10,7 @@ use Rattle.cells.specs.Sound.{Numbered}
 use Rattle.cells.proofs.Tables.{numbered}
 use Rattle.cells.proofs.Checks.{in-a-frame}
 use Rattle.cells.proofs.Plans.{counts}
-use Rattle.checking.proofs.Tables.{drawn}
+use Rattle.face.proofs.Tables.{drawn}
 use Rattle.checking.proofs.Backs.{backed-of}
 use Rattle.checking.proofs.Measures.{whole-in-frame, few-faces}
 use borrow.Author.Needs.{needs}

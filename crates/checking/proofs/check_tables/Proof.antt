@@ -6,10 +6,10 @@ use borrow.Author.Needs.{needs}
 use denote.Ref.{now}
 use lib.ListN.{length}
 use Rattle.cells.specs.Lists.{Cells, corner-count, cell-count, face-count}
-use Rattle.cells.specs.Check.{wrong-neighbour, first-wrong-corner, first-wrong-cell, first-wrong-face}
+use Rattle.cells.specs.Check.{wrong-neighbour, first-wrong-corner, first-wrong-cell, first-wrong-face, first-wrong-door}
 use Rattle.cells.proofs.Least.{least-bounds, none-is-least}
 use Rattle.cells.proofs.Plans.{counts, meet-once}
-use Rattle.cells.proofs.Checks.{corners-near, near-is-right, cells-right, at-a-corner, at-a-cell, at-a-face, at-a-door, accepted}
+use Rattle.cells.proofs.Checks.{corners-near, near-is-right, cells-right, at-a-corner, at-a-cell, at-a-face, at-a-door, at-an-overlap, accepted}
 use Rattle.cells.specs.Lists.{tabled}
 use Rattle.checking.proofs.Measures.{few-faces}
 use Rattle.checking.proofs.check_tables.Statement.{statement}
@@ -40,6 +40,13 @@ came-to-the-end : (c : tie.Else3) → let s = c .before .before .before .before 
 came-to-the-end c =
     let s = c .before .before .before .before .before .before .before .before .before .before .before .before .before in
     omega (arith, c .if3 .left, c .before .before .before .least-wrong3 .ensures .0, least-bounds (wrong-neighbour (tables s)) (face-count (tables s)) 0)
+
+-- the faces on the other side were noted, and no door is wrong
+doors-pass : (c : tie.Else4) → let s = c .before .before .before .before .before .before .before .before .before .before .before .before .before .before .before .before in length (now (s .args .doors)) ≤ first-wrong-door (tables s) (now (s .args .doors))
+doors-pass c =
+    let s = c .before .before .before .before .before .before .before .before .before .before .before .before .before .before .before .before in
+    let noted = c .before .before .before .before .before .before .least-wrong3 .ensures .1 (came-to-the-end (c .before .before .before)) in
+    subst (λ (i : ℕ). length (now (s .args .doors)) ≤ i) (c .before .least-wrong4 .ensures (now (s .args .firsts)) noted) (c .if4 .left)
 
 -- ---- the ways out
 
@@ -91,16 +98,28 @@ returns-4 c =
     let noted = c .before .before .before .before .before .before .least-wrong3 .ensures .1 (came-to-the-end e) in
     (at-a-door (now (s .args .corners)) (tables s) (now (s .args .doors)) (s .pre .1 .0) (corners-pass (c .before .before .before .before .before .before .before .before .before .before)) (cells-pass (c .before .before .before .before .before .before .before .before)) (faces-pass e) (c .before .least-wrong4 .ensures (now (s .args .firsts)) noted) (c .if4 .taken), λ sound. noted)
 
+least-overlapping-requires : tie.Need-least-overlapping-requires
+least-overlapping-requires c κs =
+    let s = c .before .before .before .before .before .before .before .before .before .before .before .before .before .before .before .before in
+    (record { near = corners-near _ (corners-pass (c .before .before .before .before .before .before .before .before .before .before)); numbered = s .pre .0; right = cells-right _ _ (cells-pass (c .before .before .before .before .before .before .before .before)) }, counts _ _ _ (s .pre .1 .0) .cells-at-most)
+
 same-length-3 : tie.Need-same-length-3
 same-length-3 c = search needs
 
 returns-5 : tie.Need-returns-5
 returns-5 c =
-    let s = c .before .before .before .before .before .before .before .before .before .before .before .before .before .before .before .before in
-    let e = c .before .before .before in
-    let noted = c .before .before .before .before .before .before .least-wrong3 .ensures .1 (came-to-the-end e) in
-    let past = subst (λ (i : ℕ). length (now (s .args .doors)) ≤ i) (c .before .least-wrong4 .ensures (now (s .args .firsts)) noted) (c .if4 .left) in
-    (accepted (now (s .args .corners)) (tables s) (now (s .args .doors)) (s .pre .1 .0) (corners-pass (c .before .before .before .before .before .before .before .before .before .before)) (cells-pass (c .before .before .before .before .before .before .before .before)) (faces-pass e) past, λ sound. noted)
+    let s = c .before .before .before .before .before .before .before .before .before .before .before .before .before .before .before .before .before .before in
+    let noted = c .before .before .before .before .before .before .before .before .least-wrong3 .ensures .1 (came-to-the-end (c .before .before .before .before .before)) in
+    (at-an-overlap (now (s .args .corners)) (tables s) (now (s .args .doors)) (s .pre .1 .0) (corners-pass (c .before .before .before .before .before .before .before .before .before .before .before .before)) (cells-pass (c .before .before .before .before .before .before .before .before .before .before)) (faces-pass (c .before .before .before .before .before)) (doors-pass (c .before .before)) (c .before .least-overlapping .ensures) (c .if5 .taken), λ sound. noted)
+
+same-length-4 : tie.Need-same-length-4
+same-length-4 c = search needs
+
+returns-6 : tie.Need-returns-6
+returns-6 c =
+    let s = c .before .before .before .before .before .before .before .before .before .before .before .before .before .before .before .before .before .before in
+    let noted = c .before .before .before .before .before .before .before .before .least-wrong3 .ensures .1 (came-to-the-end (c .before .before .before .before .before)) in
+    (accepted (now (s .args .corners)) (tables s) (now (s .args .doors)) (s .pre .1 .0) (corners-pass (c .before .before .before .before .before .before .before .before .before .before .before .before)) (cells-pass (c .before .before .before .before .before .before .before .before .before .before)) (faces-pass (c .before .before .before .before .before)) (doors-pass (c .before .before)) (subst (λ (i : ℕ). cell-count (tables s) ≤ i) (c .before .least-overlapping .ensures) (c .if5 .left)), λ sound. noted)
 
 pub check-tables-spec : {M : Type 1} → statement M
 check-tables-spec =
@@ -117,5 +136,8 @@ check-tables-spec =
     least-wrong-requires-4
     same-length-2
     returns-4
+    least-overlapping-requires
     same-length-3
-    returns-5)
+    returns-5
+    same-length-4
+    returns-6)

@@ -3,7 +3,7 @@ use mathlib.Core.Path.{sym, _∙_}
 use Prim.Native.Nat.{_-_}
 use Rattle.cells.specs.Check.{wrong-side}
 use Rattle.cells.specs.Lists.{tabled}
-use Rattle.checking.proofs.Tables.{Looks, looks-first, looks-at, looks-on, found-a-side, found-no-side}
+use Rattle.face.proofs.Tables.{Looks, looks-first, looks-at, looks-on, found-a-side, found-no-side}
 use native.Mathlib.Omega.{arith}
 use Rattle.checking.proofs.cell.has_wrong_side.Statement.{statement}
 use Rattle.checking.proofs.cell.has_wrong_side.Tie as tie

@@ -7,7 +7,7 @@ use Rattle.cells.specs.Check.{wrong-for-side, wrong-side}
 use Rattle.cells.proofs.Faces.{side-exists}
 use Rattle.cells.proofs.Cells.{its-own-start}
 use Rattle.cells.specs.Lists.{tabled}
-use Rattle.checking.proofs.Tables.{next-exists, Looks, looks-first, looks-at, looks-on, found-a-side, found-no-side}
+use Rattle.face.proofs.Tables.{next-exists, Looks, looks-first, looks-at, looks-on, found-a-side, found-no-side}
 use Rattle.checking.proofs.Cells.{Ends, ends-of, the-same-again, at-the-finish, by-left, corners-there}
 use native.Mathlib.Omega.{arith}
 use Rattle.checking.proofs.cell.is_wrong_side.Statement.{statement}

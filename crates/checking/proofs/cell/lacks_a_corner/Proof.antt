@@ -7,7 +7,7 @@ use Rattle.cells.specs.Check.{missing-corner}
 use Rattle.cells.proofs.Faces.{side-exists}
 use Rattle.cells.proofs.Cells.{exists, is-missing}
 use Rattle.cells.specs.Lists.{tabled}
-use Rattle.checking.proofs.Tables.{Looks, looks-first, looks-at, looks-on, found-a-side, found-no-side}
+use Rattle.face.proofs.Tables.{Looks, looks-first, looks-at, looks-on, found-a-side, found-no-side}
 use native.Mathlib.Omega.{arith}
 use Rattle.checking.proofs.cell.lacks_a_corner.Statement.{statement}
 use Rattle.checking.proofs.cell.lacks_a_corner.Tie as tie

@@ -4,7 +4,7 @@ use denote.Ref.{now}
 use Rattle.cells.specs.Lists.{start}
 use Rattle.cells.proofs.Faces.{side-exists}
 use Rattle.cells.specs.Lists.{tabled}
-use Rattle.checking.proofs.Tables.{read-next, next-exists}
+use Rattle.face.proofs.Tables.{read-next, next-exists}
 use Rattle.checking.proofs.Meetings.{differs-at-the-start, reversed-by-its-finish}
 use Rattle.checking.proofs.neighbour.is_reversed.Statement.{statement}
 use Rattle.checking.proofs.neighbour.is_reversed.Tie as tie

@@ -4,7 +4,7 @@ use native.Mathlib.Omega.{arith}
 use Rattle.cells.specs.Check.{wrong-neighbour}
 use Rattle.cells.specs.Lists.{tabled}
 use Rattle.checking.specs.Backed.{BackedBelow}
-use Rattle.checking.proofs.Tables.{Looks, looks-first, looks-at, looks-on, looked-up, looked-past}
+use Rattle.face.proofs.Tables.{Looks, looks-first, looks-at, looks-on, looked-up, looked-past}
 use borrow.Author.Needs.{needs}
 use Rattle.checking.proofs.neighbour.least_in_cell.Statement.{statement}
 use Rattle.checking.proofs.neighbour.least_in_cell.Tie as tie

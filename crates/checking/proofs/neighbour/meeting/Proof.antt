@@ -6,7 +6,7 @@ use denote.Ref.{now}
 use Rattle.cells.specs.Lists.{answers}
 use Rattle.cells.proofs.Faces.{side-exists, home-is}
 use Rattle.cells.specs.Lists.{tabled}
-use Rattle.checking.proofs.Tables.{Looks, looks-first, looks-at, looks-on, looked-up}
+use Rattle.face.proofs.Tables.{Looks, looks-first, looks-at, looks-on, looked-up}
 use Rattle.checking.proofs.Meetings.{answers-where-reversed, names-another-cell, Unmet, none-yet, one-more, side-at-hand, passed-by, met, unmet}
 use native.Mathlib.Omega.{arith}
 use Rattle.checking.proofs.neighbour.meeting.Statement.{statement}

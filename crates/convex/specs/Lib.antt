@@ -1,0 +1,2 @@
+-- shapes, and fractional points strictly inside them
+pub mod Shape

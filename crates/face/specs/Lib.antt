@@ -1,0 +1,2 @@
+-- the side after a side
+pub mod Tables

@@ -1,0 +1,2 @@
+-- what a search for overlapping cells has found
+pub mod Search
