@@ -1,6 +1,6 @@
 //! Times of the public calls on four floors, of listings with a reach and up to a
 //! ceiling there, on one of them of a morning's stands and of its triangles merged
-//! into larger cells, and of the check alone on a floor of slivers: of the proved library,
+//! into larger cells, and of the check alone on two floors of slivers: of the proved library,
 //! of the second program and of plain Rust, side by side.
 
 use crate::calls::{Calls, DoorChange, Listing, Lists, Morning, Plan, Query, Reach, Stand, ROW};
@@ -112,7 +112,12 @@ pub fn report(proved: &dyn Calls) -> String {
         ];
         describe(floor, &medians(programs).map(Times::new))
     });
-    let text = calls.collect::<String>() + &report_slivers(proved);
+    let slivers = [
+        ("one fan", generate::one_fan()),
+        ("two fans", generate::two_fans()),
+    ];
+    let checks = slivers.map(|floor| report_slivers(floor, proved));
+    let text = calls.collect::<String>() + &checks.concat();
     let reaches = floors.iter().map(|floor| report_reaches(floor, proved));
     let text = text + &reaches.collect::<String>();
     let ceilings = floors.iter().map(|floor| report_ceilings(floor, proved));
@@ -121,8 +126,8 @@ pub fn report(proved: &dyn Calls) -> String {
 }
 
 /// The check where no box tells of two cells that they do not overlap.
-fn report_slivers(proved: &dyn Calls) -> String {
-    let plan = generate::slivers().plan(&[]);
+fn report_slivers((name, mesh): (&str, Mesh), proved: &dyn Calls) -> String {
+    let plan = mesh.plan(&[]);
     let lists = plan.lists();
     let programs: [[Call<'_>; 1]; 3] = [
         [Box::new(|| {
@@ -136,7 +141,7 @@ fn report_slivers(proved: &dyn Calls) -> String {
         })],
     ];
     let times = medians(programs);
-    let sizes = sizes("slivers", &plan);
+    let sizes = sizes(name, &plan);
     let check = line("check", 0, times.map(|[check]| check));
     format!("{sizes}\n{}{check}\n", columns())
 }
@@ -678,20 +683,27 @@ mod tests {
         );
     }
 
-    /// Slivers are accepted by each program, and the boxes of all but one of them meet.
+    /// Slivers are accepted by each program, and the boxes of all of them meet, of the two
+    /// fans all but one.
     #[test]
     fn the_slivers_are_checked_alike() {
-        let plan = generate::slivers().plan(&[]);
-        let lists = plan.lists();
-        let counts = Reply::done([1_503, 3_000, 0]);
-        assert_eq!(Paper.check(lists), counts);
-        assert_eq!(Proved.check(lists), counts);
-        let all = 2_999 * 2_998 / 2;
-        let pairs = plain::Pairs {
-            looked_at: all,
-            meeting: all,
-        };
-        assert_eq!(plain::pairs(lists), Ok(pairs));
+        let floors = [
+            (generate::one_fan(), [2_048, 2_046, 0], 2_046),
+            (generate::two_fans(), [1_503, 3_000, 0], 2_999),
+        ];
+        for (mesh, counts, cells) in floors {
+            let plan = mesh.plan(&[]);
+            let lists = plan.lists();
+            let counts = Reply::done(counts);
+            assert_eq!(Paper.check(lists), counts);
+            assert_eq!(Proved.check(lists), counts);
+            let all = cells * (cells - 1) / 2;
+            let pairs = plain::Pairs {
+                looked_at: all,
+                meeting: all,
+            };
+            assert_eq!(plain::pairs(lists), Ok(pairs));
+        }
     }
 
     /// What each program leaves for a listing: the same.

@@ -18,7 +18,8 @@ pub use ceilings::Ceiling;
 pub use dice::Dice;
 pub use extremes::{fullest, longest_fans, longest_lists, most_splits};
 pub use floors::{
-    cathedral, corridor, deepest, fence, largest, slivers, spot_at, steps_between, OCTAGON,
+    cathedral, corridor, deepest, fence, largest, one_fan, spot_at, steps_between, two_fans,
+    OCTAGON,
 };
 pub use lines::{Lines, OnLine};
 pub use merge::{in_other_kind, Merged};

@@ -1,17 +1,16 @@
 -- Numbers of boxes as the code reads them back: each fits 32 bits.
-use mathlib.Core.Bool.{Bool, true, false, _&&_}
+use mathlib.Core.Bool.{true, false}
 use mathlib.Core.Logic.{_⊎_, inl, inr}
 use mathlib.Core.Path.{_≡_, refl, sym, ap₂, _∙_, subst}
 use Prim.Native.Nat.{_^_, _<_, _≤_}
 use native.Mathlib.Omega.{arith}
 use lib.IntN.{ℤ, pos, negsuc, natAbs, _*ℤ_}
-use lib.Signed.{mag, ltZ, leZ, _<ℤ_, _≤ℤ_, ≤ℤ-refl, <ℤ-≤ℤ-trans, clashℤ}
+use lib.Signed.{mag, ltZ, _<ℤ_, _≤ℤ_, ≤ℤ-refl, <ℤ-≤ℤ-trans, clashℤ}
 use mir.Syntax.{w32, w64}
 use mir.Val.{hbits, toZ, ofZ}
 use Rattle.exact.specs.Within.{Within}
 use Rattle.exact.proofs.Bounds.{Exactly, handed, itself, times, reads-back, widened}
-use Rattle.exact.proofs.Order.{ltZ-true, ltZ-false, leZ-true, leZ-false, lt-ltZ, le-ltZ, less-is-at-most, less-or-not}
-use Rattle.boxes.specs.Boxes.{meeting}
+use Rattle.exact.proofs.Order.{ltZ-true, ltZ-false, less-is-at-most, less-or-not}
 use Rattle.boxes.specs.Parts.{reaching}
 use Rattle.boxes.specs.declared.Bounds.{Bounds}
 use Rattle.boxes.specs.declared.part.Line.{Line}
@@ -55,20 +54,14 @@ module _ {r a : ℤ} (f : Fits32 r) where
 
 -- on what is read back of them
 module _ (a b : ℤ) (f : Fits32 a) (g : Fits32 b) where
-  pub test-less : ltZ (back a) (back b) ≡ ltZ a b
+  test-less : ltZ (back a) (back b) ≡ ltZ a b
   test-less = ap₂ ltZ (same a f) (same b g)
 
-  pub tested-less : ltZ (back a) (back b) ≡ true → a <ℤ b
+  tested-less : ltZ (back a) (back b) ≡ true → a <ℤ b
   tested-less t = ltZ-true a b (sym test-less ∙ t)
 
-  pub tested-not-less : ltZ (back a) (back b) ≡ false → b ≤ℤ a
+  tested-not-less : ltZ (back a) (back b) ≡ false → b ≤ℤ a
   tested-not-less t = ltZ-false a b (sym test-less ∙ t)
-
-  pub tested-at-most : leZ (back a) (back b) ≡ true → ltZ b a ≡ false
-  tested-at-most t = le-ltZ (leZ-true a b (sym (ap₂ leZ (same a f) (same b g)) ∙ t))
-
-  pub tested-more : leZ (back a) (back b) ≡ false → ltZ b a ≡ true
-  tested-more t = lt-ltZ (leZ-false a b (sym (ap₂ leZ (same a f) (same b g)) ∙ t))
 
   -- the lesser of two numbers, and the greater
   pub first-is-lesser : ltZ (back a) (back b) ≡ true → (back a ≤ℤ b) × (back a ≤ℤ a)
@@ -82,30 +75,6 @@ module _ (a b : ℤ) (f : Fits32 a) (g : Fits32 b) where
 
   pub first-is-greater : ltZ (back a) (back b) ≡ false → (a ≤ℤ back a) × (b ≤ℤ back a)
   first-is-greater t = (back-is-at-least f (≤ℤ-refl a), back-is-at-least f (tested-not-less t))
-
--- ---- do two boxes meet?
-
-and-false : (t : Bool) → t && false ≡ false
-and-false true = refl
-and-false false = refl
-
--- each test that fails, and the last where the others hold
-module _ (a b : Bounds) where
-  pub beyond-its-right : ltZ (a .left) (b .right) ≡ false → false ≡ meeting a b
-  unfolding meeting
-  beyond-its-right h = rw h refl
-
-  pub before-its-left : ltZ (b .left) (a .right) ≡ false → false ≡ meeting a b
-  unfolding meeting
-  before-its-left h = rw (h, and-false (ltZ (a .left) (b .right))) refl
-
-  pub above-it : ltZ (a .low) (b .high) ≡ false → false ≡ meeting a b
-  unfolding meeting
-  above-it h = rw (h, and-false (ltZ (a .left) (b .right) && ltZ (b .left) (a .right))) refl
-
-  pub by-the-last : ltZ (a .left) (b .right) ≡ true → ltZ (b .left) (a .right) ≡ true → ltZ (a .low) (b .high) ≡ true → ltZ (b .low) (a .high) ≡ meeting a b
-  unfolding meeting
-  by-the-last h k l = rw (h, k, l) refl
 
 -- ---- numbers made wider
 

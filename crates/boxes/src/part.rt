@@ -134,10 +134,11 @@ fn is_helpful(list: &[u16], boxes: &[i32], m: usize, line: Line) -> bool
 
 pub enum Choice {
     By(Line),
-    Neither,
+    None,
 }
 
-// A line that helps, across the longer side of what the list covers rather than across the shorter; or neither does.
+// A line that helps: through the middle of what the list covers, or, where few cells far away keep that from helping, through the middle of one of its
+// cells; across the longer side of what it covers rather than across the shorter. Or none of these does.
 pub fn choose(list: &[u16], boxes: &[i32], m: usize) -> Choice
     requires { ⌜ 4 * m ≤ length (now boxes) ⌝ }
     requires { ⌜ Listed m (now list) ⌝ }
@@ -155,5 +156,16 @@ pub fn choose(list: &[u16], boxes: &[i32], m: usize) -> Choice
     if is_helpful(list, boxes, m, along) {
         return Choice::By(along);
     }
-    Choice::Neither
+    let half = list.len() / 2;
+    let c = list[half] as usize;
+    let one = read(boxes, c);
+    let across_one = through(one, upright);
+    if is_helpful(list, boxes, m, across_one) {
+        return Choice::By(across_one);
+    }
+    let along_one = through(one, !upright);
+    if is_helpful(list, boxes, m, along_one) {
+        return Choice::By(along_one);
+    }
+    Choice::None
 }

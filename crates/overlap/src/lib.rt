@@ -46,7 +46,7 @@ fn search(
     }
     let m = firsts.len() - 1;
     match part::choose(list, boxes, m) {
-        Choice::Neither => pair::compare(corners, faces, firsts, boxes, list, best),
+        Choice::None => pair::compare(corners, faces, firsts, boxes, list, best),
         Choice::By(line) => {
             let mut some = [0u16; Plan::MOST_CELLS];
             let before = Line {

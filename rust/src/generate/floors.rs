@@ -95,11 +95,23 @@ pub fn deepest() -> (Mesh, Spot) {
     (Mesh::of_cells(corners, &cells), [wide, ray])
 }
 
-/// Slivers: as many cells as a plan may have, and the boxes of all but one of them meet.
+/// A fan of slivers round one tip, of as many corners as a plan may have: the boxes of all
+/// cells meet.
+pub fn one_fan() -> Mesh {
+    let lines = CORNERS.end() - 2;
+    let last = lines as i64 + 1;
+    let mut corners = vec![[0, 0]];
+    corners.extend((0..last).map(|i| [last * last - i * i, 4_000 * i]));
+    let cells: Vec<_> = (1..=lines).map(|at| [0, at, at + 1]).collect();
+    Mesh::of_cells(corners, &cells)
+}
+
+/// Two fans of slivers: as many cells as a plan may have, and the boxes of all but one of
+/// them meet.
 ///
 /// A row of corners goes from west to east, up and down in turn. From each of its lines
 /// there is a cell to a tip in the north and one to a tip in the south, both west of all.
-pub fn slivers() -> Mesh {
+pub fn two_fans() -> Mesh {
     let lines = CELLS.end() / 2 - 1;
     let mut corners = vec![[-1_000, 20_000], [-1_000, -20_000], [-3_000, 0]];
     let (north, south, west, first) = (0, 1, 2, 3);

@@ -1,7 +1,12 @@
 -- `boxes::part::choose` meets its contract.
+use Prim.Native.Nat.{_/_}
+use native.Mathlib.Omega.{arith}
+use denote.Ref.{now}
+use lib.ListN.{length}
 use mir.Syntax.{w32, w64}
 use Rattle.exact.proofs.Bounds.{minus, fits, widened-fits}
 use Rattle.boxes.proofs.Numbers.{made-wide}
+use Rattle.boxes.proofs.Parts.{box-there}
 use Rattle.boxes.proofs.part.choose.Statement.{statement}
 use Rattle.boxes.proofs.part.choose.Tie as tie
 
@@ -50,8 +55,40 @@ is-helpful-requires-2 c κs = let s = c .before .before .before .before .before 
 returns-2 : tie.Need-returns-2
 returns-2 c = tt
 
+mul-c : tie.Need-mul-c
+mul-c c = let s = c .before .before .before .before .before .before .before .before .before .before .before .before .before .before .before .before in omega (arith, s .fits)
+
+shared-slice-read-c : tie.Need-shared-slice-read-c
+shared-slice-read-c c = let s = c .before .before .before .before .before .before .before .before .before .before .before .before .before .before .before .before .before in omega (arith, s .pre .1 .1)
+
+cast-c : tie.Need-cast-c
+cast-c c = let s = c .before .before .before .before .before .before .before .before .before .before .before .before .before .before .before .before .before in omega (arith, c .shared-slice-known2 .given (length (now (s .args .list)) / 2))
+
+read-requires : tie.Need-read-requires
+read-requires c κs =
+    let s = c .before .before .before .before .before .before .before .before .before .before .before .before .before .before .before .before .before in
+    box-there (now (s .args .boxes)) (s .pre .1 .0) (s .pre .0) _ (omega (arith, s .pre .1 .1))
+
+through-requires-3 : tie.Need-through-requires-3
+through-requires-3 c κs = tt
+
+is-helpful-requires-3 : tie.Need-is-helpful-requires-3
+is-helpful-requires-3 c κs = let s = c .before .before .before .before .before .before .before .before .before .before .before .before .before .before .before .before .before .before .before in (s .pre .0, s .pre .1 .0)
+
 returns-3 : tie.Need-returns-3
 returns-3 c = tt
+
+through-requires-4 : tie.Need-through-requires-4
+through-requires-4 c κs = tt
+
+is-helpful-requires-4 : tie.Need-is-helpful-requires-4
+is-helpful-requires-4 c κs = let s = c .before .before .before .before .before .before .before .before .before .before .before .before .before .before .before .before .before .before .before .before .before .before in (s .pre .0, s .pre .1 .0)
+
+returns-4 : tie.Need-returns-4
+returns-4 c = tt
+
+returns-5 : tie.Need-returns-5
+returns-5 c = tt
 
 pub choose-spec : {M : Type 1} → statement M
 choose-spec =
@@ -70,4 +107,14 @@ choose-spec =
     through-requires-2
     is-helpful-requires-2
     returns-2
-    returns-3)
+    mul-c
+    shared-slice-read-c
+    cast-c
+    read-requires
+    through-requires-3
+    is-helpful-requires-3
+    returns-3
+    through-requires-4
+    is-helpful-requires-4
+    returns-4
+    returns-5)
