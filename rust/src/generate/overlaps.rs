@@ -4,7 +4,6 @@
 use super::dice::Dice;
 use super::floors::{self, part, times, EDGE, OCTAGON};
 use super::mesh::{side_value, Mesh, Spot};
-use crate::paper::CELLS;
 
 /// A random floor of these.
 pub fn random(dice: &mut Dice) -> Mesh {
@@ -175,10 +174,10 @@ fn laid_on(dice: &mut Dice) -> Mesh {
     mesh
 }
 
-/// As many cells as there may be, all in the same place but for a few.
+/// Hundreds of cells, all in the same place but for a few.
 fn all_on_top(dice: &mut Dice) -> Mesh {
     let mut mesh = floors::random(dice);
-    while mesh.cells.len() < *CELLS.end() {
+    while mesh.cells.len() < 300 {
         mesh.add_cell(mesh.cells[0]);
     }
     mesh
