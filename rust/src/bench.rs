@@ -117,7 +117,8 @@ pub fn report(proved: &dyn Calls) -> String {
         ("two fans", generate::two_fans()),
     ];
     let checks = slivers.map(|floor| report_slivers(floor, proved));
-    let text = calls.collect::<String>() + &checks.concat();
+    let pairs = floors.iter().map(|floor| report_pairs(floor, proved));
+    let text = calls.collect::<String>() + &pairs.collect::<String>() + &checks.concat();
     let reaches = floors.iter().map(|floor| report_reaches(floor, proved));
     let text = text + &reaches.collect::<String>();
     let ceilings = floors.iter().map(|floor| report_ceilings(floor, proved));
@@ -144,6 +145,48 @@ fn report_slivers((name, mesh): (&str, Mesh), proved: &dyn Calls) -> String {
     let sizes = sizes(name, &plan);
     let check = line("check", 0, times.map(|[check]| check));
     format!("{sizes}\n{}{check}\n", columns())
+}
+
+/// The check with and without the comparison of cells: a last door that is no face is
+/// found wrong just before it.
+fn report_pairs(floor: &Floor, proved: &dyn Calls) -> String {
+    let wrong = without_pairs(&floor.plan);
+    let plans = [floor.plan.lists(), wrong.lists()];
+    let programs: [[Call<'_>; 2]; 3] = [
+        plans.map(|lists| -> Call<'_> {
+            Box::new(move || {
+                black_box(proved.check(lists));
+            })
+        }),
+        plans.map(|lists| -> Call<'_> {
+            Box::new(move || {
+                black_box(Paper.check(lists));
+            })
+        }),
+        plans.map(|lists| -> Call<'_> {
+            Box::new(move || {
+                black_box(plain::check(lists).is_ok());
+            })
+        }),
+    ];
+    let times = medians(programs);
+    let [whole, before] = [0, 1].map(|call| times.map(|times| times[call]));
+    let mut text = format!(
+        "{}, the check with and without pairs\n{}",
+        floor.name,
+        columns()
+    );
+    text += &line("check", 0, whole);
+    text += &line("refused for its last door", 0, before);
+    text += &line("check / so refused", 2, against(whole, before));
+    text + "\n"
+}
+
+/// The plan with its last door at no face.
+fn without_pairs(plan: &Plan) -> Plan {
+    let mut wrong = plan.clone();
+    *wrong.doors.last_mut().expect("the floors have doors") = u16::MAX;
+    wrong
 }
 
 fn report_reaches(floor: &Floor, proved: &dyn Calls) -> String {
@@ -681,6 +724,17 @@ mod tests {
                 (2_048, 3_000)
             ]
         );
+    }
+
+    /// A plan whose last door is no face is refused for just that.
+    #[test]
+    fn the_last_door_is_refused() {
+        for floor in floors() {
+            let wrong = without_pairs(&floor.plan);
+            let refused = Refusal::Door(63).reply();
+            assert_eq!(Paper.check(wrong.lists()), refused, "{}", floor.name);
+            assert_eq!(Proved.check(wrong.lists()), refused, "{}", floor.name);
+        }
     }
 
     /// Slivers are accepted by each program, and the boxes of all of them meet, of the two
