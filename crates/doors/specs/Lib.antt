@@ -1,2 +1,2 @@
--- the door change: replies 1 to 13, or the list under the new setting
+-- the door change: replies 1 to 13, 15 and 17, or the list under the new setting
 pub mod Change

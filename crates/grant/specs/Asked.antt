@@ -37,8 +37,8 @@ abbrev pub then-asked : Checked → (Plan → Checked) → Checked
 then-asked (Accepted p) more = more p
 then-asked (Refused r) more = Refused r
 
--- 1 to 7 and 11 in order, or the counts of the plan; the cells are in a list of kind k, n is the number of stands, room and places are the lengths of
--- table and replies
+-- 1 to 6, 17, 7 and 11 in order, or the counts of the plan; the cells are in a list of kind k, n is the number of stands, room and places are the lengths
+-- of table and replies
 unfoldable pub asked : ℕ → List ℤ → List ℕ → List ℕ → ℕ → ℕ → ℕ → ℕ → Checked
 asked k cs ts ds w n room places =
     refuse-if (ltb most-stands n) (too-many (framed k cs ts))

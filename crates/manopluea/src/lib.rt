@@ -47,8 +47,9 @@ pub struct Listing {
     pub ceiling: Ceiling,
 }
 
-// The plan check. Accepted with the counts of corners, cells and doors; else FRAME, SIZE, CORNER, CELL, NEIGHBOUR or DOOR,
-// the lowest number that applies, at its least place.
+// The plan check. Accepted with the counts of corners, cells and doors; else FRAME, SIZE, CORNER, CELL, NEIGHBOUR or DOOR, the lowest number that applies,
+// at its least place; and after them OVERLAP, where some point, whole or fractional, is strictly inside two cells, at the least cell of any such pair
+// (document 02, A7).
 pub fn check(corners: &[i32], cells: &[u16], doors: &[u16], terms: Terms) -> Checked
     ensures answer { λ r. ⌜ r ≡ checked (terms .kind) (now (corners .entry)) (now (cells .entry)) (now (doors .entry)) ⌝ }
     ensures numbers { λ r. ⌜ checked-reply r ≡ check-replies (terms .kind) (now (corners .entry)) (now (cells .entry)) (now (doors .entry)) ⌝ }
@@ -58,7 +59,7 @@ pub fn check(corners: &[i32], cells: &[u16], doors: &[u16], terms: Terms) -> Che
 }
 
 // The reader: the three lists of a plan file go into the lent lists, from their beginning. Accepted with the counts, which kind the list of cells is in,
-// and how many numbers that list has; else 1 to 6 as the check has them, or ROOM where any list is shorter than its numbers.
+// and how many numbers that list has; else 1 to 6 and 17 as the check has them, or ROOM where any list is shorter than its numbers.
 pub fn read(file: &[u8], corners: &mut [i32], cells: &mut [u16], doors: &mut [u16]) -> ReadPlan
     ensures answer { λ r. ⌜ (r, (now (corners .exit), (now (cells .exit), now (doors .exit)))) ≡ Calls·read (now (file .entry)) (now (corners .entry)) (now (cells .entry)) (now (doors .entry)) ⌝ }
     ensures numbers { λ r. ⌜ (read-numbers r, (now (corners .exit), (now (cells .exit), now (doors .exit)))) ≡ read-replies (now (file .entry)) (now (corners .entry)) (now (cells .entry)) (now (doors .entry)) ⌝ }
@@ -67,8 +68,8 @@ pub fn read(file: &[u8], corners: &mut [i32], cells: &mut [u16], doors: &mut [u1
 }
 
 // The writer: the one file of three lists, its cells in a record of the kind told, goes into the lent bytes, from their beginning. Accepted with the
-// counts; else 1 to 6 as the check has them, or ROOM where the bytes are shorter than the file. Reading what was written returns the lists and their kind,
-// writing what was read the same bytes.
+// counts; else 1 to 6 and 17 as the check has them, or ROOM where the bytes are shorter than the file. Reading what was written returns the lists and their
+// kind, writing what was read the same bytes.
 pub fn write(
     corners: &[i32],
     cells: &[u16],
@@ -83,9 +84,9 @@ pub fn write(
     planfile::write(corners, cells, doors, kind, file)
 }
 
-// Where the stand is under a door setting: strictly inside a cell, the least-numbered; else strictly within a side that is free under the setting, of the
-// least-numbered cell, its least side (document 02, A4). Else 1 to 6 as the check has them, SETTING, STAND where a number or corner is not accepted, LINE
-// where the stand is on some cell's border, OUTSIDE where it is inside or on no cell.
+// Where the stand is under a door setting: strictly inside a cell, the least-numbered, which is the only one; else strictly within a side that is free under
+// the setting, of the least-numbered cell, its least side (document 02, A4). Else 1 to 6 and 17 as the check has them, SETTING, STAND where a number or
+// corner is not accepted, LINE where the stand is on some cell's border, OUTSIDE where it is inside or on no cell.
 pub fn find(
     corners: &[i32],
     cells: &[u16],
@@ -104,9 +105,9 @@ pub fn find(
 // The listing: the walls seen from a stand under a door setting, four numbers a row (face on the side seen, right limit, left limit, and 0 in reach or 1
 // out of reach), in the order of the expansion. From a stand strictly within a free side, its cell's other sides are expanded in order after it, then the
 // neighbour's; the line that it stands on is not crossed. Where a reach is stated, a free line out of reach is not crossed and gives a row too (document
-// 02, A5): a line is in reach when some point of the whole of it is, seen or not. Replies row count and crossings; else 1 to 6, SETTING, STAND, REACH for a
-// stated number that is not 1 to 262,144, LINE, OUTSIDE, ROOM for a table below 4·corners numbers, or CEILING where the crossings exceed the ceiling that is
-// stated (document 02, A13); the work stops when it is passed.
+// 02, A5): a line is in reach when some point of the whole of it is, seen or not. Replies row count and crossings; else 1 to 6 and 17 as the check has them,
+// SETTING, STAND, REACH for a stated number that is not 1 to 262,144, LINE, OUTSIDE, ROOM for a table below 4·corners numbers, or CEILING where the crossings
+// exceed the ceiling that is stated (document 02, A13); the work stops when it is passed.
 pub fn list(
     corners: &[i32],
     cells: &[u16],
@@ -148,8 +149,8 @@ pub fn change(
 // A morning's stands together: as many of the stands as are asked for, listed one after another in the order given, as `list` lists each of them with the one
 // setting, the one reach and the one ceiling, which each stand has for itself. The rows stand one behind the other from the beginning of the table, and three
 // numbers a stand (reply number, row count, crossings) from that of the replies; a refused stand has counts 0, writes no row and stops no other. Replies the
-// sums of rows and crossings. Else 1 to 6 (SIZE also for more than 32 stands), SETTING, or ROOM for a table below 4·corners·stands numbers or fewer than
-// 3·stands places for the replies, before any stand is looked at.
+// sums of rows and crossings. Else 1 to 6 and 17 (SIZE also for more than 32 stands), SETTING, or ROOM for a table below 4·corners·stands numbers or fewer
+// than 3·stands places for the replies, before any stand is looked at.
 pub fn list_stands(
     corners: &[i32],
     cells: &[u16],

@@ -381,7 +381,7 @@ fn list_many(
 }
 
 // As many of the stands as are asked for, listed one after another: plan, the kind of its list of cells, what the stands share, stands, table and replies;
-// replies 1 to 7 and 11 in order, each with its place, or the sums of rows and crossings.
+// replies 1 to 6, 17, 7 and 11 in order, each with its place, or the sums of rows and crossings.
 pub fn list_stands(
     corners: &[i32],
     cells: &[u16],

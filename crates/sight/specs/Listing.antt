@@ -106,7 +106,7 @@ view-of-plan cs T ds a (C.Accepted p) =
     unless (wrong-setting (a .setting) (length ds)) No.Setting (view-of-spot cs T ds (a .setting) (a .reach) (stood cs (a .stand)))
 view-of-plan cs T ds a (C.Refused r) = O.Refused r
 
--- replies 1 to 8, 15, 9 and 10 in order, or the stand and where it was found; the cells are in a list of kind k
+-- replies 1 to 6, 17, 7, 8, 15, 9 and 10 in order, or the stand and where it was found; the cells are in a list of kind k
 unfoldable pub viewed : ℕ → List ℤ → List ℕ → List ℕ → Query → View
 viewed k cs ts ds a = view-of-plan cs (cells-of k ts) ds a (checked k cs ts ds)
 

@@ -553,8 +553,8 @@ fn list_many(
     )
 }
 
-// The listing: plan, the kind of its list of cells, query, ceiling and table; replies 1 to 8, 15, 9 to 11 and 19 in order, each with its place, or row
-// count and crossings.
+// The listing: plan, the kind of its list of cells, query, ceiling and table; replies 1 to 6, 17, 7, 8, 15, 9 to 11 and 19 in order, each with its
+// place, or row count and crossings.
 pub fn list(
     corners: &[i32],
     cells: &[u16],

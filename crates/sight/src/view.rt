@@ -1,4 +1,4 @@
-// Replies 1 to 8, 15, 9 and 10 in their order, or the stand and where it was found.
+// Replies 1 to 6, 17, 7, 8, 15, 9 and 10 in their order, or the stand and where it was found.
 ghost use mathlib.Core.Bool.{true};
 ghost use mathlib.Core.Path.{_≡_};
 ghost use Prim.Native.Nat.{suc, _*_};
