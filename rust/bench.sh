@@ -1,6 +1,6 @@
 #!/usr/bin/env bash
-# The speed of the proved library, of the second program and of plain Rust, all in one program made for this machine.
-# docs/BENCHMARKS.md says how to read what it prints.
+# The speed of the proved library, of the second program and of plain Rust, all in one program made for this machine:
+# bench.sh [finding]. With that word, of finding alone. docs/BENCHMARKS.md says how to read what it prints.
 set -eu
 cd "$(dirname "$0")/.."
 . rust/proved.sh
@@ -8,4 +8,4 @@ make_native >&2
 renew_for_cargo "$native_archive" rust/target/native
 cd rust
 # A folder of its own, so that the comparison's build is left as it is.
-MANOPLUEA_ARCHIVE=../$native_archive cargo run --quiet --release --jobs 1 --target-dir target/native -- bench
+MANOPLUEA_ARCHIVE=../$native_archive cargo run --quiet --release --jobs 1 --target-dir target/native -- bench "$@"

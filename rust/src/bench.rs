@@ -1,9 +1,11 @@
 //! Times of the public calls on four floors, of listings with a reach and up to a
-//! ceiling there, on one of them of a morning's stands and of its triangles merged
-//! into larger cells, and of the check alone on two floors of slivers: of the proved library,
-//! of the second program and of plain Rust, side by side.
+//! ceiling there, on two of them of finding less the check, on one of a morning's stands and
+//! of its triangles merged into larger cells, and of the check alone on two floors of
+//! slivers: of the proved library, of the second program and of plain Rust, side by side.
 
-use crate::calls::{Calls, DoorChange, Listing, Lists, Morning, Plan, Query, Reach, Stand, ROW};
+use crate::calls::{
+    Calls, DoorChange, Listing, Lists, Morning, Plan, Query, Reach, Refusal, Stand, ROW,
+};
 use crate::generate::{self, Dice, Merged, Mesh};
 use crate::paper::{self, Paper, DOORS, MOST_STANDS, REACHES};
 use crate::plain;
@@ -16,6 +18,9 @@ const TIME_EACH: Duration = Duration::from_secs(4);
 
 /// Fewest rounds behind a median, for listings that take long.
 const FEWEST_ROUNDS: usize = 51;
+
+/// The floors on which finding is timed by itself.
+const FLOORS_FINDING: [&str; 2] = ["cathedral", "largest"];
 
 /// A ceiling that every floor's listing passes.
 const CEILING: u64 = 1_000;
@@ -100,8 +105,8 @@ impl Times {
     }
 }
 
-/// Times the calls on each floor, the check on slivers, and on the first floor, the
-/// cathedral, a morning and the merged cells; reports medians.
+/// Times the calls on each floor, the check on slivers, on the first floor, the cathedral, a
+/// morning and the merged cells, and finding by itself; reports medians.
 pub fn report(proved: &dyn Calls) -> String {
     let floors = floors();
     let calls = floors.iter().map(|floor| {
@@ -123,7 +128,29 @@ pub fn report(proved: &dyn Calls) -> String {
     let text = text + &reaches.collect::<String>();
     let ceilings = floors.iter().map(|floor| report_ceilings(floor, proved));
     let text = text + &ceilings.collect::<String>();
-    text + &report_morning(&floors[0], proved) + "\n" + &report_merged(&floors[0], proved)
+    let text = text + &report_morning(&floors[0], proved) + "\n";
+    let text = text + &report_merged(&floors[0], proved) + "\n";
+    text + &report_found(&floors, proved)
+}
+
+/// The last part of the report alone: finding.
+pub fn report_finding(proved: &dyn Calls) -> String {
+    report_found(&floors(), proved)
+}
+
+fn report_found(floors: &[Floor], proved: &dyn Calls) -> String {
+    let floors = floors.iter();
+    let timed = floors.filter(|floor| FLOORS_FINDING.contains(&floor.name));
+    let parts = timed.map(|floor| {
+        let stands = outside(floor);
+        let programs = [
+            finding_of(floor, &stands, proved),
+            finding_of(floor, &stands, &Paper),
+            finding_on(floor, &stands, plain::list_stands),
+        ];
+        describe_found(floor, &stands, medians(programs))
+    });
+    parts.collect::<Vec<String>>().join("\n")
 }
 
 /// The check where no box tells of two cells that they do not overlap.
@@ -515,6 +542,53 @@ fn merged_on<'a, Checked, Found, Listed>(
     [a, b, c, d, e, f]
 }
 
+/// As many stands as a morning has, each where the floor is and in no cell of it: all
+/// cells have to be ruled out, and nothing is listed.
+fn outside(floor: &Floor) -> Vec<Stand> {
+    let corners = floor.plan.corners.as_chunks::<2>().0;
+    let ends = [0, 1].map(|axis| {
+        let along = || corners.iter().map(|corner| i64::from(corner[axis]));
+        [along().min(), along().max()].map(|end| end.expect("a floor has corners"))
+    });
+    let mut dice = Dice::new(3);
+    let spots = std::iter::repeat_with(|| ends.map(|[low, high]| dice.between(low, high)));
+    spots
+        .map(|[x, y]| Stand::Point(x as f64, y as f64))
+        .filter(|&stand| plain::find(floor.plan.lists(), 0, stand) == Err(Refusal::Outside))
+        .take(MOST_STANDS)
+        .collect()
+}
+
+fn finding_of<'a>(floor: &'a Floor, stands: &[Stand], calls: &'a dyn Calls) -> [Call<'a>; 2] {
+    finding_on(floor, stands, |lists, morning, stands, table, replies| {
+        calls.list_stands(lists, morning, stands, table, replies)
+    })
+}
+
+/// Stands in one call, and as many that are refused before they are looked for.
+fn finding_on<'a, Listed>(
+    floor: &'a Floor,
+    stands: &[Stand],
+    together: impl Fn(Lists<'a>, Morning, &[f64], &mut [u16], &mut [u64]) -> Listed + Copy + 'a,
+) -> [Call<'a>; 2] {
+    let refused = vec![Stand::Point(0.5, 0.5); stands.len()];
+    [stands, &refused].map(|stands| -> Call<'a> {
+        let (lists, morning) = (floor.plan.lists(), Morning::under(0));
+        let numbers = numbers(stands);
+        let mut tables = table(&floor.plan).repeat(stands.len());
+        let mut replies = vec![0; numbers.len()];
+        Box::new(move || {
+            black_box(together(
+                lists,
+                morning,
+                &numbers,
+                &mut tables,
+                &mut replies,
+            ));
+        })
+    })
+}
+
 fn numbers(stands: &[Stand]) -> Vec<f64> {
     stands.iter().flat_map(|stand| stand.numbers()).collect()
 }
@@ -660,6 +734,36 @@ fn describe_merged(floor: &Floor, times: [[f64; 6]; 3]) -> String {
     text
 }
 
+/// What the finding of one stand takes, the check left out, and how many side values it
+/// works out in plain Rust: of stands that no cell holds, and of stands inside cells.
+fn describe_found(floor: &Floor, stands: &[Stand], times: [[f64; 2]; 3]) -> String {
+    let count = stands.len() as f64;
+    let each = times.map(|[found, refused]| (found - refused) / count);
+    let mut text = format!(
+        "{}, finding: {count} stands in no cell\n{}",
+        floor.name,
+        columns()
+    );
+    text += &line("finding, a stand", 0, each);
+    for (name, stands) in [("in no cell", stands), ("inside cells", &floor.morning)] {
+        let values = stands.iter().map(|&stand| side_values(floor, stand));
+        let sum = values.fold([0, 0], |[all, boxed], values| {
+            [all + values.without_boxes, boxed + values.with_boxes]
+        });
+        let [all, boxed] = sum.map(|sum| sum as f64 / count);
+        text += &format!(
+            "side values, {name}: {all:.1} of all cells, {boxed:.1} by boxes first: {:.4}\n",
+            boxed / all
+        );
+    }
+    text
+}
+
+/// The side values that finding a stand of a floor works out in plain Rust.
+fn side_values(floor: &Floor, stand: Stand) -> plain::SideValues {
+    plain::side_values(floor.plan.lists(), stand).expect("the stand is accepted")
+}
+
 /// The times of each program against others.
 fn against(times: [f64; 3], others: [f64; 3]) -> [f64; 3] {
     [0, 1, 2].map(|program| times[program] / others[program])
@@ -757,6 +861,37 @@ mod tests {
                 meeting: all,
             };
             assert_eq!(plain::pairs(lists), Ok(pairs));
+        }
+    }
+
+    /// Each program finds each stand in the same cell or in none, and boxes leave few side
+    /// values.
+    #[test]
+    fn the_stands_are_found_alike() {
+        let floors = floors();
+        let timed = floors.iter();
+        for floor in timed.filter(|floor| FLOORS_FINDING.contains(&floor.name)) {
+            assert_eq!(floor.morning.len(), MOST_STANDS);
+            let lists = floor.plan.lists();
+            let cells = cells(&floor.plan) as usize;
+            for (&stand, holds) in outside(floor)
+                .iter()
+                .map(|stand| (stand, false))
+                .chain(floor.morning.iter().map(|stand| (stand, true)))
+            {
+                let (found, looked_at) = match plain::find(lists, 0, stand) {
+                    Ok(plain::Footing::Inside { cell }) if holds => {
+                        (Reply::done([cell as u64]), cell + 1)
+                    }
+                    Err(Refusal::Outside) if !holds => (Reply::refused(10, 0), cells),
+                    other => panic!("{}: {stand:?} is {other:?}", floor.name),
+                };
+                assert_eq!(Paper.find(lists, 0, stand), found, "{}", floor.name);
+                assert_eq!(Proved.find(lists, 0, stand), found, "{}", floor.name);
+                let values = side_values(floor, stand);
+                assert_eq!(values.without_boxes, 3 * looked_at, "{}", floor.name);
+                assert!(values.with_boxes <= 60, "{}", floor.name);
+            }
         }
     }
 

@@ -650,6 +650,52 @@ mod tests {
             })
     }
 
+    /// Stands on the edge of the box of a cell that is looked at before the one they are
+    /// found in, and stands strictly in such a box: inside a cell, on a side, on another
+    /// border, and outside.
+    #[test]
+    fn stands_by_boxes_of_every_kind_come_up() {
+        let (mut on_edge, mut in_box) = ([0; 4], [0; 4]);
+        for number in 0..4_000 {
+            let scene = case(8, number).scene;
+            let lists = scene.plan.lists();
+            let reply = paper::find(lists, scene.setting, scene.stand);
+            let [cell, on_side, ..] = reply.values;
+            let kind = match reply.number {
+                0 => on_side as usize,
+                9 => 2,
+                10 => 3,
+                _ => continue,
+            };
+            let floor = Floor::check(lists).expect("it passed the check");
+            let q = paper::millimetres(&floor, scene.stand).expect("it is accepted");
+            let cells = match reply.number {
+                0 => cell as usize,
+                _ => floor.cell_count(),
+            };
+            let places = || (0..cells).map(|cell| place_in_box(&floor, cell, [q.x, q.y]));
+            on_edge[kind] += usize::from(places().any(|place| place == 0));
+            in_box[kind] += usize::from(places().any(|place| place > 0));
+        }
+        println!("{on_edge:?} {in_box:?}");
+        let mut counts = on_edge.iter().chain(&in_box);
+        assert!(counts.all(|&count| count > 20), "{on_edge:?} {in_box:?}");
+    }
+
+    /// How far a spot is inside a cell's box: 0 on its edge, and less outside.
+    fn place_in_box(floor: &Floor, cell: usize, at: Spot) -> i64 {
+        let corners = floor
+            .faces(cell)
+            .map(|face| floor.corner(floor.ends(face)[0]));
+        let spots: Vec<Spot> = corners.map(|corner| [corner.x, corner.y]).collect();
+        let depth = |axis: usize| {
+            let along = || spots.iter().map(|spot| spot[axis]);
+            let [low, high] = [along().min(), along().max()].map(|end| end.expect("of a cell"));
+            (at[axis] - low).min(high - at[axis])
+        };
+        depth(0).min(depth(1))
+    }
+
     #[test]
     fn inputs_of_every_kind_come_up() {
         let (mut longer, mut longest, mut cut, mut wrong_kind) = (0, 0, 0, 0);

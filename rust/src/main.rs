@@ -1,13 +1,16 @@
-//! The commands: `compare SEED COUNT`, `self SEED COUNT`, `case LETTER`, `stack BYTES`, `bench`.
+//! The commands: `compare SEED COUNT`, `self SEED COUNT`, `case LETTER`, `stack BYTES`, `bench`,
+//! `bench finding`.
 
+use manopluea_compare::calls::Calls;
 use manopluea_compare::paper::Paper;
 use manopluea_compare::program::Program;
 use manopluea_compare::proved::Proved;
-use manopluea_compare::{compare, examples, stack};
+use manopluea_compare::{bench, compare, examples, stack};
 use std::process::ExitCode;
 
 const USAGE: &str =
-    "usage: manopluea-compare compare SEED COUNT | self SEED COUNT | case a..l | stack BYTES | bench";
+    "usage: manopluea-compare compare SEED COUNT | self SEED COUNT | case a..l | stack BYTES | bench \
+     [finding]";
 
 fn main() -> ExitCode {
     let arguments: Vec<String> = std::env::args().skip(1).collect();
@@ -17,7 +20,8 @@ fn main() -> ExitCode {
         ["self", seed, count] => run(seed, count, compare_with_itself),
         ["case", letter] => show_example(letter),
         ["stack", bytes] => ask_on_stack(bytes),
-        ["bench"] => bench_proved(),
+        ["bench"] => bench_proved(bench::report),
+        ["bench", "finding"] => bench_proved(bench::report_finding),
         _ => Err(USAGE.to_string()),
     };
     match done {
@@ -53,13 +57,13 @@ fn compare_with_proved(seed: u64, count: u64) -> Result<(), String> {
 
 /// Times the proved library, where it is part of this program.
 #[cfg(linked)]
-fn bench_proved() -> Result<(), String> {
-    print!("{}", manopluea_compare::bench::report(&Proved));
+fn bench_proved(report: fn(&dyn Calls) -> String) -> Result<(), String> {
+    print!("{}", report(&Proved));
     Ok(())
 }
 
 #[cfg(not(linked))]
-fn bench_proved() -> Result<(), String> {
+fn bench_proved(_: fn(&dyn Calls) -> String) -> Result<(), String> {
     Err("this build has no proved library for the machine at hand: run bench.sh".to_string())
 }
 

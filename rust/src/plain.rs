@@ -1,7 +1,8 @@
 //! The check, the finding, the listings and the door change once more, by the
 //! steps that the proved library takes, as one writes them in Rust without a
 //! proof in mind: 64 bits wide, and a pair of functions that call each other. Cells are
-//! compared by their sides, and only those whose boxes meet, from west to east. Where a
+//! compared by their sides, and only those whose boxes meet, from west to east; a stand is
+//! looked for by the sides of those cells alone whose boxes hold it. Where a
 //! reach is stated, the lines out of it are told before any is followed, which is
 //! faster the more crossings there are. Where there is a ceiling, a listing is given up
 //! as soon as it is passed. What they cost is what the benchmarks hold the proved
@@ -41,6 +42,8 @@ pub struct Plan<'a> {
     firsts: Vec<u16>,
     /// Of each face, the face on its other side, or wall.
     backs: Vec<u16>,
+    /// Of each cell, the box that it lies in.
+    extents: Vec<Extent>,
 }
 
 /// Where a stand is: strictly inside a cell, or strictly within a free side of it.
@@ -67,11 +70,27 @@ struct Extent {
     cell: usize,
 }
 
+impl Extent {
+    /// Whether a point is in the box or on its edge.
+    fn holds(&self, at: Point) -> bool {
+        let [low, high] = [self.low, self.high].map(point);
+        low[0] <= at[0] && at[0] <= high[0] && low[1] <= at[1] && at[1] <= high[1]
+    }
+}
+
 /// How many pairs of cells the check looks at, and how many of them have boxes that meet.
 #[derive(Clone, Copy, Debug, Default, PartialEq, Eq)]
 pub struct Pairs {
     pub looked_at: usize,
     pub meeting: usize,
+}
+
+/// How many side values it takes to find a stand that is on no border, where the sides of
+/// every cell are looked at until it is found, and where boxes rule cells out first.
+#[derive(Clone, Copy, Debug, Default, PartialEq, Eq)]
+pub struct SideValues {
+    pub without_boxes: usize,
+    pub with_boxes: usize,
 }
 
 /// Row count and crossings.
@@ -113,6 +132,25 @@ pub fn pairs(lists: Lists<'_>) -> Result<Pairs, Refusal> {
         pairs.meeting += usize::from(meet);
     });
     Ok(pairs)
+}
+
+/// The side values that the finding of a stand on no border works out.
+pub fn side_values(lists: Lists<'_>, stand: Stand) -> Result<SideValues, Refusal> {
+    let plan = check(lists)?;
+    let q = plan.millimetres(stand)?;
+    let mut values = SideValues::default();
+    let found = plan.locate(0, q, |cell| {
+        let sides = plan.faces_of(cell).len();
+        values.without_boxes += sides;
+        if plan.extents[cell].holds(q) {
+            values.with_boxes += sides;
+        }
+        true
+    });
+    match found {
+        Ok(Footing::Inside { .. }) | Err(Refusal::Outside) => Ok(values),
+        _ => Err(Refusal::Line),
+    }
 }
 
 fn is_outside(corner: [i32; 2]) -> bool {
@@ -282,6 +320,7 @@ impl<'a> Cut<'a> {
             faces,
             firsts,
             backs: Vec::new(),
+            extents: Vec::new(),
         }
     }
 }
@@ -314,6 +353,8 @@ impl Plan<'_> {
         if let Some(door) = (0..self.doors.len()).find(|&door| !self.door_is_right(door)) {
             return Err(Refusal::Door(door));
         }
+        let cells = 0..self.cell_count();
+        self.extents = cells.map(|cell| self.extent(cell)).collect();
         if let Some(cell) = self.least_overlapping() {
             return Err(Refusal::Overlap(cell));
         }
@@ -415,9 +456,7 @@ impl Plan<'_> {
     /// Looks at every two cells whose boxes meet from west to east, and says whether they
     /// meet from south to north too.
     fn sweep(&self, mut look: impl FnMut(usize, usize, bool)) {
-        let mut extents: Vec<Extent> = (0..self.cell_count())
-            .map(|cell| self.extent(cell))
-            .collect();
+        let mut extents = self.extents.clone();
         extents.sort_unstable_by_key(|extent| extent.low);
         for (at, one) in extents.iter().enumerate() {
             let further = extents[at + 1..].iter();
@@ -474,27 +513,35 @@ impl Plan<'_> {
         }
     }
 
-    fn locate(&self, setting: u64, q: Point) -> Result<Footing, Refusal> {
-        let mut cells = 0..self.cell_count();
-        if let Some(cell) = cells.find(|&cell| self.least_side_value(cell, q) > 0) {
-            return Ok(Footing::Inside { cell });
-        }
+    /// Where a point is, looked for in those cells alone that may hold it: in one of them
+    /// strictly inside, or else strictly within a free side.
+    fn locate(
+        &self,
+        setting: u64,
+        q: Point,
+        mut may_hold: impl FnMut(usize) -> bool,
+    ) -> Result<Footing, Refusal> {
         let mut is_on_border = false;
         for cell in 0..self.cell_count() {
-            if self.least_side_value(cell, q) == 0 {
-                is_on_border = true;
-                let mut sides = 0..self.faces_of(cell).len();
-                if let Some(side) = sides.find(|&side| self.is_within_free(setting, q, cell, side))
-                {
-                    return Ok(Footing::Side { cell, side });
-                }
+            if !may_hold(cell) {
+                continue;
+            }
+            match self.least_side_value(cell, q) {
+                1.. => return Ok(Footing::Inside { cell }),
+                0 => is_on_border = true,
+                _ => {}
             }
         }
-        Err(if is_on_border {
-            Refusal::Line
-        } else {
-            Refusal::Outside
-        })
+        if !is_on_border {
+            return Err(Refusal::Outside);
+        }
+        for cell in (0..self.cell_count()).filter(|&cell| may_hold(cell)) {
+            let mut sides = 0..self.faces_of(cell).len();
+            if let Some(side) = sides.find(|&side| self.is_within_free(setting, q, cell, side)) {
+                return Ok(Footing::Side { cell, side });
+            }
+        }
+        Err(Refusal::Line)
     }
 
     fn is_within_free(&self, setting: u64, q: Point, cell: usize, side: usize) -> bool {
@@ -550,7 +597,7 @@ impl Plan<'_> {
     fn find(&self, query: Query) -> Result<View, Refusal> {
         let q = self.millimetres(query.stand)?;
         let reach = millimetres(query.reach)?;
-        let footing = self.locate(query.setting, q)?;
+        let footing = self.locate(query.setting, q, |cell| self.extents[cell].holds(q))?;
         Ok(View { q, footing, reach })
     }
 
@@ -815,6 +862,7 @@ impl Sight<'_> {
 mod tests {
     use super::*;
     use crate::calls::Reply;
+    use crate::examples::{hall, plan_q, row_of_cells};
     use crate::generate::{self, Case, Given};
     use crate::paper::{self, reply};
 
@@ -842,6 +890,26 @@ mod tests {
         let mut table = vec![7; case.morning[0].length(ROW * corners * stands)];
         let mut replies = vec![7; case.morning[1].length(3 * stands)];
         (call(&mut table, &mut replies), table, replies)
+    }
+
+    /// A triangle and cells of four, eight and five corners, side by side; plan Q, both of
+    /// whose cells have the same box; and the hall, where the edges of two boxes go through
+    /// cell 3.
+    #[test]
+    fn side_values_are_counted_up_to_the_cell() {
+        let count = |plan: &crate::calls::Plan, [x, y]: [f64; 2]| {
+            let values = side_values(plan.lists(), Stand::Point(x, y));
+            let values = values.expect("the stand is inside a cell");
+            [values.without_boxes, values.with_boxes]
+        };
+        let row = row_of_cells();
+        assert_eq!(count(&row, [5.0, 0.0]), [3, 3]);
+        assert_eq!(count(&row, [15.0, 0.0]), [7, 4]);
+        assert_eq!(count(&row, [55.0, 0.0]), [20, 5]);
+        assert_eq!(count(&plan_q(), [6.0, 3.0]), [3, 3]);
+        assert_eq!(count(&plan_q(), [3.0, 6.0]), [6, 6]);
+        assert_eq!(count(&hall(), [0.0, 15.0]), [12, 9]);
+        assert_eq!(count(&hall(), [1.0, 15.0]), [12, 6]);
     }
 
     #[test]

@@ -14,11 +14,13 @@ use manopluea_compare::paper::{
 };
 
 /// The enum of the faults, the list of all of them, those in the expansion, those in
-/// where a stand is found, and those in which cells overlap.
+/// where a stand is found, those in the boxes that it is found by, and those in which
+/// cells overlap.
 macro_rules! faults {
     (
         expansion { $($slip:ident,)* }
         place { $($found:ident,)* }
+        boxes { $($boxed:ident,)* }
         overlap { $($upon:ident,)* }
         elsewhere { $($fault:ident,)* }
     ) => {
@@ -26,14 +28,21 @@ macro_rules! faults {
         enum Fault {
             $($slip,)*
             $($found,)*
+            $($boxed,)*
             $($upon,)*
             $($fault,)*
         }
 
-        const ALL: &[Fault] =
-            &[$(Fault::$slip,)* $(Fault::$found,)* $(Fault::$upon,)* $(Fault::$fault,)*];
+        const ALL: &[Fault] = &[
+            $(Fault::$slip,)*
+            $(Fault::$found,)*
+            $(Fault::$boxed,)*
+            $(Fault::$upon,)*
+            $(Fault::$fault,)*
+        ];
         const IN_EXPANSION: &[Fault] = &[$(Fault::$slip,)*];
         const IN_PLACE: &[Fault] = &[$(Fault::$found,)*];
+        const IN_BOXES: &[Fault] = &[$(Fault::$boxed,)*];
         const IN_OVERLAP: &[Fault] = &[$(Fault::$upon,)*];
     };
 }
@@ -77,6 +86,18 @@ faults! {
         EndIsWithin,
         WholeLineIsWithin,
         HighestSideIsFound,
+    }
+    boxes {
+        BoxWithoutItsBorder,
+        BoxWithoutItsLeast,
+        BoxWithoutItsGreatest,
+        DoorwayIsOffTheBorderOfItsBox,
+        LeastAndGreatestExchanged,
+        XAndYExchanged,
+        BoxOfTheFirstThreeCorners,
+        BoxesInOrderFromTheWest,
+        OnlyTheFirstBoxIsTried,
+        BoxIsTakenForTheCell,
     }
     overlap {
         CellsThatTouchOverlap,
@@ -339,7 +360,8 @@ impl Calls for Faulty {
             _ => {}
         }
         match found_by(self.0, lists, setting, stand) {
-            Some((_, place)) => found_reply(lists, place),
+            Some((_, Ok(place))) => found_reply(lists, place),
+            Some((_, Err(number))) => refused(number),
             None => reply,
         }
     }
@@ -360,7 +382,11 @@ impl Calls for Faulty {
         };
         let is_short = table.len() < ROW * (lists.corners.len() / 2);
         let found = found_by(self.0, lists, query.setting, query.stand);
-        if let Some((q, place)) = found.filter(|_| !is_wrong(query.reach)) {
+        if let Some((q, found)) = found.filter(|_| !is_wrong(query.reach)) {
+            let place = match found {
+                Ok(place) => place,
+                Err(number) => return refused(number),
+            };
             if is_short {
                 return refused(11);
             }
@@ -1025,16 +1051,25 @@ fn found_reply(lists: Lists<'_>, place: Place) -> Reply {
     }
 }
 
-/// The stand, and where a slip in the place has it; none where it has it where it
-/// is, or where the plan, the setting or the stand is refused before that.
-fn found_by(slip: Fault, lists: Lists<'_>, setting: u64, stand: Stand) -> Option<(Point, Place)> {
-    if !IN_PLACE.contains(&slip) {
+/// The stand, and where a slip in the place or in the boxes has it, or the number that it is
+/// refused with for that; none where a slip in the place has it where it is, or where the
+/// plan, the setting or the stand is refused before that.
+fn found_by(
+    slip: Fault,
+    lists: Lists<'_>,
+    setting: u64,
+    stand: Stand,
+) -> Option<(Point, Result<Place, u32>)> {
+    if !IN_PLACE.contains(&slip) && !IN_BOXES.contains(&slip) {
         return None;
     }
     let floor = Floor::check(lists).ok()?;
     let across = floor.across_under(setting).ok()?;
     let open = floor.across_under(0).ok()?;
     let q = millimetres(&floor, stand).ok()?;
+    if IN_BOXES.contains(&slip) {
+        return Some((q, found_by_boxes(slip, &floor, &across, q)));
+    }
     let truth = View::new(&floor, Query::without_reach(setting, stand));
     let is_on_border = matches!(&truth, Err(refusal) if refusal.reply().number == 9);
     let is_found = |face: &u16| {
@@ -1066,7 +1101,65 @@ fn found_by(slip: Fault, lists: Lists<'_>, setting: u64, stand: Stand) -> Option
         _ if is_on_border => faces.find(is_found),
         _ => None,
     };
-    found.map(|face| (q, Place::Within(face)))
+    found.map(|face| (q, Ok(Place::Within(face))))
+}
+
+/// Where a stand is found if cells are ruled out by boxes with a slip, or the number that it
+/// is refused with.
+fn found_by_boxes(slip: Fault, floor: &Floor, across: &[u16], q: Point) -> Result<Place, u32> {
+    let at = [q.x, q.y].map(i128::from);
+    let cells: Vec<Outline> = (0..floor.cell_count())
+        .map(|cell| Outline::of(floor, cell))
+        .collect();
+    let ends_of = |cell: &Outline| match slip {
+        BoxOfTheFirstThreeCorners => ends(&cell.spots[..3]),
+        _ => [cell.low, cell.high],
+    };
+    let mut boxes: Vec<[[i128; 2]; 2]> = cells.iter().map(ends_of).collect();
+    if slip == BoxesInOrderFromTheWest {
+        boxes.sort_unstable();
+    }
+    let is_inside = |&[low, high]: &[[i128; 2]; 2]| {
+        (0..2).all(|axis| low[axis] < at[axis] && at[axis] < high[axis])
+    };
+    let holds = |&[low, high]: &[[i128; 2]; 2]| {
+        (0..2).all(|axis| {
+            let (at, other, low, high) = (at[axis], at[1 - axis], low[axis], high[axis]);
+            match slip {
+                BoxWithoutItsBorder => low < at && at < high,
+                BoxWithoutItsLeast => low < at && at <= high,
+                BoxWithoutItsGreatest => low <= at && at < high,
+                LeastAndGreatestExchanged => high <= at && at <= low,
+                XAndYExchanged => low <= other && other <= high,
+                _ => low <= at && at <= high,
+            }
+        })
+    };
+    let mut left: Vec<usize> = (0..cells.len())
+        .filter(|&cell| holds(&boxes[cell]))
+        .collect();
+    if slip == OnlyTheFirstBoxIsTried {
+        left.truncate(1);
+    }
+    let mut is_on_border = false;
+    for &cell in &left {
+        let is_taken = slip == BoxIsTakenForTheCell && is_inside(&boxes[cell]);
+        match cells[cell].values(at, slip).min() {
+            Some(1) => return Ok(Place::Inside(cell)),
+            _ if is_taken => return Ok(Place::Inside(cell)),
+            least => is_on_border |= least == Some(0),
+        }
+    }
+    if !is_on_border {
+        return Err(10);
+    }
+    if slip == DoorwayIsOffTheBorderOfItsBox {
+        left.retain(|&cell| is_inside(&boxes[cell]));
+    }
+    let mut faces = left.into_iter().flat_map(|cell| floor.faces(cell));
+    let is_free = |face: u16| across[usize::from(face)] != WALL;
+    let found = faces.find(|&face| is_free(face) && is_within(floor, face, q));
+    found.map(Place::Within).ok_or(9)
 }
 
 /// Puts stands that are on a side onto a corner, where they are refused.
@@ -1159,6 +1252,15 @@ fn has_wrong_bit(lists: Lists<'_>, setting: u64) -> bool {
     setting.checked_shr(doors).unwrap_or(0) != 0
 }
 
+/// The least and the greatest x and y of some corners.
+fn ends(spots: &[[i128; 2]]) -> [[i128; 2]; 2] {
+    let along = |axis: usize| spots.iter().map(move |at| at[axis]);
+    [
+        [0, 1].map(|axis| along(axis).min().expect("a cell has corners")),
+        [0, 1].map(|axis| along(axis).max().expect("a cell has corners")),
+    ]
+}
+
 /// A cell by what its corners are, and where.
 struct Outline {
     corners: Vec<u16>,
@@ -1175,9 +1277,7 @@ impl Outline {
             [at.x, at.y].map(i128::from)
         };
         let spots: Vec<[i128; 2]> = corners.iter().map(spot).collect();
-        let along = |axis: usize| spots.iter().map(move |at| at[axis]);
-        let low = [0, 1].map(|axis| along(axis).min().expect("a cell has corners"));
-        let high = [0, 1].map(|axis| along(axis).max().expect("a cell has corners"));
+        let [low, high] = ends(&spots);
         Outline {
             corners,
             spots,
@@ -1647,6 +1747,8 @@ fn a_mismatch_is_made_small() {
         OldListIsCopied,
         LineStoodOnIsCrossed,
         DoorOfTheLineMayBeChanged,
+        BoxWithoutItsBorder,
+        BoxOfTheFirstThreeCorners,
         CellsThatTouchOverlap,
         OnlySidesOfTheLowerCellAreTried,
         OnlyCornersInsideAreSeen,

@@ -279,7 +279,7 @@ impl Ties {
 #[test]
 fn every_tie_comes_up_in_larger_cells() {
     let mut ties = Ties::default();
-    each_view(4, 15_000, |scene, floor, view| {
+    each_view(4, 20_000, |scene, floor, view| {
         let across = floor.across_under(scene.setting).unwrap();
         ties.count(floor, &across, view);
     });

@@ -48,7 +48,7 @@ module _ (cs : List ℤ) {T : Cells} (N : Numbered T) where
     inside-its-shape i =
         record { left-of-each = at-each-place cs N h (λ a b. 𝟘 <ℤ side (scaled w a) (scaled w b) (record { x = x; y = y })) (λ f s. i .left-of-each f (s .not-before) (s .not-after)) }
 
-    inside-the-cell : Inside (shape cs T c) x y w → StrictlyIn cs T c x y w
+    pub inside-the-cell : Inside (shape cs T c) x y w → StrictlyIn cs T c x y w
     unfolding shape
     inside-the-cell i =
         record {

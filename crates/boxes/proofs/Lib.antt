@@ -6,3 +6,5 @@ pub mod Cells
 pub mod Noted
 -- lists of cells, and the part of one that is picked
 pub mod Parts
+-- what lies in a cell lies in its box
+pub mod Inside

@@ -1,5 +1,5 @@
 -- Numbers of boxes as the code reads them back: each fits 32 bits.
-use mathlib.Core.Bool.{true, false}
+use mathlib.Core.Bool.{true, false, _||_}
 use mathlib.Core.Logic.{_⊎_, inl, inr}
 use mathlib.Core.Path.{_≡_, refl, sym, ap₂, _∙_, subst}
 use Prim.Native.Nat.{_^_, _<_, _≤_}
@@ -11,6 +11,7 @@ use mir.Val.{hbits, toZ, ofZ}
 use Rattle.exact.specs.Within.{Within}
 use Rattle.exact.proofs.Bounds.{Exactly, handed, itself, times, reads-back, widened}
 use Rattle.exact.proofs.Order.{ltZ-true, ltZ-false, less-is-at-most, less-or-not}
+use Rattle.boxes.specs.Boxes.{past}
 use Rattle.boxes.specs.Parts.{reaching}
 use Rattle.boxes.specs.declared.Bounds.{Bounds}
 use Rattle.boxes.specs.declared.part.Line.{Line}
@@ -93,6 +94,22 @@ made-wide z f = record { is = widened w32 w64 tt z f; size = within-32-bits z f 
 -- and twice itself, where the code doubles it
 pub doubled : (z : ℤ) → Fits32 z → Exactly (pos 2 *ℤ wide z) (pos 2 *ℤ z) 4294967296
 doubled z f = let two : Within 2 (pos 2) = record { size = omega arith } in times (itself two) (made-wide z f)
+
+-- ---- does a point lie past a box?
+
+-- the code's tests of one of its coordinates
+module _ (z a : ℤ) (f : mag z < 2 ^ hbits w64) (g : Fits32 a) where
+  test-below : ltZ (toZ w64 (ofZ w64 z)) (wide a) ≡ ltZ z a
+  test-below = ap₂ ltZ (handed w64 {r = z} {s = z} f refl) (made-wide a g .is)
+
+  test-above : ltZ (wide a) (toZ w64 (ofZ w64 z)) ≡ ltZ a z
+  test-above = ap₂ ltZ (made-wide a g .is) (handed w64 {r = z} {s = z} f refl)
+
+-- all four
+pub test-past : (b : Bounds) (x y : ℤ) → mag x < 2 ^ hbits w64 → mag y < 2 ^ hbits w64 → Fits32 (b .left) → Fits32 (b .right) → Fits32 (b .low) → Fits32 (b .high) → (ltZ (toZ w64 (ofZ w64 x)) (wide (b .left)) || ltZ (wide (b .right)) (toZ w64 (ofZ w64 x)) || ltZ (toZ w64 (ofZ w64 y)) (wide (b .low)) || ltZ (wide (b .high)) (toZ w64 (ofZ w64 y))) ≡ past b (record { x = x; y = y })
+unfolding past
+test-past b x y f g l r d u =
+    rw (test-below x (b .left) f l, test-above x (b .right) f r, test-below y (b .low) g d, test-above y (b .high) g u) refl
 
 -- ---- does a box reach to a side?
 

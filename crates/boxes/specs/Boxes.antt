@@ -1,5 +1,5 @@
--- The boxes of cells (document 02, A7), four numbers a cell in a table. Only that a box holds its cell is asked of it.
-use mathlib.Core.Bool.{Bool, _&&_}
+-- The boxes of cells (document 02, A7 and A3), four numbers a cell in a table. Only that a box holds its cell is asked of it.
+use mathlib.Core.Bool.{Bool, _&&_, _||_}
 use mathlib.Core.List.{List}
 use Prim.Native.Nat.{ℕ, suc, _+_, _*_, _<_, _≤_}
 use lib.ListN.{length, getD}
@@ -49,3 +49,7 @@ Boxed cs T bs = BoxedBelow cs T (cell-count T) bs
 -- two boxes meet strictly, in x and in y
 unfoldable pub meeting : Bounds → Bounds → Bool
 meeting a b = ltZ (a .left) (b .right) && ltZ (b .left) (a .right) && ltZ (a .low) (b .high) && ltZ (b .low) (a .high)
+
+-- p lies past the box: beyond one of its four borders, and not on it
+unfoldable pub past : Bounds → Point → Bool
+past b p = ltZ (p .x) (b .left) || ltZ (b .right) (p .x) || ltZ (p .y) (b .low) || ltZ (b .high) (p .y)

@@ -1,13 +1,14 @@
-// The boxes of cells (document 02, A7): of each cell its corners' least and greatest x, least and greatest y.
+// The boxes of cells (document 02, A7 and A3): of each cell its corners' least and greatest x, least and greatest y.
 ghost use Prim.Native.Nat.{_+_, _*_, _<_, _≤_};
 ghost use mathlib.Core.Path.{_≡_};
 ghost use lib.ListN.{length};
 ghost use mathlib.Core.List.{[], _∷_};
 ghost use lib.Seq.{sets};
 ghost use lib.Signed.{_≤ℤ_};
+ghost use Rattle.plane.specs.Side.{point};
 ghost use Rattle.cells.specs.Lists.{corner-count, corner-at, cell-count, tabled};
 ghost use Rattle.cells.specs.Sound.{Numbered, CornersExist};
-ghost use Rattle.boxes.specs.Boxes.{Holds, Wider, HoldsCell, box-at, BoxedBelow, Boxed, meeting};
+ghost use Rattle.boxes.specs.Boxes.{Holds, Wider, HoldsCell, box-at, BoxedBelow, Boxed, meeting, past};
 
 pub mod part;
 
@@ -166,4 +167,17 @@ pub fn meet(a: Bounds, b: Bounds) -> bool
     let above = a.low < b.high;
     let below = b.low < a.high;
     right & left & above & below
+}
+
+// Does q lie past the box? A point on its border does not. All four are compared, as in `meet`.
+pub fn is_past(b: Bounds, q: [i64; 2]) -> bool
+    ensures { λ r. ⌜ r ≡ past b (point q) ⌝ }
+{
+    let x = q[0];
+    let y = q[1];
+    let left = x < b.left as i64;
+    let right = (b.right as i64) < x;
+    let below = y < b.low as i64;
+    let above = (b.high as i64) < y;
+    left | right | below | above
 }

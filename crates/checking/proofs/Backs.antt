@@ -17,6 +17,7 @@ use Rattle.cells.specs.Sound.{Numbered, Sound}
 use Rattle.cells.proofs.Least.{least-bounds, holds-at-least, fails-before-least, Seeks, seek-begins, seek-passes, seek-found, seek-ends}
 use Rattle.cells.proofs.Faces.{firsts-grow}
 use Rattle.cells.specs.Backed.{Backed}
+use Rattle.boxes.specs.Boxes.{Boxed}
 use Rattle.checking.specs.Backed.{BackedBelow}
 
 module _ {T : Cells} {bs : List ℕ} where
@@ -94,5 +95,5 @@ module _ {T : Cells} (N : Numbered T) {bs : List ℕ} where
         (sym end ∙ seek-ends (w .seeks) (omega arith), all-backed (w .backed) end)
 
 -- what is said of tables is said of the cells they stand for
-pub backed-of : {cs : List ℤ} {S T : Cells} {ds bs : List ℕ} → S ≡ T → (Sound cs S ds → Backed S bs) → Sound cs T ds → Backed T bs
-backed-of {cs} {S} {T} {ds} {bs} e told = subst (λ (T : Cells). Sound cs T ds → Backed T bs) e told
+pub noted-of : {cs : List ℤ} {S T : Cells} {ds bs : List ℕ} {xs : List ℤ} → S ≡ T → (Sound cs S ds → (Backed S bs × Boxed cs S xs)) → Sound cs T ds → (Backed T bs × Boxed cs T xs)
+noted-of {cs} {S} {T} {ds} {bs} {xs} e told = subst (λ (T : Cells). Sound cs T ds → (Backed T bs × Boxed cs T xs)) e told

@@ -17,6 +17,7 @@ use Rattle.cells.specs.Cut.{cut, is-whole, cells-of}
 use Rattle.cells.specs.Check.{framed, checked}
 use Rattle.cells.specs.Backed.{Backed}
 use Rattle.cells.specs.Sound.{Sound}
+use Rattle.boxes.specs.Boxes.{Boxed}
 use Rattle.cells.proofs.Accepted.{accepted-is-sound}
 use Rattle.cells.proofs.Plans.{counts}
 use Rattle.checking.specs.Sizes.{sizes-of}
@@ -31,11 +32,18 @@ drawn-cells k ts e f = ap₂ tabled e f
 pub noted-backs : {T : Cells} (k : ℕ) (cs : List ℤ) (ts ds bs : List ℕ) → T ≡ cells-of k ts → (Sound cs (cells-of k ts) ds → Backed (cells-of k ts) bs) → Sound cs T ds → Backed T bs
 noted-backs k cs ts ds bs e noted sound = subst (λ (T : Cells). Backed T bs) (sym e) (noted (subst (λ (T : Cells). Sound cs T ds) e sound))
 
--- so an accepted plan is as finding a stand asks, its cells as they were drawn
-pub plan-checked : {T : Cells} (k : ℕ) (cs : List ℤ) (ts ds bs : List ℕ) {p : Plan} → T ≡ cells-of k ts → checked k cs ts ds ≡ Accepted p → (Sound cs (cells-of k ts) ds → Backed (cells-of k ts) bs) → Sound cs T ds × Backed T bs
-plan-checked k cs ts ds bs {p} e accepted noted =
-    let sound = subst (λ (T : Cells). Sound cs T ds) (sym e) (accepted-is-sound k cs ts ds p accepted .0) in
-    (sound, noted-backs k cs ts ds bs e noted sound)
+-- and so do the boxes of its cells: it is as finding a stand asks
+pub noted-boxes : {T : Cells} (k : ℕ) (cs : List ℤ) (ts ds bs : List ℕ) (xs : List ℤ) → T ≡ cells-of k ts → (Sound cs (cells-of k ts) ds → (Backed (cells-of k ts) bs × Boxed cs (cells-of k ts) xs)) → Sound cs T ds → Sound cs T ds × Backed T bs × Boxed cs T xs
+noted-boxes k cs ts ds bs xs e noted sound = (
+  sound,
+  noted-backs k cs ts ds bs e (λ s. noted s .0) sound,
+  subst (λ (T : Cells). Boxed cs T xs) (sym e) (noted (subst (λ (T : Cells). Sound cs T ds) e sound) .1),
+)
+
+-- so is an accepted plan, its cells as they were drawn
+pub plan-checked : {T : Cells} (k : ℕ) (cs : List ℤ) (ts ds bs : List ℕ) (xs : List ℤ) {p : Plan} → T ≡ cells-of k ts → checked k cs ts ds ≡ Accepted p → (Sound cs (cells-of k ts) ds → (Backed (cells-of k ts) bs × Boxed cs (cells-of k ts) xs)) → Sound cs T ds × Backed T bs × Boxed cs T xs
+plan-checked k cs ts ds bs xs {p} e accepted noted =
+    noted-boxes k cs ts ds bs xs e noted (subst (λ (T : Cells). Sound cs T ds) (sym e) (accepted-is-sound k cs ts ds p accepted .0))
 
 -- room for the lines of the cells is room for them as they were drawn
 pub room-for-lines : {T : Cells} {n : ℕ} (k : ℕ) (ts : List ℕ) → T ≡ cells-of k ts → n ≡ 4 * face-count (cells-of k ts) → n ≡ 4 * face-count T

@@ -10,6 +10,7 @@ ghost use Rattle.cells.specs.Check.{framed, checked-cells, checked};
 ghost use Rattle.cells.specs.Sound.{Numbered, Sound};
 ghost use Rattle.cells.specs.Lists.{tabled};
 ghost use Rattle.cells.specs.Backed.{Backed};
+ghost use Rattle.boxes.specs.Boxes.{Boxed};
 ghost use Rattle.checking.specs.Sizes.{sizes-of, Fit};
 use draw::Counted;
 pub use limits::Checked;
@@ -21,19 +22,22 @@ mod corner;
 mod door;
 mod neighbour;
 
-// The check of corners, of cells in tables and of doors, from CORNER on. Of an accepted plan the faces on the other side are noted.
+// The check of corners, of cells in tables and of doors, from CORNER on. Of an accepted plan the faces on the other side are noted, and the boxes of the
+// cells, so that finding need not work them out again (document 02, A3).
 pub fn check_tables(
     corners: &[i32],
     faces: &[u16],
     firsts: &[u16],
     doors: &[u16],
     backs: &mut [u16],
+    boxes: &mut [i32],
 ) -> Checked
     requires { ⌜ Numbered (tabled (now faces) (now firsts)) ⌝ }
     requires { ⌜ sized (corner-count (now corners)) (cell-count (tabled (now faces) (now firsts))) (length (now doors)) ≡ true ⌝ }
     requires { ⌜ length (now backs) ≡ face-count (tabled (now faces) (now firsts)) ⌝ }
+    requires { ⌜ 4 * cell-count (tabled (now faces) (now firsts)) ≤ length (now boxes) ⌝ }
     ensures { λ r. ⌜ r ≡ checked-cells (now (corners .entry)) (tabled (now (faces .entry)) (now (firsts .entry))) (now (doors .entry)) ⌝ }
-    ensures { λ r. ⌜ (Sound (now (corners .entry)) (tabled (now (faces .entry)) (now (firsts .entry))) (now (doors .entry)) → Backed (tabled (now (faces .entry)) (now (firsts .entry))) (now (backs .exit))) ⌝ }
+    ensures { λ r. ⌜ (Sound (now (corners .entry)) (tabled (now (faces .entry)) (now (firsts .entry))) (now (doors .entry)) → (Backed (tabled (now (faces .entry)) (now (firsts .entry))) (now (backs .exit)) × Boxed (now (corners .entry)) (tabled (now (faces .entry)) (now (firsts .entry))) (now (boxes .exit)))) ⌝ }
 {
     let n = corners.len() / 2;
     let m = firsts.len() - 1;
@@ -54,7 +58,7 @@ pub fn check_tables(
     if d < k {
         return Checked::Refused(Refusal::Door(d));
     }
-    let o = overlap::least_overlapping(corners, faces, firsts);
+    let o = overlap::least_overlapping(corners, faces, firsts, boxes);
     if o < m {
         return Checked::Refused(Refusal::Overlap(o));
     }
@@ -102,19 +106,21 @@ pub fn check_into(
     faces: &mut [u16],
     firsts: &mut [u16],
     backs: &mut [u16],
+    boxes: &mut [i32],
 ) -> Checked
     requires { ⌜ framed kind (now corners) (now cells) ≡ true ⌝ }
     requires { ⌜ sized (corner-count (now corners)) (cell-count (cells-of kind (now cells))) (length (now doors)) ≡ true ⌝ }
     requires { ⌜ length (now faces) ≡ 2 * face-count (cells-of kind (now cells)) ⌝ }
     requires { ⌜ length (now firsts) ≡ suc (cell-count (cells-of kind (now cells))) ⌝ }
     requires { ⌜ length (now backs) ≡ face-count (cells-of kind (now cells)) ⌝ }
+    requires { ⌜ 4 * cell-count (cells-of kind (now cells)) ≤ length (now boxes) ⌝ }
     ensures { λ r. ⌜ r ≡ checked kind (now (corners .entry)) (now (cells .entry)) (now (doors .entry)) ⌝ }
     ensures { λ r. ⌜ now (faces .exit) ≡ cells-of kind (now (cells .entry)) .faces ⌝ }
     ensures { λ r. ⌜ now (firsts .exit) ≡ cells-of kind (now (cells .entry)) .firsts ⌝ }
-    ensures { λ r. ⌜ (Sound (now (corners .entry)) (cells-of kind (now (cells .entry))) (now (doors .entry)) → Backed (cells-of kind (now (cells .entry))) (now (backs .exit))) ⌝ }
+    ensures { λ r. ⌜ (Sound (now (corners .entry)) (cells-of kind (now (cells .entry))) (now (doors .entry)) → (Backed (cells-of kind (now (cells .entry))) (now (backs .exit)) × Boxed (now (corners .entry)) (cells-of kind (now (cells .entry))) (now (boxes .exit)))) ⌝ }
 {
     draw::draw(kind, cells, faces, firsts);
-    check_tables(corners, faces, firsts, doors, backs)
+    check_tables(corners, faces, firsts, doors, backs, boxes)
 }
 
 // The check of lists of m cells and n faces, with room enough for their tables.
@@ -137,6 +143,7 @@ fn check_in(
 {
     let numbers = 2 * n;
     let counts = m + 1;
+    let mut boxes = [0i32; 4 * Plan::MOST_CELLS];
     check_into(
         corners,
         cells,
@@ -145,6 +152,7 @@ fn check_in(
         &mut faces[..numbers],
         &mut firsts[..counts],
         &mut backs[..n],
+        &mut boxes,
     )
 }
 

@@ -9,6 +9,7 @@ ghost use Rattle.cells.specs.Cut.{cells-of};
 ghost use Rattle.cells.specs.Check.{framed};
 ghost use Rattle.cells.specs.Backed.{Backed};
 ghost use Rattle.cells.specs.Sound.{Sound};
+ghost use Rattle.boxes.specs.Boxes.{Boxed};
 ghost use Rattle.checking.specs.Sizes.{sizes-of};
 ghost use Rattle.checking.specs.declared.Sizes.the-variants.{Of};
 ghost use Rattle.stand.specs.Spot.{stood};
@@ -31,17 +32,18 @@ fn find_stand(
     faces: &[u16],
     firsts: &[u16],
     backs: &[u16],
+    boxes: &[i32],
     doors: &[u16],
     setting: u64,
     stand: Stand,
 ) -> Found
-    requires { ⌜ Sound (now corners) (tabled (now faces) (now firsts)) (now doors) × Backed (tabled (now faces) (now firsts)) (now backs) ⌝ }
+    requires { ⌜ Sound (now corners) (tabled (now faces) (now firsts)) (now doors) × Backed (tabled (now faces) (now firsts)) (now backs) × Boxed (now corners) (tabled (now faces) (now firsts)) (now boxes) ⌝ }
     ensures { λ r. ⌜ r ≡ with-spot (now (corners .entry)) (tabled (now (faces .entry)) (now (firsts .entry))) (now (doors .entry)) setting (stood (now (corners .entry)) stand) ⌝ }
 {
     let Spot::At(x, y) = stand_spot(corners, stand) else {
         return Found::Refused(Refusal::Stand);
     };
-    locate(corners, faces, firsts, backs, doors, setting, [x, y])
+    locate(corners, faces, firsts, backs, boxes, doors, setting, [x, y])
 }
 
 // On lists that are framed and sized, with room for their tables.
@@ -62,14 +64,24 @@ fn find_in(
     requires { ⌜ length (now backs) ≡ face-count (cells-of kind (now cells)) ⌝ }
     ensures { λ r. ⌜ r ≡ found kind (now (corners .entry)) (now (cells .entry)) (now (doors .entry)) setting stand ⌝ }
 {
-    match check_into(corners, cells, doors, kind, faces, firsts, backs) {
+    let mut boxes = [0i32; 4 * Plan::MOST_CELLS];
+    match check_into(
+        corners,
+        cells,
+        doors,
+        kind,
+        faces,
+        firsts,
+        backs,
+        &mut boxes,
+    ) {
         Checked::Refused(r) => Found::Refused(r),
         Checked::Accepted(plan) => {
             let k = plan.doors;
             if setting::is_wrong(setting, k) {
                 return Found::Refused(Refusal::Setting);
             }
-            find_stand(corners, faces, firsts, backs, doors, setting, stand)
+            find_stand(corners, faces, firsts, backs, &boxes, doors, setting, stand)
         }
     }
 }

@@ -9,6 +9,7 @@ ghost use Rattle.cells.specs.Cut.{cells-of};
 ghost use Rattle.cells.specs.Check.{framed};
 ghost use Rattle.cells.specs.Backed.{Backed};
 ghost use Rattle.cells.specs.Sound.{Sound};
+ghost use Rattle.boxes.specs.Boxes.{Boxed};
 ghost use Rattle.grant.specs.Asked.{sizes-asked, asked};
 use checking::Sizes;
 use checking::check_into;
@@ -33,7 +34,7 @@ pub fn measure_for(corners: &[i32], cells: &[u16], doors: &[u16], kind: u16, cou
 }
 
 // Of lists that are framed and sized and of no more stands than are allowed: replies 3 to 7 and 11 in order, each with its place, or the counts of the
-// plan. The plan's tables are drawn into the room lent, and of an accepted plan the faces on the other side are noted.
+// plan. The plan's tables are drawn into the room lent, and of an accepted plan the faces on the other side and the boxes of the cells are noted.
 pub fn asked_in(
     corners: &[i32],
     cells: &[u16],
@@ -46,18 +47,20 @@ pub fn asked_in(
     faces: &mut [u16],
     firsts: &mut [u16],
     backs: &mut [u16],
+    boxes: &mut [i32],
 ) -> Checked
     requires { ⌜ (framed kind (now corners) (now cells) ≡ true) × (sized (corner-count (now corners)) (cell-count (cells-of kind (now cells))) (length (now doors)) ≡ true) ⌝ }
     requires { ⌜ count ≤ most-stands ⌝ }
     requires { ⌜ length (now faces) ≡ 2 * face-count (cells-of kind (now cells)) ⌝ }
     requires { ⌜ length (now firsts) ≡ suc (cell-count (cells-of kind (now cells))) ⌝ }
     requires { ⌜ length (now backs) ≡ face-count (cells-of kind (now cells)) ⌝ }
+    requires { ⌜ 4 * cell-count (cells-of kind (now cells)) ≤ length (now boxes) ⌝ }
     ensures { λ r. ⌜ r ≡ asked kind (now (corners .entry)) (now (cells .entry)) (now (doors .entry)) setting count room places ⌝ }
     ensures { λ _. ⌜ now (faces .exit) ≡ cells-of kind (now (cells .entry)) .faces ⌝ }
     ensures { λ _. ⌜ now (firsts .exit) ≡ cells-of kind (now (cells .entry)) .firsts ⌝ }
-    ensures { λ _. ⌜ (Sound (now (corners .entry)) (cells-of kind (now (cells .entry))) (now (doors .entry)) → Backed (cells-of kind (now (cells .entry))) (now (backs .exit))) ⌝ }
+    ensures { λ _. ⌜ (Sound (now (corners .entry)) (cells-of kind (now (cells .entry))) (now (doors .entry)) → (Backed (cells-of kind (now (cells .entry))) (now (backs .exit)) × Boxed (now (corners .entry)) (cells-of kind (now (cells .entry))) (now (boxes .exit)))) ⌝ }
 {
-    match check_into(corners, cells, doors, kind, faces, firsts, backs) {
+    match check_into(corners, cells, doors, kind, faces, firsts, backs, boxes) {
         Checked::Refused(r) => Checked::Refused(r),
         Checked::Accepted(plan) => {
             let n = plan.corners;

@@ -11,6 +11,7 @@ ghost use Rattle.cells.specs.Cut.{cells-of};
 ghost use Rattle.cells.specs.Check.{framed};
 ghost use Rattle.cells.specs.Backed.{Backed};
 ghost use Rattle.cells.specs.Sound.{Sound};
+ghost use Rattle.boxes.specs.Boxes.{Boxed};
 ghost use Rattle.lines.specs.Lined.{Lined};
 ghost use Rattle.checking.specs.Sizes.{sizes-of};
 ghost use Rattle.checking.specs.declared.Sizes.the-variants.{Of};
@@ -57,6 +58,7 @@ fn list_one(
     faces: &[u16],
     firsts: &[u16],
     backs: &[u16],
+    boxes: &[i32],
     doors: &[u16],
     setting: u64,
     reach: Reach,
@@ -66,13 +68,23 @@ fn list_one(
     table: &mut [u16],
     seen: &mut [i32],
 ) -> Listed
-    requires { ⌜ Sound (now corners) (tabled (now faces) (now firsts)) (now doors) × Backed (tabled (now faces) (now firsts)) (now backs) ⌝ }
+    requires { ⌜ Sound (now corners) (tabled (now faces) (now firsts)) (now doors) × Backed (tabled (now faces) (now firsts)) (now backs) × Boxed (now corners) (tabled (now faces) (now firsts)) (now boxes) ⌝ }
     requires { ⌜ Lined (tabled (now faces) (now firsts)) (now doors) setting (now lines) ⌝ }
     requires { ⌜ 4 * corner-count (now corners) ≤ length (now table) ⌝ }
     requires { ⌜ length (now seen) ≡ length (now corners) ⌝ }
     ensures { λ r. ⌜ (r, now (table .exit)) ≡ listed-on (now (corners .entry)) (tabled (now (faces .entry)) (now (firsts .entry))) (now (doors .entry)) setting reach ceiling stand (now (table .entry)) ⌝ }
 {
-    match view_of_stand(corners, faces, firsts, backs, doors, setting, stand, reach) {
+    match view_of_stand(
+        corners,
+        faces,
+        firsts,
+        backs,
+        boxes,
+        doors,
+        setting,
+        stand,
+        reach,
+    ) {
         View::Refused(r) => Listed::Refused(r),
         View::From(x, y, p) => {
             see(corners, [x, y], seen);
@@ -88,6 +100,7 @@ fn list_stand(
     faces: &[u16],
     firsts: &[u16],
     backs: &[u16],
+    boxes: &[i32],
     doors: &[u16],
     setting: u64,
     reach: Reach,
@@ -99,7 +112,7 @@ fn list_stand(
     at: usize,
     seen: &mut [i32],
 ) -> Counts
-    requires { ⌜ Sound (now corners) (tabled (now faces) (now firsts)) (now doors) × Backed (tabled (now faces) (now firsts)) (now backs) ⌝ }
+    requires { ⌜ Sound (now corners) (tabled (now faces) (now firsts)) (now doors) × Backed (tabled (now faces) (now firsts)) (now backs) × Boxed (now corners) (tabled (now faces) (now firsts)) (now boxes) ⌝ }
     requires { ⌜ Lined (tabled (now faces) (now firsts)) (now doors) setting (now lines) ⌝ }
     requires { ⌜ (4 * corner-count (now corners) ≤ length (now table)) × (at + 3 ≤ length (now replies)) ⌝ }
     requires { ⌜ length (now seen) ≡ length (now corners) ⌝ }
@@ -113,6 +126,7 @@ fn list_stand(
         faces,
         firsts,
         backs,
+        boxes,
         doors,
         setting,
         reach,
@@ -142,6 +156,7 @@ fn list_each(
     faces: &[u16],
     firsts: &[u16],
     backs: &[u16],
+    boxes: &[i32],
     doors: &[u16],
     setting: u64,
     reach: Reach,
@@ -153,7 +168,7 @@ fn list_each(
     lines: &mut [u16],
     seen: &mut [i32],
 ) -> Counts
-    requires { ⌜ Sound (now corners) (tabled (now faces) (now firsts)) (now doors) × Backed (tabled (now faces) (now firsts)) (now backs) ⌝ }
+    requires { ⌜ Sound (now corners) (tabled (now faces) (now firsts)) (now doors) × Backed (tabled (now faces) (now firsts)) (now backs) × Boxed (now corners) (tabled (now faces) (now firsts)) (now boxes) ⌝ }
     requires { ⌜ RoomFor count (now corners) (length (now table)) (length (now replies)) ⌝ }
     requires { ⌜ (length (now lines) ≡ 4 * face-count (tabled (now faces) (now firsts))) × (length (now seen) ≡ length (now corners)) ⌝ }
     ensures { λ r. ⌜ r .rows ≡ rows-in-all (single-on (now (corners .entry)) (tabled (now (faces .entry)) (now (firsts .entry))) (now (doors .entry)) setting reach ceiling) (take count stands) ⌝ }
@@ -173,6 +188,7 @@ fn list_each(
             faces,
             firsts,
             backs,
+            boxes,
             doors,
             setting,
             reach,
@@ -219,6 +235,7 @@ fn list_in(
     let count = morning.count;
     let reach = morning.reach;
     let ceiling = morning.ceiling;
+    let mut boxes = [0i32; 4 * Plan::MOST_CELLS];
     match asked_in(
         corners,
         cells,
@@ -231,6 +248,7 @@ fn list_in(
         faces,
         firsts,
         backs,
+        &mut boxes,
     ) {
         Checked::Refused(r) => Listed::Refused(r),
         Checked::Accepted(_) => {
@@ -239,6 +257,7 @@ fn list_in(
                 faces,
                 firsts,
                 backs,
+                &boxes,
                 doors,
                 setting,
                 reach,

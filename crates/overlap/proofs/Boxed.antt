@@ -5,107 +5,24 @@ use mathlib.Core.List.{List, [], _∷_}
 use mathlib.Core.Logic.{_⊎_, inl, inr}
 use mathlib.Core.Path.{_≡_, refl}
 use Prim.Native.Nat.{ℕ, _<_}
-use native.Mathlib.Omega.{arith}
-use lib.IntN.{ℤ, pos, negℤ, _*ℤ_}
-use lib.Signed.{_<ℤ_, _≤ℤ_, ltZ-yes}
+use lib.IntN.{ℤ, pos, _*ℤ_}
+use lib.Signed.{_<ℤ_, _≤ℤ_}
 use Rattle.exact.proofs.Order.{𝟘, lt-ltZ, less-or-not}
-use Rattle.exact.proofs.Solver.{solve, _⊗_}
-use Rattle.exact.proofs.Solver.Expr.{var, lit, neg}
+use Rattle.exact.proofs.Solver.{_⊗_}
+use Rattle.exact.proofs.Solver.Expr.{var, lit}
 use Rattle.exact.proofs.Certificate.{prove, _≺_, _≼_, _⊞_, _⊠_}
 use Rattle.exact.proofs.Certificate.Cert.{given, number}
 use Rattle.exact.proofs.Certificate.Proof.{only}
-use Rattle.plane.specs.Side.{Point}
-use Rattle.plane.specs.Cone.{dot}
-use Rattle.plane.proofs.Quote.{Pointᵉ, coordinates, pt, 𝟘ᵉ, dotᵉ}
-use Rattle.convex.proofs.Below.{strictly-below}
+use Rattle.plane.proofs.Quote.{𝟘ᵉ}
 use Rattle.cells.specs.Lists.{Cells, cell-count}
 use Rattle.cells.specs.Check.{overlapping}
-use Rattle.cells.specs.Overlap.{StrictlyIn}
-use Rattle.cells.specs.Sound.{Numbered}
-use Rattle.cells.proofs.Cells.{at}
 use Rattle.cells.proofs.Least.{not-both}
-use Rattle.apart.proofs.Shapes.{shape, three-sides, at-each-place, goes-round}
-use Rattle.apart.proofs.Test.{inside-its-shape, told-is-overlap}
-use Rattle.boxes.specs.Boxes.{Holds, HoldsCell, box-at, Boxed, meeting}
+use Rattle.apart.proofs.Test.{told-is-overlap}
+use Rattle.boxes.specs.Boxes.{box-at, Boxed, meeting}
 use Rattle.boxes.specs.Parts.{reaching}
 use Rattle.boxes.specs.declared.Bounds.{Bounds}
+use Rattle.boxes.proofs.Inside.{Within, strictly-in-its-box}
 use Rattle.overlap.specs.Search.{Ready}
-
--- ---- a point strictly inside a cell
-
--- is strictly inside its box
-record Within (b : Bounds) (x y w : ℤ) : Type 0 where
-  right-of : (b .left *ℤ w) <ℤ x
-  left-of : x <ℤ (b .right *ℤ w)
-  above : (b .low *ℤ w) <ℤ y
-  below : y <ℤ (b .high *ℤ w)
-
-abbrev rightwards : Point
-rightwards = record { x = pos 1; y = pos 0 }
-
-abbrev upwards : Point
-upwards = record { x = pos 0; y = pos 1 }
-
-rightwards-is-x : (p : Point) → dot rightwards p ≡ p .x
-unfolding dot
-rightwards-is-x p = solve (coordinates (p ∷ [])) (dotᵉ (record { x = lit (pos 1); y = 𝟘ᵉ }) (pt 0)) (var 0) tt
-
-upwards-is-y : (p : Point) → dot upwards p ≡ p .y
-unfolding dot
-upwards-is-y p = solve (coordinates (p ∷ [])) (dotᵉ (record { x = 𝟘ᵉ; y = lit (pos 1) }) (pt 0)) (var 1) tt
-
-abbrev against : Point → Point
-against t = record { x = negℤ (t .x); y = negℤ (t .y) }
-
-abbrev againstᵉ : Pointᵉ
-againstᵉ = record { x = neg (var 0); y = neg (var 1) }
-
-against-is-as-long : (t : Point) → 𝟘 <ℤ dot t t → 𝟘 <ℤ dot (against t) (against t)
-unfolding dot
-against-is-as-long t =
-    prove (coordinates (t ∷ [])) ((𝟘ᵉ ≺ dotᵉ (pt 0) (pt 0)) ∷ []) (𝟘ᵉ ≺ dotᵉ againstᵉ againstᵉ) (only (given 0 ⊞ given 1)) tt
-
-not-less-against : (t p : Point) (g : ℤ) → g ≤ℤ dot t p → dot (against t) p ≤ℤ negℤ g
-unfolding dot
-not-less-against t p g =
-    prove (coordinates (t ∷ p ∷ record { x = g; y = g } ∷ [])) ((var 4 ≼ dotᵉ (pt 0) (pt 1)) ∷ []) (dotᵉ againstᵉ (pt 1) ≼ neg (var 4)) (only (given 0 ⊞ given 1)) tt
-
-more-than-against : (t p : Point) (g w : ℤ) → dot (against t) p <ℤ (negℤ g *ℤ w) → (g *ℤ w) <ℤ dot t p
-unfolding dot
-more-than-against t p g w =
-    prove (coordinates (t ∷ p ∷ record { x = g; y = w } ∷ [])) ((dotᵉ againstᵉ (pt 1) ≺ neg (var 4) ⊗ var 5) ∷ []) (var 4 ⊗ var 5 ≺ dotᵉ (pt 0) (pt 1)) (only (given 0 ⊞ given 1)) tt
-
-module _ (cs : List ℤ) {T : Cells} (N : Numbered T) {c : ℕ} (h : c < cell-count T) {b : Bounds} (box : HoldsCell cs T c b) {x y w : ℤ} (positive : 𝟘 <ℤ w) (i : StrictlyIn cs T c x y w) where
-  -- below every line that no corner is above
-  bounded : (t : Point) → 𝟘 <ℤ dot t t → (g : ℤ) → ((p : Point) → Holds b p → dot t p ≤ℤ g) → dot t (record { x = x; y = y }) <ℤ (g *ℤ w)
-  unfolding shape
-  bounded t long g each =
-      strictly-below (goes-round cs N h) (omega (arith, three-sides cs N h)) t g
-      (at-each-place cs N h (λ p q. dot t p ≤ℤ g) (λ f s. each (at cs T f) (box .corners f (s .not-before) (s .not-after))))
-      long positive (inside-its-shape cs N h i)
-
-  between : (t : Point) → 𝟘 <ℤ dot t t → (l g : ℤ) → ((p : Point) → Holds b p → (l ≤ℤ dot t p) × (dot t p ≤ℤ g)) → ((l *ℤ w) <ℤ dot t (record { x = x; y = y })) × (dot t (record { x = x; y = y }) <ℤ (g *ℤ w))
-  between t long l g each = (
-    more-than-against t _ l w (bounded (against t) (against-is-as-long t long) (negℤ l) (λ p k. not-less-against t p l (each p k .0))),
-    bounded t long g (λ p k. each p k .1),
-  )
-
-  within : Within b x y w
-  within =
-      let across = between rightwards long (b .left) (b .right) (λ p k. rw (rightwards-is-x p) (k .not-left, k .not-right)) in
-      let up = between upwards long′ (b .low) (b .high) (λ p k. rw (upwards-is-y p) (k .not-below, k .not-above)) in
-      record {
-        right-of = rw (rightwards-is-x _) at (across .0);
-        left-of = rw (rightwards-is-x _) at (across .1);
-        above = rw (upwards-is-y _) at (up .0);
-        below = rw (upwards-is-y _) at (up .1);
-      }
-    where
-      long : 𝟘 <ℤ dot rightwards rightwards
-      long = rw (rightwards-is-x rightwards) (ltZ-yes tt)
-
-      long′ : 𝟘 <ℤ dot upwards upwards
-      long′ = rw (upwards-is-y upwards) (ltZ-yes tt)
 
 -- ---- two cells that overlap
 
@@ -134,8 +51,8 @@ module _ {cs : List ℤ} {T : Cells} (R : Ready cs T) {bs : List ℤ} (boxed : B
   pub overlap-meets : overlapping cs T c e ≡ true → (Meet (box-at bs c) (box-at bs c) × Meet (box-at bs c) (box-at bs e)) × (Meet (box-at bs e) (box-at bs c) × Meet (box-at bs e) (box-at bs e))
   overlap-meets t =
       let o = told-is-overlap cs (R .numbered) (R .right) h k t in
-      let i = within cs (R .numbered) h (boxed .each c h) (o .positive) (o .in-one) in
-      let j = within cs (R .numbered) k (boxed .each e k) (o .positive) (o .in-other) in
+      let i = strictly-in-its-box cs (R .numbered) h (boxed .each c h) (o .positive) (o .in-one) in
+      let j = strictly-in-its-box cs (R .numbered) k (boxed .each e k) (o .positive) (o .in-other) in
       ((within-both (o .positive) i i, within-both (o .positive) i j), (within-both (o .positive) j i, within-both (o .positive) j j))
 
   -- so cells whose boxes do not meet strictly do not overlap

@@ -1,6 +1,6 @@
 // Cells that lie on top of each other (document 02, A7): the least cell of any pair. Every call checks its plan anew, so not all pairs are looked at: a
 // list of cells is taken apart by a line as long as that leaves fewer pairs, and the cells that reach to one side of it are compared with each other.
-ghost use Prim.Native.Nat.{ℕ, _<_, _≤_};
+ghost use Prim.Native.Nat.{ℕ, _*_, _<_, _≤_};
 ghost use mathlib.Core.Path.{_≡_};
 ghost use lib.ListN.{length, getD};
 ghost use Rattle.limits.specs.Limits.{most-cells};
@@ -81,16 +81,17 @@ fn list_all(m: usize, list: &mut [u16])
     }
 }
 
-// The least cell of any overlapping pair, or the count of cells.
-pub fn least_overlapping(corners: &[i32], faces: &[u16], firsts: &[u16]) -> usize
+// The least cell of any overlapping pair, or the count of cells. The boxes of all cells are noted in the room lent.
+pub fn least_overlapping(corners: &[i32], faces: &[u16], firsts: &[u16], boxes: &mut [i32]) -> usize
     requires { ⌜ Ready (now corners) (tabled (now faces) (now firsts)) ⌝ }
     requires { ⌜ cell-count (tabled (now faces) (now firsts)) ≤ most-cells ⌝ }
+    requires { ⌜ 4 * cell-count (tabled (now faces) (now firsts)) ≤ length (now boxes) ⌝ }
     ensures { λ r. ⌜ r ≡ first-overlapping (now (corners .entry)) (tabled (now (faces .entry)) (now (firsts .entry))) ⌝ }
+    ensures { λ r. ⌜ Boxed (now (corners .entry)) (tabled (now (faces .entry)) (now (firsts .entry))) (now (boxes .exit)) ⌝ }
 {
     let m = firsts.len() - 1;
-    let mut boxes = [0i32; 4 * Plan::MOST_CELLS];
-    boxes::note(corners, faces, firsts, &mut boxes);
+    boxes::note(corners, faces, firsts, boxes);
     let mut list = [0u16; Plan::MOST_CELLS];
     list_all(m, &mut list);
-    search(corners, faces, firsts, &boxes, &list[..m], LEVELS, m)
+    search(corners, faces, firsts, boxes, &list[..m], LEVELS, m)
 }

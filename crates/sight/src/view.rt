@@ -9,10 +9,12 @@ ghost use Rattle.cells.specs.Cut.{cells-of};
 ghost use Rattle.cells.specs.Check.{framed};
 ghost use Rattle.cells.specs.Backed.{Backed};
 ghost use Rattle.cells.specs.Sound.{Sound};
+ghost use Rattle.boxes.specs.Boxes.{Boxed};
 ghost use Rattle.stand.specs.Spot.{stood};
 ghost use Rattle.sight.specs.Listing.{view-of-spot, viewed};
 use checking::check_into;
 use limits::Checked;
+use limits::Plan;
 use limits::Refusal;
 use reach::Reach;
 use stand::locate::Footing;
@@ -40,12 +42,13 @@ pub fn view_of_stand(
     faces: &[u16],
     firsts: &[u16],
     backs: &[u16],
+    boxes: &[i32],
     doors: &[u16],
     setting: u64,
     stand: Stand,
     reach: Reach,
 ) -> View
-    requires { ⌜ Sound (now corners) (tabled (now faces) (now firsts)) (now doors) × Backed (tabled (now faces) (now firsts)) (now backs) ⌝ }
+    requires { ⌜ Sound (now corners) (tabled (now faces) (now firsts)) (now doors) × Backed (tabled (now faces) (now firsts)) (now backs) × Boxed (now corners) (tabled (now faces) (now firsts)) (now boxes) ⌝ }
     ensures { λ r. ⌜ r ≡ view-of-spot (now (corners .entry)) (tabled (now (faces .entry)) (now (firsts .entry))) (now (doors .entry)) setting reach (stood (now (corners .entry)) stand) ⌝ }
 {
     let Spot::At(x, y) = stand_spot(corners, stand) else {
@@ -54,7 +57,7 @@ pub fn view_of_stand(
     if reach::is_wrong(reach) {
         return View::Refused(Refusal::Reach);
     }
-    match locate(corners, faces, firsts, backs, doors, setting, [x, y]) {
+    match locate(corners, faces, firsts, backs, boxes, doors, setting, [x, y]) {
         Found::Refused(r) => View::Refused(r),
         Found::At(p) => View::From(x, y, p),
     }
@@ -80,7 +83,17 @@ pub fn view_in(
     ensures { λ r. ⌜ now (firsts .exit) ≡ cells-of kind (now (cells .entry)) .firsts ⌝ }
     ensures { λ r. ⌜ (Sound (now (corners .entry)) (cells-of kind (now (cells .entry))) (now (doors .entry)) → Backed (cells-of kind (now (cells .entry))) (now (backs .exit))) ⌝ }
 {
-    match check_into(corners, cells, doors, kind, faces, firsts, backs) {
+    let mut boxes = [0i32; 4 * Plan::MOST_CELLS];
+    match check_into(
+        corners,
+        cells,
+        doors,
+        kind,
+        faces,
+        firsts,
+        backs,
+        &mut boxes,
+    ) {
         Checked::Refused(r) => View::Refused(r),
         Checked::Accepted(plan) => {
             let k = plan.doors;
@@ -90,7 +103,17 @@ pub fn view_in(
             if setting::is_wrong(setting, k) {
                 return View::Refused(Refusal::Setting);
             }
-            view_of_stand(corners, faces, firsts, backs, doors, setting, stand, reach)
+            view_of_stand(
+                corners,
+                faces,
+                firsts,
+                backs,
+                &boxes,
+                doors,
+                setting,
+                stand,
+                reach,
+            )
         }
     }
 }

@@ -12,3 +12,5 @@ pub mod Finds
 pub mod Located
 -- the promise of finding leaves one reply, as does every promise that is an equation; a stand is one point, found at one place
 pub mod Unique
+-- cells are ruled out by their boxes
+pub mod ByBox

@@ -10,7 +10,8 @@ ghost use Rattle.plane.specs.Side.{point, Near};
 ghost use Rattle.cells.specs.Least.{least};
 ghost use Rattle.cells.specs.Lists.{corner-count, corner-at, cell-count, face-count, first, side-count, next, tabled};
 ghost use Rattle.cells.specs.Backed.{Backed};
-ghost use Rattle.cells.specs.Sound.{CornersNear, CornersExist, Numbered, Sound};
+ghost use Rattle.cells.specs.Sound.{CornersNear, CornersExist, CellsRight, Numbered, Sound};
+ghost use Rattle.boxes.specs.Boxes.{Boxed};
 ghost use Rattle.stand.specs.Find.{against, within-free, first-within, side-at, by-places, located};
 use cells::corner;
 use limits::Refusal;
@@ -78,6 +79,28 @@ fn containment(corners: &[i32], faces: &[u16], firsts: &[u16], q: [i64; 2], c: u
     plane::placed(least)
 }
 
+// Where q lies against cell c, by its box first: where that does not hold q, the cell is ruled out and nothing is multiplied (document 02, A3).
+fn containment_by_box(
+    corners: &[i32],
+    faces: &[u16],
+    firsts: &[u16],
+    boxes: &[i32],
+    q: [i64; 2],
+    c: usize,
+) -> Containment
+    requires { ⌜ CornersNear (now corners) × CellsRight (now corners) (tabled (now faces) (now firsts)) × Numbered (tabled (now faces) (now firsts)) ⌝ }
+    requires { ⌜ Boxed (now corners) (tabled (now faces) (now firsts)) (now boxes) ⌝ }
+    requires { ⌜ Near (point q) ⌝ }
+    requires { ⌜ c < cell-count (tabled (now faces) (now firsts)) ⌝ }
+    ensures { λ r. ⌜ r ≡ against (now (corners .entry)) (tabled (now (faces .entry)) (now (firsts .entry))) (point q) c ⌝ }
+{
+    let b = boxes::read(boxes, c);
+    if boxes::is_past(b, q) {
+        return Containment::Outside;
+    }
+    containment(corners, faces, firsts, q, c)
+}
+
 // Is q strictly within side f, which ends where face n starts, and does sight pass that side under the setting?
 fn is_in_doorway(
     corners: &[i32],
@@ -136,24 +159,49 @@ fn least_doorway(
     f + 1
 }
 
+// As `least_doorway`, by the cell's box first: who stands strictly within a side stands in the box of its cell (document 02, A3).
+fn doorway_by_box(
+    corners: &[i32],
+    faces: &[u16],
+    firsts: &[u16],
+    backs: &[u16],
+    boxes: &[i32],
+    doors: &[u16],
+    setting: u64,
+    q: [i64; 2],
+    c: usize,
+) -> usize
+    requires { ⌜ Sound (now corners) (tabled (now faces) (now firsts)) (now doors) × Backed (tabled (now faces) (now firsts)) (now backs) × Boxed (now corners) (tabled (now faces) (now firsts)) (now boxes) ⌝ }
+    requires { ⌜ Near (point q) ⌝ }
+    requires { ⌜ c < cell-count (tabled (now faces) (now firsts)) ⌝ }
+    ensures { λ r. ⌜ r ≡ least (within-free (now (corners .entry)) (tabled (now (faces .entry)) (now (firsts .entry))) (now (doors .entry)) setting (point q)) (side-count (tabled (now (faces .entry)) (now (firsts .entry))) c) (first (tabled (now (faces .entry)) (now (firsts .entry))) c) ⌝ }
+{
+    let b = boxes::read(boxes, c);
+    if boxes::is_past(b, q) {
+        return firsts[c + 1] as usize;
+    }
+    least_doorway(corners, faces, firsts, backs, doors, setting, q, c)
+}
+
 // A stand on a border: the first free side that it is strictly within.
 fn on_side(
     corners: &[i32],
     faces: &[u16],
     firsts: &[u16],
     backs: &[u16],
+    boxes: &[i32],
     doors: &[u16],
     setting: u64,
     q: [i64; 2],
 ) -> Found
-    requires { ⌜ Sound (now corners) (tabled (now faces) (now firsts)) (now doors) × Backed (tabled (now faces) (now firsts)) (now backs) ⌝ }
+    requires { ⌜ Sound (now corners) (tabled (now faces) (now firsts)) (now doors) × Backed (tabled (now faces) (now firsts)) (now backs) × Boxed (now corners) (tabled (now faces) (now firsts)) (now boxes) ⌝ }
     requires { ⌜ Near (point q) ⌝ }
     ensures { λ r. ⌜ r ≡ by-places false (ltb (first-within (now (corners .entry)) (tabled (now (faces .entry)) (now (firsts .entry))) (now (doors .entry)) setting (point q)) (face-count (tabled (now (faces .entry)) (now (firsts .entry))))) true 0 (side-at (tabled (now (faces .entry)) (now (firsts .entry))) (first-within (now (corners .entry)) (tabled (now (faces .entry)) (now (firsts .entry))) (now (doors .entry)) setting (point q))) ⌝ }
 {
     let m = firsts.len() - 1;
     let mut c = 0;
     while c < m {
-        let f = least_doorway(corners, faces, firsts, backs, doors, setting, q, c);
+        let f = doorway_by_box(corners, faces, firsts, backs, boxes, doors, setting, q, c);
         if f < firsts[c + 1] as usize {
             let side = f - firsts[c] as usize;
             return Found::At(Footing::Side(c, side));
@@ -169,11 +217,12 @@ pub fn locate(
     faces: &[u16],
     firsts: &[u16],
     backs: &[u16],
+    boxes: &[i32],
     doors: &[u16],
     setting: u64,
     q: [i64; 2],
 ) -> Found
-    requires { ⌜ Sound (now corners) (tabled (now faces) (now firsts)) (now doors) × Backed (tabled (now faces) (now firsts)) (now backs) ⌝ }
+    requires { ⌜ Sound (now corners) (tabled (now faces) (now firsts)) (now doors) × Backed (tabled (now faces) (now firsts)) (now backs) × Boxed (now corners) (tabled (now faces) (now firsts)) (now boxes) ⌝ }
     requires { ⌜ Near (point q) ⌝ }
     ensures { λ r. ⌜ r ≡ located (now (corners .entry)) (tabled (now (faces .entry)) (now (firsts .entry))) (now (doors .entry)) setting (point q) ⌝ }
 {
@@ -181,7 +230,7 @@ pub fn locate(
     let mut on_border = false;
     let mut c = 0;
     while c < m {
-        match containment(corners, faces, firsts, q, c) {
+        match containment_by_box(corners, faces, firsts, boxes, q, c) {
             Containment::Inside => {
                 return Found::At(Footing::Inside(c));
             }
@@ -193,7 +242,7 @@ pub fn locate(
         c += 1;
     }
     if on_border {
-        return on_side(corners, faces, firsts, backs, doors, setting, q);
+        return on_side(corners, faces, firsts, backs, boxes, doors, setting, q);
     }
     // a side that the stand is strictly within has it on its cell's border
     Found::Refused(Refusal::Outside)

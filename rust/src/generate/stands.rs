@@ -1,9 +1,9 @@
-//! Stands: inside cells, in line with corners, and everything a tablet could
-//! send by mistake. Those on the lines of a plan are in `lines`.
+//! Stands: inside cells, in line with corners, by the boxes of cells, and everything
+//! a tablet could send by mistake. Those on the lines of a plan are in `lines`.
 
 use super::dice::Dice;
 use super::floors::{spot_inside, spot_on_line};
-use super::mesh::{Mesh, Spot};
+use super::mesh::{side_value, Mesh, Spot};
 use crate::calls::Stand;
 use crate::paper::COORDINATES;
 
@@ -16,6 +16,7 @@ pub fn random(mesh: &Mesh, dice: &mut Dice) -> Stand {
         0 => in_line(mesh, dice),
         1 => on_border(mesh, dice),
         2 => beside_corner(mesh, dice),
+        3 => by_box(mesh, dice),
         _ => inside(mesh, dice),
     };
     as_stand(mesh, at, dice)
@@ -83,6 +84,33 @@ pub fn on_border(mesh: &Mesh, dice: &mut Dice) -> Spot {
 fn beside_corner(mesh: &Mesh, dice: &mut Dice) -> Spot {
     let at = dice.pick(&mesh.corners);
     [at[0] + dice.between(-1, 1), at[1] + dice.between(-1, 1)]
+}
+
+/// A spot by the box of some cell, which goes from the least to the greatest x and y of its
+/// corners: at a corner of the box, on its edge, a millimetre inside or outside that, or in
+/// it where the cell is not.
+fn by_box(mesh: &Mesh, dice: &mut Dice) -> Spot {
+    let [a, b, c] = dice.pick(&mesh.cells).map(|corner| mesh.corners[corner]);
+    let ends = [0, 1].map(|axis| {
+        let [a, b, c] = [a[axis], b[axis], c[axis]];
+        [a.min(b).min(c), a.max(b).max(c)]
+    });
+    let anywhere = |dice: &mut Dice| ends.map(|[low, high]| dice.between(low, high));
+    let mut at = anywhere(dice);
+    let axis = dice.below(2);
+    let edge = dice.pick(&ends[axis]);
+    match dice.below(5) {
+        0 => at = ends.map(|ends| dice.pick(&ends)),
+        1 | 2 => at[axis] = edge,
+        3 => at[axis] = edge + dice.pick(&[-1, 1]),
+        _ => {
+            let sides = [[a, b], [b, c], [c, a]];
+            let is_beside = |at: &Spot| sides.iter().any(|&[a, b]| side_value(a, b, *at) < 0);
+            let mut spots = (0..8).map(|_| anywhere(dice));
+            at = spots.find(is_beside).unwrap_or(at);
+        }
+    }
+    at
 }
 
 /// A spot as a stand: a point, or an offset.

@@ -4,6 +4,7 @@ use Prim.Native.Nat.{_+_, _*_}
 use native.Mathlib.Omega.{arith}
 use denote.Ref.{now}
 use lib.Seq.{length-take-le}
+use Rattle.cells.proofs.Plans.{counts}
 use Rattle.checking.proofs.Measures.{parts-fit}
 use borrow.Author.Needs.{needs}
 use Rattle.checking.proofs.check_in.Statement.{statement}
@@ -33,11 +34,15 @@ slice-relend-prefix-check-into-3 c = search needs
 slice-aggregate-check-into-3 : tie.Need-slice-aggregate-check-into-3
 slice-aggregate-check-into-3 c = let s = c .before .before .before .before .before .before .before .before in sym (length-take-le (s .args .n) (now (s .args .backs)) (s .pre .1 .1 .1))
 
+slice-aggregate-check-into-4 : tie.Need-slice-aggregate-check-into-4
+slice-aggregate-check-into-4 c = search needs
+
 check-into-requires : tie.Need-check-into-requires
 check-into-requires c κs =
-    let s = c .before .before .before .before .before .before .before .before in
+    let s = c .before .before .before .before .before .before .before .before .before in
     let fit = s .pre .0 in
-    (fit .in-frame, (fit .in-size, parts-fit fit (now (s .args .faces)) (now (s .args .firsts)) (now (s .args .backs)) (s .pre .1 .0) (s .pre .1 .1 .0) (s .pre .1 .1 .1)))
+    let parts = parts-fit fit (now (s .args .faces)) (now (s .args .firsts)) (now (s .args .backs)) (s .pre .1 .0) (s .pre .1 .1 .0) (s .pre .1 .1 .1) in
+    (fit .in-frame, (fit .in-size, (parts .0, (parts .1 .0, (parts .1 .1, omega (arith, counts _ _ _ (fit .in-size) .cells-at-most))))))
 
 same-length : tie.Need-same-length
 same-length c = search needs
@@ -63,6 +68,7 @@ check-in-spec =
     slice-aggregate-check-into-2
     slice-relend-prefix-check-into-3
     slice-aggregate-check-into-3
+    slice-aggregate-check-into-4
     check-into-requires
     same-length
     same-length-2

@@ -74,7 +74,7 @@ returns-2 c =
 least-wrong-requires-3 : tie.Need-least-wrong-requires-3
 least-wrong-requires-3 c κs =
     let s = c .before .before .before .before .before .before .before .before .before in
-    (s .pre .0, (meet-once (s .pre .0) (cells-right (now (s .args .corners)) (tables s) (cells-pass (c .before))), (few-faces (s .pre .0) (counts _ _ _ (s .pre .1 .0) .cells-at-most), s .pre .1 .1)))
+    (s .pre .0, (meet-once (s .pre .0) (cells-right (now (s .args .corners)) (tables s) (cells-pass (c .before))), (few-faces (s .pre .0) (counts _ _ _ (s .pre .1 .0) .cells-at-most), s .pre .1 .1 .0)))
 
 same-length : tie.Need-same-length
 same-length c = search needs
@@ -96,30 +96,39 @@ returns-4 c =
     let s = c .before .before .before .before .before .before .before .before .before .before .before .before .before .before .before .before in
     let e = c .before .before .before in
     let noted = c .before .before .before .before .before .before .least-wrong3 .ensures .1 (came-to-the-end e) in
-    (at-a-door (now (s .args .corners)) (tables s) (now (s .args .doors)) (s .pre .1 .0) (corners-pass (c .before .before .before .before .before .before .before .before .before .before)) (cells-pass (c .before .before .before .before .before .before .before .before)) (faces-pass e) (c .before .least-wrong4 .ensures (now (s .args .firsts)) noted) (c .if4 .taken), λ sound. noted)
+    let found = c .before .least-wrong4 .ensures (now (s .args .firsts)) noted in
+    (at-a-door (now (s .args .corners)) (tables s) (now (s .args .doors)) (s .pre .1 .0) (corners-pass (c .before .before .before .before .before .before .before .before .before .before)) (cells-pass (c .before .before .before .before .before .before .before .before)) (faces-pass e) found (c .if4 .taken), λ sound. absurd (none-is-least _ _ (sound .doors) found (c .if4 .taken)))
 
 least-overlapping-requires : tie.Need-least-overlapping-requires
 least-overlapping-requires c κs =
-    let s = c .before .before .before .before .before .before .before .before .before .before .before .before .before .before .before .before in
-    (record { near = corners-near _ (corners-pass (c .before .before .before .before .before .before .before .before .before .before)); numbered = s .pre .0; right = cells-right _ _ (cells-pass (c .before .before .before .before .before .before .before .before)) }, counts _ _ _ (s .pre .1 .0) .cells-at-most)
+    let s = c .before .before .before .before .before .before .before .before .before .before .before .before .before .before .before .before .before in
+    (record { near = corners-near _ (corners-pass (c .before .before .before .before .before .before .before .before .before .before .before)); numbered = s .pre .0; right = cells-right _ _ (cells-pass (c .before .before .before .before .before .before .before .before .before)) }, (counts _ _ _ (s .pre .1 .0) .cells-at-most, s .pre .1 .1 .1))
 
 same-length-3 : tie.Need-same-length-3
 same-length-3 c = search needs
 
-returns-5 : tie.Need-returns-5
-returns-5 c =
-    let s = c .before .before .before .before .before .before .before .before .before .before .before .before .before .before .before .before .before .before in
-    let noted = c .before .before .before .before .before .before .before .before .least-wrong3 .ensures .1 (came-to-the-end (c .before .before .before .before .before)) in
-    (at-an-overlap (now (s .args .corners)) (tables s) (now (s .args .doors)) (s .pre .1 .0) (corners-pass (c .before .before .before .before .before .before .before .before .before .before .before .before)) (cells-pass (c .before .before .before .before .before .before .before .before .before .before)) (faces-pass (c .before .before .before .before .before)) (doors-pass (c .before .before)) (c .before .least-overlapping .ensures) (c .if5 .taken), λ sound. noted)
-
 same-length-4 : tie.Need-same-length-4
 same-length-4 c = search needs
 
+returns-5 : tie.Need-returns-5
+returns-5 c =
+    let s = c .before .before .before .before .before .before .before .before .before .before .before .before .before .before .before .before .before .before .before .before in
+    let found = c .before .before .least-overlapping .ensures in
+    let noted = c .before .before .before .before .before .before .before .before .before .before .least-wrong3 .ensures .1 (came-to-the-end (c .before .before .before .before .before .before .before)) in
+    (at-an-overlap (now (s .args .corners)) (tables s) (now (s .args .doors)) (s .pre .1 .0) (corners-pass (c .before .before .before .before .before .before .before .before .before .before .before .before .before .before)) (cells-pass (c .before .before .before .before .before .before .before .before .before .before .before .before)) (faces-pass (c .before .before .before .before .before .before .before)) (doors-pass (c .before .before .before .before)) (found .0) (c .if5 .taken), λ sound. (noted, found .1))
+
+same-length-5 : tie.Need-same-length-5
+same-length-5 c = search needs
+
+same-length-6 : tie.Need-same-length-6
+same-length-6 c = search needs
+
 returns-6 : tie.Need-returns-6
 returns-6 c =
-    let s = c .before .before .before .before .before .before .before .before .before .before .before .before .before .before .before .before .before .before in
-    let noted = c .before .before .before .before .before .before .before .before .least-wrong3 .ensures .1 (came-to-the-end (c .before .before .before .before .before)) in
-    (accepted (now (s .args .corners)) (tables s) (now (s .args .doors)) (s .pre .1 .0) (corners-pass (c .before .before .before .before .before .before .before .before .before .before .before .before)) (cells-pass (c .before .before .before .before .before .before .before .before .before .before)) (faces-pass (c .before .before .before .before .before)) (doors-pass (c .before .before)) (subst (λ (i : ℕ). cell-count (tables s) ≤ i) (c .before .least-overlapping .ensures) (c .if5 .left)), λ sound. noted)
+    let s = c .before .before .before .before .before .before .before .before .before .before .before .before .before .before .before .before .before .before .before .before in
+    let found = c .before .before .least-overlapping .ensures in
+    let noted = c .before .before .before .before .before .before .before .before .before .before .least-wrong3 .ensures .1 (came-to-the-end (c .before .before .before .before .before .before .before)) in
+    (accepted (now (s .args .corners)) (tables s) (now (s .args .doors)) (s .pre .1 .0) (corners-pass (c .before .before .before .before .before .before .before .before .before .before .before .before .before .before)) (cells-pass (c .before .before .before .before .before .before .before .before .before .before .before .before)) (faces-pass (c .before .before .before .before .before .before .before)) (doors-pass (c .before .before .before .before)) (subst (λ (i : ℕ). cell-count (tables s) ≤ i) (found .0) (c .if5 .left)), λ sound. (noted, found .1))
 
 pub check-tables-spec : {M : Type 1} → statement M
 check-tables-spec =
@@ -138,6 +147,8 @@ check-tables-spec =
     returns-4
     least-overlapping-requires
     same-length-3
-    returns-5
     same-length-4
+    returns-5
+    same-length-5
+    same-length-6
     returns-6)

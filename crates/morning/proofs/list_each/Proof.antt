@@ -14,11 +14,11 @@ use Rattle.morning.proofs.list_each.Statement.{statement}
 use Rattle.morning.proofs.list_each.Tie as tie
 
 abbrev Inv-loop : tie.InvT-loop
-Inv-loop corners faces firsts backs doors setting reach ceiling count table₀ replies₀ lines seen₀ stands rows₀ crossings₀ i₀ table replies seen rows crossings i =
+Inv-loop corners faces firsts backs boxes doors setting reach ceiling count table₀ replies₀ lines seen₀ stands rows₀ crossings₀ i₀ table replies seen rows crossings i =
     (i ≤ count) × (SoFar (single-on corners (tabled faces firsts) doors setting reach ceiling) stands i rows crossings table₀ table replies₀ replies × (length seen ≡ length corners))
 
 abbrev μ-loop : tie.MeasureT-loop
-μ-loop corners faces firsts backs doors setting reach ceiling count table₀ replies₀ lines seen₀ stands rows₀ crossings₀ i₀ table replies seen rows crossings i =
+μ-loop corners faces firsts backs boxes doors setting reach ceiling count table₀ replies₀ lines seen₀ stands rows₀ crossings₀ i₀ table replies seen rows crossings i =
     count - i
 
 lines-of-requires : tie.Need-lines-of-requires Inv-loop μ-loop
@@ -29,13 +29,13 @@ lines-of-requires c κs =
 loop-holds : tie.Need-loop-holds Inv-loop μ-loop
 loop-holds c =
     let s = c .before .before .before .before .before .before .before .before .before .before .before in
-    (omega arith, (none-yet (single-on (now (s .args .corners)) (tabled (now (s .args .faces)) (now (s .args .firsts))) (now (s .args .doors)) (s .args .setting) (s .args .reach) (s .args .ceiling)) (s .args .t9) (now (s .args .table)) (now (s .args .replies)), s .pre .1 .1 .1))
+    (omega arith, (none-yet (single-on (now (s .args .corners)) (tabled (now (s .args .faces)) (now (s .args .firsts))) (now (s .args .doors)) (s .args .setting) (s .args .reach) (s .args .ceiling)) (s .args .t10) (now (s .args .table)) (now (s .args .replies)), s .pre .1 .1 .1))
 
 -- the array has a place for each stand
-in-array : (c : tie.In-loop Inv-loop μ-loop) → c .before .before .before .before .before .before .before .before .before .before .before .before .before .args .count ≤ length (c .before .before .before .before .before .before .before .before .before .before .before .before .before .args .t9)
+in-array : (c : tie.In-loop Inv-loop μ-loop) → c .before .before .before .before .before .before .before .before .before .before .before .before .before .args .count ≤ length (c .before .before .before .before .before .before .before .before .before .before .before .before .before .args .t10)
 in-array c =
     let s = c .before .before .before .before .before .before .before .before .before .before .before .before .before in
-    let whole : length (s .args .t9) ≡ 32 = search needs in
+    let whole : length (s .args .t10) ≡ 32 = search needs in
     omega (arith, s .pre .1 .0 .few-stands)
 
 next-at : (c : tie.In-loop Inv-loop μ-loop) → Next (now (c .before .before .before .before .before .before .before .before .before .before .before .before .before .args .corners)) (c .before .loop .i) (c .before .loop .rows) (c .before .loop .crossings) (c .before .loop .table) (c .before .loop .replies)

@@ -33,23 +33,17 @@ module _ (xs : List ℕ) {m : ℕ} (room : m ≤ length xs) (counts : (c : ℕ) 
 sub-m : tie.Need-sub-m
 sub-m c = search needs
 
-slice-aggregate-note : tie.Need-slice-aggregate-note
-slice-aggregate-note c = search needs
-
 note-requires : tie.Need-note-requires
 note-requires c κs =
     let s = c .before .before .before in
     let R = s .pre .0 in
-    (R .numbered, (corners-exist (R .numbered) (R .right), omega (arith, s .pre .1)))
+    (R .numbered, (corners-exist (R .numbered) (R .right), s .pre .1 .1))
 
 slice-aggregate-list-all : tie.Need-slice-aggregate-list-all
 slice-aggregate-list-all c = search needs
 
 list-all-requires : tie.Need-list-all-requires
 list-all-requires c κs = search needs
-
-slice-aggregate-search : tie.Need-slice-aggregate-search
-slice-aggregate-search c = search needs
 
 array-share-prefix-list : tie.Need-array-share-prefix-list
 array-share-prefix-list c = search needs
@@ -60,35 +54,37 @@ all c = c .list-all .last .1 .0
 
 -- and it is long enough
 room : (c : tie.After-list-all) → let s = c .before .before .before .before .before .before .before in cell-count (tabled (now (s .args .faces)) (now (s .args .firsts))) ≤ length (all c)
-room c = omega (arith, c .before .before .before .before .before .before .before .pre .1, c .list-all .ensures .1)
+room c = omega (arith, c .before .before .before .before .before .before .before .pre .1 .0, c .list-all .ensures .1)
 
-slice-aggregate-search-2 : tie.Need-slice-aggregate-search-2
-slice-aggregate-search-2 c = let l = c .before .before .before in sym (all-length (all l) (room l) (l .list-all .ensures .0))
+slice-aggregate-search : tie.Need-slice-aggregate-search
+slice-aggregate-search c = let l = c .before .before .before in sym (all-length (all l) (room l) (l .list-all .ensures .0))
 
 search-requires : tie.Need-search-requires
 search-requires c κs =
     let s = c .before .before .before .before .before .before .before .before .before .before in
     let l = c .before .before .before in
     let counts = l .list-all .ensures .0 in
-    (s .pre .0, (c .before .before .before .before .before .before .note .ensures .0, (all-are-listed (all l) (room l) counts, omega (arith, s .pre .1, all-length (all l) (room l) counts))))
+    (s .pre .0, (c .before .before .before .before .before .before .note .ensures .0, (all-are-listed (all l) (room l) counts, omega (arith, s .pre .1 .0, all-length (all l) (room l) counts))))
+
+same-length : tie.Need-same-length
+same-length c = search needs
 
 returns : tie.Need-returns
 returns c =
     let s = c .before .before .before .before .before .before .before .before .before .before .before in
     let l = c .before .before .before .before in
-    settled-is-least (now (s .args .corners)) (tabled (now (s .args .faces)) (now (s .args .firsts))) (all-stand (all l) (room l) (l .list-all .ensures .0)) (c .search .ensures)
+    (settled-is-least (now (s .args .corners)) (tabled (now (s .args .faces)) (now (s .args .firsts))) (all-stand (all l) (room l) (l .list-all .ensures .0)) (c .search .ensures), c .before .before .before .before .before .before .before .note .ensures .0)
 
 pub least-overlapping-spec : {M : Type 1} → statement M
 least-overlapping-spec =
     tie.close
     (tie.spec
     sub-m
-    slice-aggregate-note
     note-requires
     slice-aggregate-list-all
     list-all-requires
-    slice-aggregate-search
     array-share-prefix-list
-    slice-aggregate-search-2
+    slice-aggregate-search
     search-requires
+    same-length
     returns)

@@ -7,16 +7,15 @@ use denote.Ref.{now}
 use borrow.Author.Needs.{needs}
 use Rattle.plane.specs.Side.{point}
 use Rattle.cells.specs.Lists.{tabled}
-use Rattle.cells.proofs.Plans.{corners-exist}
 use Rattle.stand.proofs.Finds.{Searched, search-begins, held-strictly, met-on-its-border, passed-by, is-on-a-border, is-outside}
 use Rattle.stand.proofs.locate.locate.Statement.{statement}
 use Rattle.stand.proofs.locate.locate.Tie as tie
 
 abbrev Inv-loop : tie.InvT-loop
-Inv-loop corners faces firsts backs doors setting q m on-border₀ c₀ on-border c = Searched corners (tabled faces firsts) (point q) c on-border
+Inv-loop corners faces firsts backs boxes doors setting q m on-border₀ c₀ on-border c = Searched corners (tabled faces firsts) (point q) c on-border
 
 abbrev μ-loop : tie.MeasureT-loop
-μ-loop corners faces firsts backs doors setting q m on-border₀ c₀ on-border c = m - c
+μ-loop corners faces firsts backs boxes doors setting q m on-border₀ c₀ on-border c = m - c
 
 sub-m : tie.Need-sub-m Inv-loop μ-loop
 sub-m c = omega (arith, c .before .before .before .before .pre .0 .0 .numbered .firsts-stand)
@@ -24,11 +23,11 @@ sub-m c = omega (arith, c .before .before .before .before .pre .0 .0 .numbered .
 loop-holds : tie.Need-loop-holds Inv-loop μ-loop
 loop-holds c = search-begins
 
-containment-requires : tie.Need-containment-requires Inv-loop μ-loop
-containment-requires c κs =
+containment-by-box-requires : tie.Need-containment-by-box-requires Inv-loop μ-loop
+containment-by-box-requires c κs =
     let p = c .before .before .before .before .before .before .pre in
     let sound = p .0 .0 in
-    ((sound .corners, corners-exist (sound .numbered) (sound .cells), sound .numbered), (p .1, c .loop-test .taken))
+    ((sound .corners, sound .cells, sound .numbered), (p .0 .2, (p .1, c .loop-test .taken)))
 
 enum-told : tie.Need-enum-told Inv-loop μ-loop
 enum-told c = search needs
@@ -36,7 +35,7 @@ enum-told c = search needs
 returns : tie.Need-returns Inv-loop μ-loop
 returns c =
     let a = c .before .before .before .before .before .before .before .before .before .args in
-    held-strictly (c .before .before .before .before .loop .inv) (c .before .before .before .loop-test .taken) (c .before .before .containment .ensures) (c .enum-told .given .1) (now (a .doors)) (a .setting)
+    held-strictly (c .before .before .before .before .loop .inv) (c .before .before .before .loop-test .taken) (c .before .before .containment-by-box .ensures) (c .enum-told .given .1) (now (a .doors)) (a .setting)
 
 enum-told-2 : tie.Need-enum-told-2 Inv-loop μ-loop
 enum-told-2 c = search needs
@@ -57,8 +56,8 @@ loop-again c =
     let s = Searched (now (a .corners)) (tabled (now (a .faces)) (now (a .firsts))) (point (a .q)) (l .c + 1) in
     let h = c .before .before .loop-test .taken in
     ⊎-elim
-    (λ w. subst s (sym (w .2)) (met-on-its-border (l .inv) h (c .before .containment .ensures) (w .1 .given .1)))
-    (λ w. subst s (sym (w .2)) (passed-by (l .inv) h (c .before .containment .ensures) (w .1 .given .1)))
+    (λ w. subst s (sym (w .2)) (met-on-its-border (l .inv) h (c .before .containment-by-box .ensures) (w .1 .given .1)))
+    (λ w. subst s (sym (w .2)) (passed-by (l .inv) h (c .before .containment-by-box .ensures) (w .1 .given .1)))
     (c .match .came)
 
 on-side-requires : tie.Need-on-side-requires Inv-loop μ-loop
@@ -83,7 +82,7 @@ locate-spec =
     μ-loop
     sub-m
     loop-holds
-    containment-requires
+    containment-by-box-requires
     enum-told
     returns
     enum-told-2

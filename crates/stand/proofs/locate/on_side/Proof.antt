@@ -12,10 +12,10 @@ use Rattle.stand.proofs.locate.on_side.Statement.{statement}
 use Rattle.stand.proofs.locate.on_side.Tie as tie
 
 abbrev Inv-loop : tie.InvT-loop
-Inv-loop corners faces firsts backs doors setting q m c₀ c = SoughtCells (within-free corners (tabled faces firsts) doors setting (point q)) (tabled faces firsts) c
+Inv-loop corners faces firsts backs boxes doors setting q m c₀ c = SoughtCells (within-free corners (tabled faces firsts) doors setting (point q)) (tabled faces firsts) c
 
 abbrev μ-loop : tie.MeasureT-loop
-μ-loop corners faces firsts backs doors setting q m c₀ c = m - c
+μ-loop corners faces firsts backs boxes doors setting q m c₀ c = m - c
 
 sub-m : tie.Need-sub-m Inv-loop μ-loop
 sub-m c = omega (arith, c .before .before .before .before .pre .0 .0 .numbered .firsts-stand)
@@ -23,8 +23,8 @@ sub-m c = omega (arith, c .before .before .before .before .pre .0 .0 .numbered .
 loop-holds : tie.Need-loop-holds Inv-loop μ-loop
 loop-holds c = cells-begin (c .before .before .before .before .pre .0 .0 .numbered) _
 
-least-doorway-requires : tie.Need-least-doorway-requires Inv-loop μ-loop
-least-doorway-requires c κs = search needs
+doorway-by-box-requires : tie.Need-doorway-by-box-requires Inv-loop μ-loop
+doorway-by-box-requires c κs = search needs
 
 add-if1 : tie.Need-add-if1 Inv-loop μ-loop
 add-if1 c = omega arith
@@ -48,7 +48,7 @@ cast-side : tie.Need-cast-side Inv-loop μ-loop
 cast-side c = omega (arith, c .shared-slice-known6 .given (c .before .before .before .before .before .loop .c))
 
 sub-side : tie.Need-sub-side Inv-loop μ-loop
-sub-side c = not-before-the-first (c .before .before .before .before .before .before .before .before .before .before .pre .0 .0 .numbered) (c .before .before .before .before .before .loop .inv) (c .before .before .before .before .loop-test .taken) (c .before .before .before .least-doorway .ensures)
+sub-side c = not-before-the-first (c .before .before .before .before .before .before .before .before .before .before .pre .0 .0 .numbered) (c .before .before .before .before .before .loop .inv) (c .before .before .before .before .loop-test .taken) (c .before .before .before .doorway-by-box .ensures)
 
 returns : tie.Need-returns Inv-loop μ-loop
 returns c =
@@ -56,7 +56,7 @@ returns c =
     let N = c .before .before .before .before .before .before .before .before .before .before .pre .0 .0 .numbered in
     let l = c .before .before .before .before .before .loop in
     let h = c .before .before .before .before .loop-test .taken in
-    let is-f = c .before .before .before .least-doorway .ensures in
+    let is-f = c .before .before .before .doorway-by-box .ensures in
     let in-the-cell = before-the-end (now (a .faces)) (now (a .firsts)) (l .c) (c .before .if1 .taken) in
     stands-on-a-side (now (a .corners)) N (now (a .doors)) (a .setting) (point (a .q)) h (not-before-the-first N (l .inv) h is-f) in-the-cell (side-found N (l .inv) h is-f in-the-cell)
 
@@ -70,7 +70,7 @@ loop-again : tie.Need-loop-again Inv-loop μ-loop
 loop-again c =
     let a = c .before .before .before .before .before .before .before .before .before .args in
     let l = c .before .before .before .before .loop in
-    cells-go-on (c .before .before .before .before .before .before .before .before .before .pre .0 .0 .numbered) (l .inv) (c .before .before .before .loop-test .taken) (c .before .before .least-doorway .ensures) (at-the-end (now (a .faces)) (now (a .firsts)) (l .c) (c .if1 .left))
+    cells-go-on (c .before .before .before .before .before .before .before .before .before .pre .0 .0 .numbered) (l .inv) (c .before .before .before .loop-test .taken) (c .before .before .doorway-by-box .ensures) (at-the-end (now (a .faces)) (now (a .firsts)) (l .c) (c .if1 .left))
 
 returns-2 : tie.Need-returns-2 Inv-loop μ-loop
 returns-2 c =
@@ -85,7 +85,7 @@ on-side-spec =
     μ-loop
     sub-m
     loop-holds
-    least-doorway-requires
+    doorway-by-box-requires
     add-if1
     mul-if1
     shared-slice-read-if1
