@@ -424,20 +424,9 @@ fn morning_on<'a, Listed>(
     list: impl Fn(Lists<'a>, Listing, &mut [u16]) -> Listed + 'a,
 ) -> [Call<'a>; 2] {
     let (lists, morning) = (floor.plan.lists(), Morning::under(0));
-    let numbers = numbers(&floor.morning);
-    let mut tables = table(&floor.plan).repeat(floor.morning.len());
-    let mut replies = vec![0; numbers.len()];
     let mut table = table(&floor.plan);
     [
-        Box::new(move || {
-            black_box(together(
-                lists,
-                morning,
-                &numbers,
-                &mut tables,
-                &mut replies,
-            ));
-        }),
+        together_on(floor, &floor.morning, together),
         Box::new(move || {
             for &stand in &floor.morning {
                 black_box(list(lists, morning.listing(stand), &mut table));
@@ -572,20 +561,27 @@ fn finding_on<'a, Listed>(
     together: impl Fn(Lists<'a>, Morning, &[f64], &mut [u16], &mut [u64]) -> Listed + Copy + 'a,
 ) -> [Call<'a>; 2] {
     let refused = vec![Stand::Point(0.5, 0.5); stands.len()];
-    [stands, &refused].map(|stands| -> Call<'a> {
-        let (lists, morning) = (floor.plan.lists(), Morning::under(0));
-        let numbers = numbers(stands);
-        let mut tables = table(&floor.plan).repeat(stands.len());
-        let mut replies = vec![0; numbers.len()];
-        Box::new(move || {
-            black_box(together(
-                lists,
-                morning,
-                &numbers,
-                &mut tables,
-                &mut replies,
-            ));
-        })
+    [stands, &refused].map(|stands| together_on(floor, stands, together))
+}
+
+/// Stands of a floor in one call.
+fn together_on<'a, Listed>(
+    floor: &'a Floor,
+    stands: &[Stand],
+    together: impl Fn(Lists<'a>, Morning, &[f64], &mut [u16], &mut [u64]) -> Listed + 'a,
+) -> Call<'a> {
+    let (lists, morning) = (floor.plan.lists(), Morning::under(0));
+    let numbers = numbers(stands);
+    let mut tables = table(&floor.plan).repeat(stands.len());
+    let mut replies = vec![0; numbers.len()];
+    Box::new(move || {
+        black_box(together(
+            lists,
+            morning,
+            &numbers,
+            &mut tables,
+            &mut replies,
+        ));
     })
 }
 
