@@ -134,7 +134,7 @@ module _ (cs : List ℤ) {T : Cells} (N : Numbered T) (right : CellsRight cs T) 
   middle : Convex (shape cs T c)
   middle = is-convex cs N h right
 
-  -- drawn towards the cell's middle it is strictly inside, from however near
+  -- drawn towards the cell's middle, by however little, it is strictly inside the cell, and so strictly inside the box
   drawn-inside : (n : ℤ) → 𝟘 <ℤ n → Within b (n *ℤ q .x +ℤ middle .x) (n *ℤ q .y +ℤ middle .y) (n +ℤ middle .w)
   drawn-inside n k =
       let m = inside-the-cell cs N h (middle .inside) in

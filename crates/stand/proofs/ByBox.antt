@@ -21,15 +21,15 @@ use Rattle.stand.specs.Find.{against, within-free}
 use Rattle.stand.proofs.Against.{inside-is-left-of-each, on-a-line-is-border, border-is-on-a-line}
 use Rattle.stand.proofs.Located.{is-within-and-free, a-side-is-on-the-border}
 
+-- the code's answer for the box that it has read
+pub tested-past : (q : Point) {b d : Bounds} → b ≡ d → {r : Bool} → r ≡ past b q → r ≡ true → past d q ≡ true
+tested-past q is-b is-r t = ap (λ (b : Bounds). past b q) (sym is-b) ∙ sym is-r ∙ t
+
 module _ {cs : List ℤ} {T : Cells} (N : Numbered T) (right : CellsRight cs T) {bs : List ℤ} (boxed : Boxed cs T bs) (q : Point) {c : ℕ} (h : c < cell-count T) where
   -- a stand on or inside a cell is within its box
   pub held-by-its-box : (against cs T q c ≡ Inside) ⊎ (against cs T q c ≡ Border) → Holds (box-at bs c) q
   held-by-its-box (inl e) = in-its-box cs N right h (boxed .each c h) q (λ f s. less-is-at-most (inside-is-left-of-each cs N q h e .left-of-each f s))
   held-by-its-box (inr e) = in-its-box cs N right h (boxed .each c h) q (border-is-on-a-line cs N q h e .right-of-none)
-
-  -- the code's test of the box
-  pub tested-past : {b : Bounds} → b ≡ box-at bs c → {r : Bool} → r ≡ past b q → r ≡ true → past (box-at bs c) q ≡ true
-  tested-past is-b is-r t = ap (λ (b : Bounds). past b q) (sym is-b) ∙ sym is-r ∙ t
 
   -- so a cell past whose box the stand lies has it outside
   module _ (p : past (box-at bs c) q ≡ true) where
@@ -41,7 +41,7 @@ module _ {cs : List ℤ} {T : Cells} (N : Numbered T) (right : CellsRight cs T) 
         by-place Border e = absurd (not-both p (held-is-not-past (held-by-its-box (inr e))))
         by-place Outside e = sym e
 
-    -- and no side that the stand is strictly within
+    -- and no free side that the stand is strictly within
     pub past-has-no-doorway : (ds : List ℕ) (w : ℕ) {n : ℕ} → n ≡ first T (suc c) → n ≡ least (within-free cs T ds w q) (side-count T c) (first T c)
     past-has-no-doorway ds w e =
         let none = least-is-none (within-free cs T ds w q) (side-count T c) (first T c) (λ f l m. by-test f l m (within-free cs T ds w q f) refl) in

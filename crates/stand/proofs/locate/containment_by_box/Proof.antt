@@ -15,12 +15,8 @@ is-past-requires c κs = search needs
 returns : tie.Need-returns
 returns c =
     let s = c .before .before .before .before .before in
-    let N = s .pre .0 .2 in
-    let right = s .pre .0 .1 in
-    let boxed = s .pre .1 .0 in
-    let h = s .pre .1 .1 .1 in
     let q = point (s .args .q) in
-    past-is-outside N right boxed q h (tested-past N right boxed q h (c .before .before .read .ensures) (c .before .is-past .ensures) (c .if1 .taken))
+    past-is-outside (s .pre .0 .2) (s .pre .0 .1) (s .pre .1 .0) q (s .pre .1 .1 .1) (tested-past q (c .before .before .read .ensures) (c .before .is-past .ensures) (c .if1 .taken))
 
 containment-requires : tie.Need-containment-requires
 containment-requires c κs =

@@ -32,11 +32,9 @@ returns c =
     let s = c .before .before .before .before .before .before .before .before in
     let a = s .args in
     let sound = s .pre .0 .0 in
-    let boxed = s .pre .0 .2 in
-    let h = s .pre .1 .1 in
     let q = point (a .q) in
-    past-has-no-doorway (sound .numbered) (sound .cells) boxed q h
-    (tested-past (sound .numbered) (sound .cells) boxed q h (c .before .before .before .read .ensures) (c .before .before .is-past .ensures) (c .before .if1 .taken))
+    past-has-no-doorway (sound .numbered) (sound .cells) (s .pre .0 .2) q (s .pre .1 .1)
+    (tested-past q (c .before .before .before .read .ensures) (c .before .before .is-past .ensures) (c .before .if1 .taken))
     (now (a .doors)) (a .setting) (end-read (now (a .faces)) (now (a .firsts)) (a .c))
 
 least-doorway-requires : tie.Need-least-doorway-requires
