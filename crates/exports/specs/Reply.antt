@@ -16,7 +16,7 @@ use Rattle.sight.specs.declared.view.Query.{Query}
 use Rattle.sight.specs.declared.ceiling.Ceiling.{Ceiling}
 use Rattle.sight.specs.declared.ceiling.Ceiling.the-variants as C
 use Rattle.stands.specs.Numbered.{stands-of}
-use Rattle.manopluea.specs.Calls.{check-replies, read-replies, write-replies, find-replies, list-replies, change-replies, list-stands-replies}
+use Rattle.manopluea.specs.Calls.{check-replies, read-replies, write-replies, find-replies, list-replies, draw-replies, change-replies, list-stands-replies}
 use Rattle.printing.specs.Reply.{print-replies}
 
 abbrev pub seven : ℕ → ℕ → ℕ → ℕ → ℕ → ℕ → ℕ → List ℕ
@@ -79,6 +79,12 @@ unfoldable pub list-left : ℕ → List ℤ → List ℕ → List ℕ → ℕ �
 list-left kind cs ts ds w s stated n limited m table reply = (
   left (has-seven reply) table (list-replies kind cs ts ds (query w s stated n) (ceiling-of limited m) table .1),
   replied (has-seven reply) reply (numbers-of (list-replies kind cs ts ds (query w s stated n) (ceiling-of limited m) table .0)),
+)
+
+unfoldable pub draw-left : ℕ → List ℤ → List ℕ → List ℕ → ℕ → Stand → Bool → ℕ → List Float → List ℕ → List Float × List ℕ
+draw-left kind cs ts ds w s stated n lent reply = (
+  left (has-seven reply) lent (draw-replies kind cs ts ds (query w s stated n) lent .1),
+  replied (has-seven reply) reply (numbers-of (draw-replies kind cs ts ds (query w s stated n) lent .0)),
 )
 
 unfoldable pub change-left : ℕ → List ℤ → List ℕ → List ℕ → ℕ → Stand → Bool → ℕ → List ℕ → ℕ → Bool → List ℕ → List ℕ → List ℕ × List ℕ

@@ -3,7 +3,7 @@
 // include/manopluea.h has the promise of each function in words, specs/Reply.antt what each leaves as a function of the input.
 ghost use mathlib.Core.Path.{_≡_};
 ghost use Rattle.stand.specs.declared.spot.Stand.the-variants.{Point, Offset};
-ghost use Rattle.exports.specs.Reply.{reach-of, ceiling-of, check-left, read-left, write-left, find-left, list-left, change-left, list-stands-left, print-left};
+ghost use Rattle.exports.specs.Reply.{reach-of, ceiling-of, check-left, read-left, write-left, find-left, list-left, draw-left, change-left, list-stands-left, print-left};
 use manopluea::Ceiling;
 use manopluea::Listed;
 use manopluea::Listing;
@@ -225,6 +225,77 @@ pub extern "C" fn manopluea_list_offset(
             ceiling: ceiling_of(limited, ceiling),
         },
         table,
+    );
+    reply::put_listed(reply, answer);
+}
+
+// The drawing from a point; the values are row count and crossings.
+#[no_mangle]
+pub extern "C" fn manopluea_draw_point(
+    corners: &[i32],
+    cells: &[u16],
+    doors: &[u16],
+    kind: u16,
+    setting: u64,
+    x: f64,
+    y: f64,
+    stated: bool,
+    reach: u64,
+    offsets: &mut [f32],
+    reply: &mut [u64],
+)
+    ensures { λ _. ⌜ (now (offsets .exit), now (reply .exit)) ≡ draw-left kind (now (corners .entry)) (now (cells .entry)) (now (doors .entry)) setting (Point x y) stated reach (now (offsets .entry)) (now (reply .entry)) ⌝ }
+{
+    if reply.len() < 7 {
+        return;
+    }
+    let answer = manopluea::draw(
+        corners,
+        cells,
+        doors,
+        Terms { kind },
+        Query {
+            setting,
+            stand: Stand::Point(x, y),
+            reach: reach_of(stated, reach),
+        },
+        offsets,
+    );
+    reply::put_listed(reply, answer);
+}
+
+// The drawing from an offset; the values are row count and crossings.
+#[no_mangle]
+pub extern "C" fn manopluea_draw_offset(
+    corners: &[i32],
+    cells: &[u16],
+    doors: &[u16],
+    kind: u16,
+    setting: u64,
+    corner: u16,
+    dx: f64,
+    dy: f64,
+    stated: bool,
+    reach: u64,
+    offsets: &mut [f32],
+    reply: &mut [u64],
+)
+    ensures { λ _. ⌜ (now (offsets .exit), now (reply .exit)) ≡ draw-left kind (now (corners .entry)) (now (cells .entry)) (now (doors .entry)) setting (Offset corner dx dy) stated reach (now (offsets .entry)) (now (reply .entry)) ⌝ }
+{
+    if reply.len() < 7 {
+        return;
+    }
+    let answer = manopluea::draw(
+        corners,
+        cells,
+        doors,
+        Terms { kind },
+        Query {
+            setting,
+            stand: Stand::Offset(corner, dx, dy),
+            reach: reach_of(stated, reach),
+        },
+        offsets,
     );
     reply::put_listed(reply, answer);
 }

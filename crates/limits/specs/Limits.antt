@@ -44,6 +44,10 @@ least-reach = 1
 abbrev pub most-reach : ℕ
 most-reach = 262144
 
+-- a drawn corner is no further from the stand in either axis, in millimetres (document 02, A2)
+abbrev pub most-offset : ℕ
+most-offset = 16777216
+
 -- coordinates go from −coordinate-limit to coordinate-limit
 abbrev pub coordinate-limit : ℕ
 coordinate-limit = limit

@@ -2,7 +2,7 @@
 use mathlib.Core.List.{List, [], _∷_}
 use Prim.Native.Nat.{ℕ}
 use Rattle.limits.specs.declared.Refusal.{Refusal}
-use Rattle.limits.specs.declared.Refusal.the-variants.{Frame, Size, Corner, Cell, Neighbour, Door, Overlap, Setting, Stand, Line, Outside, Room, Change, Rows, Reach, Ceiling}
+use Rattle.limits.specs.declared.Refusal.the-variants.{Frame, Size, Corner, Cell, Neighbour, Door, Overlap, Setting, Stand, Line, Outside, Room, Change, Rows, Far, Reach, Ceiling}
 use Rattle.limits.specs.declared.Checked.{Checked}
 use Rattle.limits.specs.declared.Checked.the-variants.{Accepted, Refused}
 
@@ -21,6 +21,7 @@ number Outside = 10
 number Room = 11
 number Change = 12
 number Rows = 13
+number Far = 14
 number Reach = 15
 number Ceiling = 19
 
@@ -39,6 +40,7 @@ place Outside = 0
 place Room = 0
 place Change = 0
 place Rows = 0
+place Far = 0
 place Reach = 0
 place Ceiling = 0
 

@@ -35,6 +35,8 @@ impl Plan {
     pub const LEAST_REACH: u64 = 1;
 
     pub const MOST_REACH: u64 = 262144;
+    // a drawn corner is no further from the stand in either axis, in millimetres (document 02, A2)
+    pub const MOST_OFFSET: i64 = 16777216;
     // coordinates go from −COORDINATE to COORDINATE
     pub const COORDINATE: i32 = 536870912;
     // the neighbour of a side that is wall
@@ -76,6 +78,7 @@ pub enum Refusal {
     Room,
     Change,
     Rows,
+    Far,
     Reach,
     Ceiling,
 }

@@ -21,6 +21,7 @@ pub fn number(r: Refusal) -> u64
         Refusal::Room => 11,
         Refusal::Change => 12,
         Refusal::Rows => 13,
+        Refusal::Far => 14,
         Refusal::Reach => 15,
         Refusal::Ceiling => 19,
     }
@@ -44,6 +45,7 @@ pub fn place(r: Refusal) -> u64
         Refusal::Room => 0,
         Refusal::Change => 0,
         Refusal::Rows => 0,
+        Refusal::Far => 0,
         Refusal::Reach => 0,
         Refusal::Ceiling => 0,
     }

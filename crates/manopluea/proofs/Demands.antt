@@ -41,7 +41,7 @@ use Rattle.sight.specs.declared.ceiling.Ceiling.{Ceiling}
 use Rattle.sight.proofs.UpTo.{as-without}
 use Rattle.sight.proofs.Sightings as Sightings
 use Rattle.fan.proofs.Tables.{length-of-rows, row-stands-there, one-row-of-the-table}
-use Rattle.sight.proofs.Views.{Viewed, view-says, has-room}
+use Rattle.sight.proofs.Views.{Viewed, view-says, has-room, rows-are-no-refusal, Seen, rows-are-seen}
 use Rattle.sight.proofs.Written.{list-writes-the-rows, the-table-holds-the-rows, the-count-is-the-rows}
 use Rattle.runs.specs.Route.{Routed, routed, row-numbers}
 use Rattle.runs.specs.Door.{on-door, untouched, those}
@@ -73,31 +73,7 @@ demand-1 =
 
 -- ---- a listing that replies rows
 
--- an answer with rows is no refusal
-rows-are-no-refusal : {a : Listed} {r : Refusal} {n k : ℕ} → a ≡ L.Rows n k → a ≡ L.Refused r → ⊥
-rows-are-no-refusal e f = let z : _≡_ {A = ℕ} 0 1 = cc in omega arith
-
 module _ (kind : ℕ) (cs : List ℤ) (ts ds : List ℕ) (a : Query) (table : List ℕ) where
-  -- the stand is viewed from, and the table has room
-  pub record Seen : Type 0 where
-    pub x : ℤ
-    pub y : ℤ
-    pub p : Footing
-    pub view : viewed kind cs ts ds a ≡ O.From x y p
-    pub room : no-room cs table ≡ false
-
-  pub rows-are-seen : {n k : ℕ} → listed kind cs ts ds a table .0 ≡ L.Rows n k → Seen
-  unfolding listed
-  rows-are-seen {n} {k} e = by-view (viewed kind cs ts ds a) refl e
-    where
-      by-room : (x y : ℤ) (p : Footing) → viewed kind cs ts ds a ≡ O.From x y p → (r : Bool) → no-room cs table ≡ r → refuse r Room table (rows-from cs (cells-of kind ts) ds (a .setting) (range (a .reach)) table (record { x = x; y = y }) p) .0 ≡ L.Rows n k → Seen
-      by-room x y p h true r e = absurd (rows-are-no-refusal e refl)
-      by-room x y p h false r e = record { x = x; y = y; p = p; view = h; room = r }
-
-      by-view : (v : View) → viewed kind cs ts ds a ≡ v → listed-from cs (cells-of kind ts) ds (a .setting) (range (a .reach)) table v .0 ≡ L.Rows n k → Seen
-      by-view (O.From x y p) h e = by-room x y p h (no-room cs table) refl e
-      by-view (O.Refused r) h e = absurd (rows-are-no-refusal e refl)
-
   module _ {x y : ℤ} {p : Footing} (view : viewed kind cs ts ds a ≡ O.From x y p) (room : no-room cs table ≡ false) where
     abbrev q : Point
     q = record { x = x; y = y }

@@ -15,7 +15,7 @@ use Rattle.cells.specs.Check.{framed, first-wrong-corner, first-wrong-cell, fir
 use Rattle.limits.specs.Reply.{Reply, number, place, checked-reply}
 use Rattle.limits.specs.declared.Plan.{Plan}
 use Rattle.limits.specs.declared.Refusal.{Refusal}
-use Rattle.limits.specs.declared.Refusal.the-variants.{Frame, Size, Corner, Cell, Neighbour, Door, Overlap, Setting, Stand as NoStand, Line, Outside, Room, Change, Rows, Reach as NoReach, Ceiling as NoCeiling}
+use Rattle.limits.specs.declared.Refusal.the-variants.{Frame, Size, Corner, Cell, Neighbour, Door, Overlap, Setting, Stand as NoStand, Line, Outside, Room, Change, Rows, Far, Reach as NoReach, Ceiling as NoCeiling}
 use Rattle.limits.specs.declared.Checked.{Checked}
 use Rattle.limits.specs.declared.Checked.the-variants as C
 use Rattle.setting.specs.Setting.{wrong-setting}
@@ -59,7 +59,7 @@ told r = (r .number, r .place)
 -- the refusal with this number and place
 refusal-of : ℕ → ℕ → Refusal
 refusal-of n p =
-    getD (Frame ∷ Frame ∷ Size ∷ Corner p ∷ Cell p ∷ Neighbour p ∷ Door p ∷ Setting ∷ NoStand ∷ Line ∷ Outside ∷ Room ∷ Change ∷ Rows ∷ Frame ∷ NoReach ∷ Frame ∷ Overlap p ∷ Frame ∷ NoCeiling ∷ []) n Frame
+    getD (Frame ∷ Frame ∷ Size ∷ Corner p ∷ Cell p ∷ Neighbour p ∷ Door p ∷ Setting ∷ NoStand ∷ Line ∷ Outside ∷ Room ∷ Change ∷ Rows ∷ Far ∷ NoReach ∷ Frame ∷ Overlap p ∷ Frame ∷ NoCeiling ∷ []) n Frame
 
 number-tells : (r : Refusal) → refusal-of (number r) (place r) ≡ r
 unfolding refusal-of
@@ -77,6 +77,7 @@ number-tells Outside = refl
 number-tells Room = refl
 number-tells Change = refl
 number-tells Rows = refl
+number-tells Far = refl
 number-tells NoReach = refl
 number-tells NoCeiling = refl
 

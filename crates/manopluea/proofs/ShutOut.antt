@@ -20,7 +20,7 @@ use Rattle.cells.specs.Check.{outside, wrong-corner, wrong-cell, wrong-neighbou
 use Rattle.limits.specs.Reply.{number, refused}
 use Rattle.cells.specs.PlanQ.{corners-of-Q, cells-of-Q, doors-of-Q}
 use Rattle.limits.specs.declared.Refusal.{Refusal}
-use Rattle.limits.specs.declared.Refusal.the-variants.{Frame, Size, Corner, Cell as NoCell, Neighbour, Door, Overlap, Setting, Stand as NoStand, Line, Outside, Room, Change, Rows as Untrue, Reach as NoReach, Ceiling as NoCeiling}
+use Rattle.limits.specs.declared.Refusal.the-variants.{Frame, Size, Corner, Cell as NoCell, Neighbour, Door, Overlap, Setting, Stand as NoStand, Line, Outside, Room, Change, Rows as Untrue, Far, Reach as NoReach, Ceiling as NoCeiling}
 use Rattle.cells.specs.Cut.{cell-of, cut-triangles, cut-polygons, cut, pairs, faces-of, firsts-from, tables, cells-of}
 use Rattle.setting.specs.Setting.{shut, with-shut, wrong-setting, bars, ends}
 use Rattle.number.specs.Whole.{whole}
@@ -150,6 +150,7 @@ no-refusal-is-0 Outside e = omega arith
 no-refusal-is-0 Room e = omega arith
 no-refusal-is-0 Change e = omega arith
 no-refusal-is-0 Untrue e = omega arith
+no-refusal-is-0 Far e = omega arith
 no-refusal-is-0 NoReach e = omega arith
 no-refusal-is-0 NoCeiling e = omega arith
 

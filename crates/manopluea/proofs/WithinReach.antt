@@ -37,14 +37,14 @@ use Rattle.sight.specs.Listing.{unreached, plan-floor, standing, sight-from, li
 use Rattle.sight.specs.declared.view.Query.{Query}
 use Rattle.sight.specs.declared.view.View.the-variants as O
 use Rattle.sight.specs.declared.list.Listed.the-variants as L
-use Rattle.sight.proofs.Views.{view-says}
+use Rattle.sight.proofs.Views.{view-says, Seen, rows-are-seen}
 use Rattle.sight.proofs.PlanFloor.{plan-geometry, stands-on-the-floor}
 use Rattle.sight.proofs.Sightings.{row-is-seen}
 use Rattle.sight.proofs.Written.{the-numbers-are-the-rows}
 use Rattle.doors.proofs.Fresh.{numbers-are-routed}
 use Rattle.manopluea.specs.Longer.{in-reach, Refined}
 use Rattle.manopluea.specs.Unlimited.{walls-alone, with-0-after-each, AsBefore}
-use Rattle.manopluea.proofs.Demands.{Seen, rows-are-seen, stands-there, whole, row-count-is, crossings-are, first-numbers-are}
+use Rattle.manopluea.proofs.Demands.{stands-there, whole, row-count-is, crossings-are, first-numbers-are}
 
 -- ---- on an accepted plan, from a place where the stand was found
 

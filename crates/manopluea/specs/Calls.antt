@@ -3,6 +3,7 @@ use mathlib.Core.Bool.{Bool}
 use mathlib.Core.List.{List}
 use Prim.Native.Nat.{ℕ}
 use lib.IntN.{ℤ}
+use lib.Ieee.{Float}
 use Rattle.cells.specs.Check.{checked}
 use Rattle.limits.specs.Reply.{Reply, checked-reply}
 use Rattle.planfile.specs.Calls as File
@@ -14,6 +15,7 @@ use Rattle.sight.specs.declared.view.Query.{Query}
 use Rattle.sight.specs.Ceiling.{listed-up-to}
 use Rattle.sight.specs.declared.ceiling.Ceiling.{Ceiling}
 use Rattle.sight.specs.Reply.{listed-reply}
+use Rattle.tablet.specs.Drawing.{drawn}
 use Rattle.doors.specs.Change.{changed}
 use Rattle.morning.specs.declared.Morning.{Morning}
 use Rattle.morning.specs.Morning.{listed-stands}
@@ -36,6 +38,9 @@ find-replies kind cs ts ds w s = found-reply (found kind cs ts ds w s)
 
 abbrev pub list-replies : ℕ → List ℤ → List ℕ → List ℕ → Query → Ceiling → List ℕ → Reply × List ℕ
 list-replies kind cs ts ds a c table = in-numbers listed-reply (listed-up-to kind cs ts ds a c table)
+
+abbrev pub draw-replies : ℕ → List ℤ → List ℕ → List ℕ → Query → List Float → Reply × List Float
+draw-replies kind cs ts ds a lent = in-numbers listed-reply (drawn kind cs ts ds a lent)
 
 abbrev pub change-replies : ℕ → List ℤ → List ℕ → List ℕ → Query → List ℕ → ℕ → Bool → List ℕ → Reply × List ℕ
 change-replies kind cs ts ds a given i b table = in-numbers listed-reply (changed kind cs ts ds a given i b table)

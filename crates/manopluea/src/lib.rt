@@ -16,13 +16,14 @@ ghost use Rattle.cells.specs.Check.{checked};
 ghost use Rattle.planfile.specs.Calls.{written, read as Calls·read};
 ghost use Rattle.stand.specs.Find.{found};
 ghost use Rattle.sight.specs.Ceiling.{listed-up-to};
+ghost use Rattle.tablet.specs.Drawing.{drawn};
 ghost use Rattle.doors.specs.Change.{changed};
 ghost use Rattle.morning.specs.Morning.{listed-stands};
 ghost use Rattle.limits.specs.Reply.{checked-reply};
 ghost use Rattle.planfile.specs.Reply.{read-numbers};
 ghost use Rattle.stand.specs.Reply.{found-reply};
 ghost use Rattle.sight.specs.Reply.{listed-reply};
-ghost use Rattle.manopluea.specs.Calls.{check-replies, read-replies, write-replies, find-replies, list-replies, change-replies, list-stands-replies};
+ghost use Rattle.manopluea.specs.Calls.{check-replies, read-replies, write-replies, find-replies, list-replies, draw-replies, change-replies, list-stands-replies};
 pub use limits::Checked;
 pub use limits::Plan;
 pub use limits::Refusal;
@@ -123,6 +124,25 @@ pub fn list(
     let query = listing.query;
     let ceiling = listing.ceiling;
     sight::list::list(corners, cells, doors, kind, query, ceiling, table)
+}
+
+// The drawing (document 02, A2): the listing's counts, and into a lent list of single-precision numbers four a row, row by row in the listing's order,
+// repeats included: x and y of the right limit's offset from the stand, then of the left limit's. Each is exactly the whole-millimetre difference, zero plus
+// zero. Refuses as the listing does without a ceiling, with ROOM for a list below 4·corners numbers; then FAR, where some corner that a row names is more
+// than 16,777,216 mm from the stand in either axis, also where that difference would fit.
+pub fn draw(
+    corners: &[i32],
+    cells: &[u16],
+    doors: &[u16],
+    terms: Terms,
+    query: Query,
+    offsets: &mut [f32],
+) -> Listed
+    ensures answer { λ r. ⌜ (r, now (offsets .exit)) ≡ drawn (terms .kind) (now (corners .entry)) (now (cells .entry)) (now (doors .entry)) query (now (offsets .entry)) ⌝ }
+    ensures numbers { λ r. ⌜ (listed-reply r, now (offsets .exit)) ≡ draw-replies (terms .kind) (now (corners .entry)) (now (cells .entry)) (now (doors .entry)) query (now (offsets .entry)) ⌝ }
+{
+    let kind = terms.kind;
+    tablet::drawing::draw(corners, cells, doors, kind, query, offsets)
 }
 
 // The door change: from the true list under the old setting, the list and crossings with one door shut or opened, within the same reach. A door out of reach

@@ -1,17 +1,38 @@
--- The loop that takes the corners seen from a stand.
+-- The corners of a plan less the stand: how large the differences are, and the loop that takes them all.
 use mathlib.Core.List.{List}
-use mathlib.Core.Path.{_≡_, ap₂, _∙_}
+use mathlib.Core.Path.{_≡_, ap, ap₂, sym, subst, _∙_}
 use Prim.Native.Nat.{ℕ, _+_, _*_, _<_}
 use native.Mathlib.Decide.{decLt}
 use native.Mathlib.Omega.{arith}
 use lib.IntN.{ℤ, pos}
 use lib.ListN.{length, set, length-set}
 use lib.Seq.{getD-set-same, getD-set-other}
-use Rattle.plane.specs.Side.{Point}
+use mir.Syntax.{w64}
+use mir.Val.{toZ, ofZ}
+use Rattle.exact.specs.Within.{Within}
+use Rattle.exact.proofs.Bounds as Bounds
+use Rattle.exact.proofs.Bounds.{Exactly, itself, coordinate}
+use Rattle.plane.specs.Side.{Point, point, Near}
 use Rattle.plane.specs.Cone.{minus}
 use Rattle.cells.specs.Lists.{corner-count, corner-at}
+use Rattle.cells.specs.Sound.{CornersNear}
 use Rattle.expand.specs.Floor.{seen-at}
 use Rattle.sight.specs.Seen.{SeenSoFar}
+
+-- a difference of two coordinates is at most 2^30
+seen-within : {cs : List ℤ} {q : Point} {i : ℕ} → CornersNear cs → Near q → i < corner-count cs → Within 1073741824 (minus (corner-at cs i) q .x) × Within 1073741824 (minus (corner-at cs i) q .y)
+unfolding minus
+seen-within {cs} {q} {i} corners near h =
+    let p = corners .near i h in
+    (record { size = Bounds.minus (itself (p .x-near)) (itself (near .x-near)) .size }, record { size = Bounds.minus (itself (p .y-near)) (itself (near .y-near)) .size })
+
+-- and the code reads it as it is
+pub seen-as-read : {cs : List ℤ} {q : Point} {i : ℕ} → CornersNear cs → Near q → i < corner-count cs → (r : List ℤ) → point r ≡ minus (corner-at cs i) q → Exactly (toZ w64 (ofZ w64 (point r .x))) (minus (corner-at cs i) q .x) 1073741824 × Exactly (toZ w64 (ofZ w64 (point r .y))) (minus (corner-at cs i) q .y) 1073741824
+seen-as-read corners near h r e =
+    let w = seen-within corners near h in (
+      record { is = coordinate w64 tt (subst (λ (p : Point). Within 1073741824 (p .x)) (sym e) (w .0)) .is ∙ ap (λ (p : Point). p .x) e; size = w .0 .size },
+      record { is = coordinate w64 tt (subst (λ (p : Point). Within 1073741824 (p .y)) (sym e) (w .1)) .is ∙ ap (λ (p : Point). p .y) e; size = w .1 .size },
+    )
 
 pub none-seen : {cs : List ℤ} {q : Point} {zs : List ℤ} → length zs ≡ length cs → SeenSoFar cs q 0 zs
 none-seen h = record { whole = h; stands = λ i l. absurd (omega arith) }

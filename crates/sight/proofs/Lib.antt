@@ -8,7 +8,7 @@ pub mod Sightings
 pub mod Lined
 -- the sides of the stand's cell one behind the other
 pub mod CellTree
--- the loop that takes the corners seen from a stand
+-- the differences of corners and stand, and the loop that takes them
 pub mod Corners
 -- replies 1 to 11 or the stand and its cell, by what was found
 pub mod Views

@@ -22,10 +22,11 @@ use Rattle.limits.specs.declared.Refusal.the-variants as No
 use Rattle.limits.specs.declared.Checked.{Checked}
 use Rattle.limits.specs.declared.Checked.the-variants as C
 use Rattle.cells.proofs.Accepted.{accepted-is-sound, accepted-doors}
+use Rattle.cells.proofs.Plans.{counts}
 use Rattle.setting.proofs.Settings.{wrong-for-the-plan}
 use Rattle.stand.specs.Spot.{stood}
 use Rattle.stand.specs.Find.{located}
-use Rattle.limits.specs.Limits.{most-reach}
+use Rattle.limits.specs.Limits.{most-corners, most-reach}
 use Rattle.reach.specs.Reach.{range, wrong-reach}
 use Rattle.reach.specs.declared.Reach.{Reach}
 use Rattle.reach.proofs.Reaching.{right-reach}
@@ -41,6 +42,7 @@ use Rattle.sight.specs.Listing.{view-of-place, view-of-spot, view-of-pla
 use Rattle.sight.specs.declared.view.Query.{Query}
 use Rattle.sight.specs.declared.view.View.{View}
 use Rattle.sight.specs.declared.view.View.the-variants as O
+use Rattle.sight.specs.declared.list.Listed.{Listed}
 use Rattle.sight.specs.declared.list.Listed.the-variants as L
 
 module _ (cs : List ℤ) (T : Cells) (ds : List ℕ) (w : ℕ) (reach : Reach) (s : Stand) where
@@ -168,18 +170,19 @@ module _ (k : ℕ) (cs : List ℤ) (ts ds : List ℕ) (a : Query) where
 
 -- ---- the whole listing
 
--- whether the table has room
-pub is-short : (cs : List ℤ) (table : List ℕ) → length table < 4 * corner-count cs → no-room cs table ≡ true
-unfolding no-room
-is-short cs table h = lt-ltb _ _ h
+-- whether a lent list has room
+module _ {A : Type 0} (cs : List ℤ) (lent : List A) where
+  pub is-short : length lent < 4 * corner-count cs → no-room cs lent ≡ true
+  unfolding no-room
+  is-short h = lt-ltb _ _ h
 
-pub is-long : (cs : List ℤ) (table : List ℕ) → 4 * corner-count cs ≤ length table → no-room cs table ≡ false
-unfolding no-room
-is-long cs table h = le-ltb _ _ h
+  pub is-long : 4 * corner-count cs ≤ length lent → no-room cs lent ≡ false
+  unfolding no-room
+  is-long h = le-ltb _ _ h
 
-pub has-room : (cs : List ℤ) (table : List ℕ) → no-room cs table ≡ false → 4 * corner-count cs ≤ length table
-unfolding no-room
-has-room cs table e = ltb-false _ _ e
+  pub has-room : no-room cs lent ≡ false → 4 * corner-count cs ≤ length lent
+  unfolding no-room
+  has-room e = ltb-false _ _ e
 
 module _ (k : ℕ) (cs : List ℤ) (ts ds : List ℕ) (a : Query) (table : List ℕ) where
   pub listing-refused : {r : Refusal} → viewed k cs ts ds a ≡ O.Refused r → (L.Refused r, table) ≡ listed k cs ts ds a table
@@ -200,3 +203,41 @@ module _ (k : ℕ) (cs : List ℤ) (ts ds : List ℕ) (a : Query) (table : List 
         ∙ ap (λ (n : ℕ). rows-from cs (cells-of k ts) ds (a .setting) n table (record { x = x; y = y }) p) in-range
         ∙ ap (λ (b : Bool). refuse b No.Room table (rows-from cs (cells-of k ts) ds (a .setting) (range (a .reach)) table (record { x = x; y = y }) p)) (sym (is-long cs table room))
         ∙ by-room
+
+-- an answer with rows is no refusal
+pub rows-are-no-refusal : {a : Listed} {r : Refusal} {n k : ℕ} → a ≡ L.Rows n k → a ≡ L.Refused r → ⊥
+rows-are-no-refusal e f = let z : _≡_ {A = ℕ} 0 1 = cc in omega arith
+
+module _ (k : ℕ) (cs : List ℤ) (ts ds : List ℕ) (a : Query) (table : List ℕ) where
+  -- the stand is viewed from, and the table has room
+  pub record Seen : Type 0 where
+    pub x : ℤ
+    pub y : ℤ
+    pub p : Footing
+    pub view : viewed k cs ts ds a ≡ O.From x y p
+    pub room : no-room cs table ≡ false
+
+  -- so it is whenever the listing replies rows
+  pub rows-are-seen : {n c : ℕ} → listed k cs ts ds a table .0 ≡ L.Rows n c → Seen
+  unfolding listed
+  rows-are-seen {n} {c} e = by-view (viewed k cs ts ds a) refl e
+    where
+      by-room-there : (x y : ℤ) (p : Footing) → viewed k cs ts ds a ≡ O.From x y p → (r : Bool) → no-room cs table ≡ r → refuse r No.Room table (rows-from cs (cells-of k ts) ds (a .setting) (range (a .reach)) table (record { x = x; y = y }) p) .0 ≡ L.Rows n c → Seen
+      by-room-there x y p h true r e = absurd (rows-are-no-refusal e refl)
+      by-room-there x y p h false r e = record { x = x; y = y; p = p; view = h; room = r }
+
+      by-view : (v : View) → viewed k cs ts ds a ≡ v → listed-from cs (cells-of k ts) ds (a .setting) (range (a .reach)) table v .0 ≡ L.Rows n c → Seen
+      by-view (O.From x y p) h e = by-room-there x y p h (no-room cs table) refl e
+      by-view (O.Refused r) h e = absurd (rows-are-no-refusal e refl)
+
+  -- a table with room for every plan: what the listing refuses, the view did
+  pub refused-by-the-view : {r : Refusal} → 4 * most-corners ≤ length table → listed k cs ts ds a table .0 ≡ L.Refused r → viewed k cs ts ds a ≡ O.Refused r
+  unfolding listed
+  refused-by-the-view {r} long e = by-view (viewed k cs ts ds a) refl e
+    where
+      by-view : (v : View) → viewed k cs ts ds a ≡ v → listed-from cs (cells-of k ts) ds (a .setting) (range (a .reach)) table v .0 ≡ L.Refused r → viewed k cs ts ds a ≡ O.Refused r
+      by-view (O.From x y p) h e =
+          let few = counts _ _ _ (view-says k cs ts ds a h .sound .in-size) .corners-at-most in
+          let room = is-long cs table (omega (arith, few, long)) in
+          absurd (rows-are-no-refusal refl (sym (ap (λ (b : Bool). refuse b No.Room table (rows-from cs (cells-of k ts) ds (a .setting) (range (a .reach)) table (record { x = x; y = y }) p) .0) room) ∙ e))
+      by-view (O.Refused s) h e = let same : s ≡ r = cc in h ∙ ap O.Refused same

@@ -110,14 +110,14 @@ view-of-plan cs T ds a (C.Refused r) = O.Refused r
 unfoldable pub viewed : ℕ → List ℤ → List ℕ → List ℕ → Query → View
 viewed k cs ts ds a = view-of-plan cs (cells-of k ts) ds a (checked k cs ts ds)
 
--- refused where the test holds, and the table keeps its contents
-abbrev pub refuse : Bool → Refusal → List ℕ → Listed × List ℕ → Listed × List ℕ
-refuse true r table rest = (L.Refused r, table)
-refuse false r table rest = rest
+-- refused where the test holds, and the lent list, a table or offsets (document 02, A2), keeps its contents
+abbrev pub refuse : {A : Type 0} → Bool → Refusal → List A → Listed × List A → Listed × List A
+refuse true r lent rest = (L.Refused r, lent)
+refuse false r lent rest = rest
 
--- the table must have 4·corners numbers
-unfoldable pub no-room : List ℤ → List ℕ → Bool
-no-room cs table = ltb (length table) (4 * corner-count cs)
+-- the lent list must have 4·corners numbers
+unfoldable pub no-room : {A : Type 0} → List ℤ → List A → Bool
+no-room cs lent = ltb (length lent) (4 * corner-count cs)
 
 -- the rows go to the beginning of the table; beyond them it keeps its values
 abbrev pub rows-from : List ℤ → Cells → List ℕ → ℕ → ℕ → List ℕ → Point → Footing → Listed × List ℕ

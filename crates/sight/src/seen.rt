@@ -9,6 +9,18 @@ ghost use Rattle.cells.specs.Sound.{CornersNear};
 ghost use Rattle.sight.specs.Seen.{SeenFrom};
 use cells::corner;
 
+// Corner i less the stand, in whole millimetres.
+pub fn difference(corners: &[i32], i: usize, q: [i64; 2]) -> [i64; 2]
+    requires { ⌜ CornersNear (now corners) × Near (point q) ⌝ }
+    requires { ⌜ i < corner-count (now corners) ⌝ }
+    ensures { λ r. ⌜ point r ≡ minus (corner-at (now (corners .entry)) i) (point q) ⌝ }
+{
+    let p = corner::at(corners, i);
+    let x = p[0] - q[0];
+    let y = p[1] - q[1];
+    [x, y]
+}
+
 // Corner i.
 fn see_corner(corners: &[i32], q: [i64; 2], seen: &mut [i32], i: usize)
     requires { ⌜ CornersNear (now corners) × Near (point q) ⌝ }
@@ -16,9 +28,9 @@ fn see_corner(corners: &[i32], q: [i64; 2], seen: &mut [i32], i: usize)
     requires { ⌜ length (now seen) ≡ length (now corners) ⌝ }
     ensures { λ _. ⌜ now (seen .exit) ≡ set (set (now (seen .entry)) (2 * i) (minus (corner-at (now (corners .entry)) i) (point q) .x)) (2 * i + 1) (minus (corner-at (now (corners .entry)) i) (point q) .y) ⌝ }
 {
-    let p = corner::at(corners, i);
-    let x = p[0] - q[0];
-    let y = p[1] - q[1];
+    let d = difference(corners, i, q);
+    let x = d[0];
+    let y = d[1];
     seen[2 * i] = x as i32;
     seen[2 * i + 1] = y as i32;
 }
