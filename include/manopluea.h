@@ -32,16 +32,16 @@
  * A cell's corners stand counter-clockwise; side s runs from its corner s to the next one, the last side to its corner
  * 0. Neighbour s, a cell or MANOPLUEA_WALL, lies across side s. Faces are numbered in the order of the list, the sides
  * of a cell one after another: in a list of triangles a face is 3*cell + side. Any number may be passed as the kind;
- * one that is neither of the two is refused with 1. Check, finding, listing, a morning and the door change answer a
- * plan of triangles alike in either kind.
+ * one that is neither of the two is refused with 1. Check, finding, listing, a morning, the door change and a drawing
+ * answer a plan of triangles alike in either kind.
  *
  * Cells may touch, in a corner or along a line, neighbours or not, but they do not overlap: a plan in which some point,
  * whole or fractional, is strictly inside two cells is refused with 17, and the place is the least cell of any such
  * pair. So at most one cell holds a stand strictly inside.
  *
- * Reach. A listing, a morning and the door change may state how far the scanner sees, in millimetres: `stated` says
- * whether they do. Where it is false the reach is unlimited, and the number after it means nothing. Where it is true,
- * any number but MANOPLUEA_LEAST_REACH to MANOPLUEA_MOST_REACH is refused with 15.
+ * Reach. A listing, a morning, the door change and a drawing may state how far the scanner sees, in millimetres:
+ * `stated` says whether they do. Where it is false the reach is unlimited, and the number after it means nothing. Where
+ * it is true, any number but MANOPLUEA_LEAST_REACH to MANOPLUEA_MOST_REACH is refused with 15.
  *
  * A line, which is the whole side from corner to corner, is in reach when some point of it is at most so far from the
  * stand, exactly: the point need not be of whole millimetres. It need not be seen either: where the near part of a line
@@ -67,9 +67,9 @@
  * below 7, the call does nothing at all: no lent memory is touched, the reply neither.
  *
  * The lowest number that applies is the reply, but for 17, which goes after 6 and before 7, for 15, which goes after 8
- * and before 9, and for 19, which goes after 11 and is the last of a listing's. A refusal returns its number and place
- * only, and every lent table, list and file keeps its contents. On 0, numbers and bytes beyond those written keep their
- * old values. Each call checks its plan anew.
+ * and before 9, and for 19, which goes after 11 and is the last of a listing's. So 14 is the last of a drawing's. A
+ * refusal returns its number and place only, and every lent table, list and file keeps its contents. On 0, numbers and
+ * bytes beyond those written keep their old values, bit for bit. Each call checks its plan anew.
  *
  * Each promise below is proved: crates/exports/specs/Reply.antt defines what a call leaves in the lent memory and in
  * the reply as a function of its input, and the call's contract says that it leaves exactly that. The stack is not
@@ -88,7 +88,7 @@ extern "C" {
 #endif
 
 /* Counts up where a function, a number or a promise of this header changes. */
-#define MANOPLUEA_VERSION 7
+#define MANOPLUEA_VERSION 8
 
 /* The limits of a plan. A coordinate lies between -MANOPLUEA_MOST_COORDINATE and MANOPLUEA_MOST_COORDINATE. */
 #define MANOPLUEA_LEAST_CORNERS 3
@@ -115,6 +115,9 @@ extern "C" {
 /* The reaches that can be stated, in millimetres. */
 #define MANOPLUEA_LEAST_REACH 1
 #define MANOPLUEA_MOST_REACH 262144
+
+/* How far from the stand a corner may be to be drawn, in x and in y, in millimetres. */
+#define MANOPLUEA_MOST_OFFSET 16777216
 
 /* In a list of stands, what a stand that is a point has in place of a corner. */
 #define MANOPLUEA_POINT (-1.0)
@@ -152,10 +155,13 @@ enum manopluea_number {
     MANOPLUEA_LINE = 9,      /* on some cell's border, strictly inside no cell and strictly within no free side; for
                                 the door change, also a door whose line the stand is strictly within */
     MANOPLUEA_OUTSIDE = 10,  /* inside or on no cell */
-    MANOPLUEA_ROOM = 11,     /* a table below 4*corners numbers, or for a morning below 4*corners*stands; replies below
-                                3*stands; a file or a list below what is written; a text below MANOPLUEA_TEXT */
+    MANOPLUEA_ROOM = 11,     /* a table or offsets below 4*corners numbers, or a table for a morning below
+                                4*corners*stands; replies below 3*stands; a file or a list below what is written; a
+                                text below MANOPLUEA_TEXT */
     MANOPLUEA_CHANGE = 12,   /* no such door, or already in that state */
     MANOPLUEA_ROWS = 13,     /* the given list differs from the true one, in length or any number */
+    MANOPLUEA_FAR = 14,      /* a corner to be drawn is more than MANOPLUEA_MOST_OFFSET from the stand, in x or in y;
+                                after MANOPLUEA_ROOM */
     MANOPLUEA_REACH = 15,    /* a number is stated that is no reach; after MANOPLUEA_STAND, before MANOPLUEA_LINE */
     MANOPLUEA_OVERLAP = 17,  /* cells that lie on top of each other: some point, whole or fractional, is strictly inside
                                 two of them; the least cell of any such pair; after MANOPLUEA_DOOR, before
@@ -301,6 +307,31 @@ void manopluea_change_offset(const int32_t *corners, size_t corners_length,
                              size_t door, bool shut,
                              uint16_t *table, size_t table_length,
                              uint64_t *reply, size_t reply_length);
+
+/* The drawing. Replies 0 to 11, 14, 15 and 17. On 0 the first two values are row count and crossings, as of the listing
+ * with the same setting, stand and reach and without a ceiling. The offsets hold four numbers a row from their
+ * beginning on, row by row in the order of that listing, repeats included: x and y of the right limit, then x and y of
+ * the left limit, each less the stand. Each is exactly the difference in whole millimetres, and 0 is plus zero.
+ *
+ * Offsets of fewer than 4*corners numbers are refused with 11. After that, 14 is the reply where a row has a limit that
+ * is more than MANOPLUEA_MOST_OFFSET from the stand in x or in y, in either direction; just as far is drawn. Farther is
+ * refused also where a float has that number. Rows out of reach count like all others. Corners that are no row's limit
+ * do not count, however far they are. */
+void manopluea_draw_point(const int32_t *corners, size_t corners_length,
+                          const uint16_t *cells, size_t cells_length,
+                          const uint16_t *doors, size_t doors_length, uint16_t kind,
+                          uint64_t setting, double x, double y,
+                          bool stated, uint64_t reach,
+                          float *offsets, size_t offsets_length,
+                          uint64_t *reply, size_t reply_length);
+
+void manopluea_draw_offset(const int32_t *corners, size_t corners_length,
+                           const uint16_t *cells, size_t cells_length,
+                           const uint16_t *doors, size_t doors_length, uint16_t kind,
+                           uint64_t setting, uint16_t corner, double dx, double dy,
+                           bool stated, uint64_t reach,
+                           float *offsets, size_t offsets_length,
+                           uint64_t *reply, size_t reply_length);
 
 /* What the printing program prints for an input: a query record (kind 4 or 5), then a plan with cells of either kind.
  * Replies 0 and 11. On 0 the first value is the number of bytes printed, which stand in the text from its beginning; a

@@ -2,9 +2,10 @@
  * kit's emulator.
  * It reads requests from standard input and writes what each call leaves to standard output, until the input ends.
  *
- * A request is twenty-two numbers of eight bytes, call, kind, setting, corner, x, y, stated, reach, limited, ceiling,
- * door, shut and the lengths of reply, replies, stands, corners, cells, doors, given, table, file and text, then the
- * contents of those ten lists, back to back. The answer is the ten lists after the call. The file of PRINT is its input. */
+ * A request is twenty-three numbers of eight bytes, call, kind, setting, corner, x, y, stated, reach, limited, ceiling,
+ * door, shut and the lengths of reply, replies, stands, corners, offsets, cells, doors, given, table, file and text, then
+ * the contents of those eleven lists, back to back. The answer is the eleven lists after the call. The file of PRINT is
+ * its input. */
 #include "../../include/manopluea.h"
 
 enum {
@@ -18,6 +19,8 @@ enum {
     LIST_STANDS,
     CHANGE_POINT,
     CHANGE_OFFSET,
+    DRAW_POINT,
+    DRAW_OFFSET,
     PRINT
 };
 
@@ -81,19 +84,20 @@ static void serve_one(void)
         uint64_t call, kind, setting, corner;
         double x, y;
         uint64_t stated, reach, limited, ceiling, door, shut;
-        uint64_t reply, replies, stands, corners, cells, doors, given, table, file, text;
+        uint64_t reply, replies, stands, corners, offsets, cells, doors, given, table, file, text;
     } asked;
     receive(&asked, sizeof asked);
-    size_t r = asked.reply, o = asked.replies, s = asked.stands, n = asked.corners, m = asked.cells, k = asked.doors,
-           g = asked.given, t = asked.table, f = asked.file, x = asked.text;
-    if ((r | o | s | n | m | k | g | t | f | x) >> 32 ||
-        8 * (r + o + s) + 4 * n + 2 * (m + k + g + t) + f + x > sizeof lists)
+    size_t r = asked.reply, o = asked.replies, s = asked.stands, n = asked.corners, d = asked.offsets, m = asked.cells,
+           k = asked.doors, g = asked.given, t = asked.table, f = asked.file, x = asked.text;
+    if ((r | o | s | n | d | m | k | g | t | f | x) >> 32 ||
+        8 * (r + o + s) + 4 * (n + d) + 2 * (m + k + g + t) + f + x > sizeof lists)
         leave(2);
     /* the widest numbers come first, so each list is aligned */
     uint64_t *reply = (uint64_t *)lists, *replies = reply + r;
     double *stands = (double *)(replies + o);
     int32_t *corners = (int32_t *)(stands + s);
-    uint16_t *cells = (uint16_t *)(corners + n), *doors = cells + m, *given = doors + k, *table = given + g;
+    float *offsets = (float *)(corners + n);
+    uint16_t *cells = (uint16_t *)(offsets + d), *doors = cells + m, *given = doors + k, *table = given + g;
     uint8_t *file = (uint8_t *)(table + t), *text = file + f;
     size_t length = (size_t)(text + x - lists);
     uint16_t kind = (uint16_t)asked.kind, corner = (uint16_t)asked.corner;
@@ -133,6 +137,13 @@ static void serve_one(void)
     case CHANGE_OFFSET:
         manopluea_change_offset(corners, n, cells, m, doors, k, kind, asked.setting, corner, asked.x, asked.y, asked.stated, asked.reach, given, g,
                                 asked.door, asked.shut, table, t, reply, r);
+        break;
+    case DRAW_POINT:
+        manopluea_draw_point(corners, n, cells, m, doors, k, kind, asked.setting, asked.x, asked.y, asked.stated, asked.reach, offsets, d, reply, r);
+        break;
+    case DRAW_OFFSET:
+        manopluea_draw_offset(corners, n, cells, m, doors, k, kind, asked.setting, corner, asked.x, asked.y, asked.stated, asked.reach, offsets, d,
+                              reply, r);
         break;
     case PRINT:
         manopluea_print(file, f, text, x, reply, r);

@@ -1,10 +1,10 @@
 //! Times of the public calls on four floors, of listings with a reach and up to a
-//! ceiling there, on two of them of finding less the check, on one of a morning's stands and
-//! of its triangles merged into larger cells, and of the check alone on two floors of
-//! slivers: of the proved library, of the second program and of plain Rust, side by side.
+//! ceiling there and of drawings, on two of them of finding less the check, on one of a
+//! morning's stands and of its triangles merged into larger cells, and of the check alone on
+//! two floors of slivers: of the proved library, of the second program and of plain Rust, side by side.
 
 use crate::calls::{
-    Calls, DoorChange, Listing, Lists, Morning, Plan, Query, Reach, Refusal, Stand, ROW,
+    Calls, DoorChange, Listing, Lists, Morning, Plan, Query, Reach, Refusal, Stand, DRAWN, ROW,
 };
 use crate::generate::{self, Dice, Merged, Mesh};
 use crate::paper::{self, Paper, DOORS, MOST_STANDS, REACHES};
@@ -128,6 +128,7 @@ pub fn report(proved: &dyn Calls) -> String {
     let text = text + &reaches.collect::<String>();
     let ceilings = floors.iter().map(|floor| report_ceilings(floor, proved));
     let text = text + &ceilings.collect::<String>();
+    let text = text + &report_all_drawn(&floors, proved);
     let text = text + &report_morning(&floors[0], proved) + "\n";
     let text = text + &report_merged(&floors[0], proved) + "\n";
     text + &report_found(&floors, proved)
@@ -136,6 +137,25 @@ pub fn report(proved: &dyn Calls) -> String {
 /// The last part of the report alone: finding.
 pub fn report_finding(proved: &dyn Calls) -> String {
     report_found(&floors(), proved)
+}
+
+/// Of the report drawings alone.
+pub fn report_drawing(proved: &dyn Calls) -> String {
+    report_all_drawn(&floors(), proved)
+}
+
+fn report_all_drawn(floors: &[Floor], proved: &dyn Calls) -> String {
+    let floors = floors.iter();
+    floors.map(|floor| report_drawn(floor, proved)).collect()
+}
+
+fn report_drawn(floor: &Floor, proved: &dyn Calls) -> String {
+    let programs = [
+        drawing_of(floor, proved),
+        drawing_of(floor, &Paper),
+        drawing_on(floor, plain::list, plain::draw),
+    ];
+    describe_drawn(floor, medians(programs))
 }
 
 fn report_found(floors: &[Floor], proved: &dyn Calls) -> String {
@@ -349,6 +369,10 @@ fn table(plan: &Plan) -> Vec<u16> {
     vec![0; ROW * plan.corners.len() / 2]
 }
 
+fn offsets(plan: &Plan) -> Vec<f32> {
+    vec![0.0; DRAWN * plan.corners.len() / 2]
+}
+
 fn calls_of<'a>(floor: &'a Floor, calls: &'a dyn Calls) -> [Call<'a>; 5] {
     calls_on(
         floor,
@@ -496,6 +520,30 @@ fn ceilings_on<'a, Checked, Found, Listed>(
         list_up_to(None),
         list_up_to(Some(CEILING)),
         list_up_to(Some(floor.crossings)),
+    ]
+}
+
+fn drawing_of<'a>(floor: &'a Floor, calls: &'a dyn Calls) -> [Call<'a>; 2] {
+    drawing_on(
+        floor,
+        |lists, listing, table| calls.list(lists, listing, table),
+        |lists, query, offsets| calls.draw(lists, query, offsets),
+    )
+}
+
+/// A listing, and the drawing of its rows.
+fn drawing_on<'a, Listed>(
+    floor: &'a Floor,
+    list: impl Fn(Lists<'a>, Listing, &mut [u16]) -> Listed + 'a,
+    draw: impl Fn(Lists<'a>, Query, &mut [f32]) -> Listed + 'a,
+) -> [Call<'a>; 2] {
+    let (lists, query) = (floor.plan.lists(), floor.query(Reach::NotStated));
+    let mut offsets = offsets(&floor.plan);
+    [
+        list_again(&floor.plan, floor.listing(None), list),
+        Box::new(move || {
+            black_box(draw(lists, query, &mut offsets));
+        }),
     ]
 }
 
@@ -678,6 +726,16 @@ fn describe_ceilings(floor: &Floor, times: [[f64; 5]; 3]) -> String {
     text += &line("  / no ceiling", 2, against(kept, none));
     text.push('\n');
     text
+}
+
+fn describe_drawn(floor: &Floor, times: [[f64; 2]; 3]) -> String {
+    let rows = floor.given.len() / ROW;
+    let mut text = format!("{}, a drawing of {rows} rows\n{}", floor.name, columns());
+    let [list, draw] = [0, 1].map(|call| times.map(|times| times[call]));
+    text += &line("list", 0, list);
+    text += &line("draw", 0, draw);
+    text += &line("draw / list", 2, against(draw, list));
+    text + "\n"
 }
 
 fn describe_morning(floor: &Floor, times: [[f64; 2]; 3]) -> String {
@@ -918,6 +976,22 @@ mod tests {
             }
             let unlimited = listing(&floor.plan, floor.query(Reach::NotStated));
             assert_eq!(unlimited, (floor.given, floor.crossings), "{}", floor.name);
+        }
+    }
+
+    /// Each program draws the same, as many rows as are listed.
+    #[test]
+    fn the_floors_are_drawn_alike() {
+        for floor in floors() {
+            let (lists, query) = (floor.plan.lists(), floor.query(Reach::NotStated));
+            let [mut second, mut proved, mut plain] = [(); 3].map(|()| offsets(&floor.plan));
+            let reply = Reply::done([(floor.given.len() / ROW) as u64, floor.crossings]);
+            assert_eq!(Paper.draw(lists, query, &mut second), reply);
+            assert_eq!(Proved.draw(lists, query, &mut proved), reply);
+            let counts = plain::draw(lists, query, &mut plain).expect("no corner is too far");
+            let counts = Reply::done([counts.rows as u64, counts.crossings]);
+            assert_eq!(counts, reply, "{}", floor.name);
+            assert_eq!((&proved, &plain), (&second, &second), "{}", floor.name);
         }
     }
 

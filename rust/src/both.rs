@@ -1,7 +1,7 @@
 //! What the paper program and the proved library answer alike, for the tests that name
 //! their cases: of each call its reply, and every number of lent memory.
 
-use crate::calls::{Calls, Listing, Morning, Plan, Reply, POINT, ROW};
+use crate::calls::{Calls, Listing, Morning, Plan, Query, Reply, DRAWN, POINT, ROW};
 use crate::examples::{plan_q, STANDS_IN_Q};
 use crate::paper::{stand_of, Paper, Row};
 use crate::proved::Proved;
@@ -47,6 +47,59 @@ pub fn list(plan: &Plan, listing: Listing) -> Listed {
     listed(room(plan), |calls, table| {
         calls.list(plan.lists(), listing, table)
     })
+}
+
+/// What is drawn of a row: x and y of its right limit, then of its left one.
+pub type DrawnRow = [f32; DRAWN];
+
+/// Rows as they are drawn, and crossings, or the number of the refusal.
+pub type Drawn = Result<(Vec<DrawnRow>, u64), u32>;
+
+/// The bits of single-precision numbers that a call could change by handling them: what is
+/// no number, quiet or not, infinities, minus zero, and what is next to zero.
+pub const SINGLES: [u32; 9] = [
+    0x7f80_0001,
+    0x7fc1_2345,
+    0xffa5_5a5a,
+    0xffff_ffff,
+    0x7f80_0000,
+    0xff80_0000,
+    0x8000_0000,
+    0x0000_0001,
+    0xa5a5_a5a5,
+];
+
+/// What a drawing made of offsets of so many numbers. What is not written keeps its bits,
+/// and a refusal has no place.
+pub fn drawn(plan: &Plan, query: Query, room: usize) -> Drawn {
+    let lent = || SINGLES.into_iter().cycle().take(room);
+    let (reply, bits) = both(|calls| {
+        let mut offsets: Vec<f32> = lent().map(f32::from_bits).collect();
+        let reply = calls.draw(plan.lists(), query, &mut offsets);
+        let bits: Vec<u32> = offsets.into_iter().map(f32::to_bits).collect();
+        (reply, bits)
+    });
+    let written = DRAWN * reply.values[0] as usize;
+    assert!(bits[written..].iter().copied().eq(lent().skip(written)));
+    if reply.number != 0 {
+        assert_eq!(reply, Reply::refused(reply.number, 0));
+        return Err(reply.number);
+    }
+    let numbers: Vec<f32> = bits[..written]
+        .iter()
+        .copied()
+        .map(f32::from_bits)
+        .collect();
+    // Minus zero equals zero, so it is looked for here.
+    assert!(numbers.iter().all(|&n| n != 0.0 || n.to_bits() == 0));
+    assert_eq!(reply, Reply::done([reply.values[0], reply.values[1]]));
+    let (rows, _) = numbers.as_chunks();
+    Ok((rows.to_vec(), reply.values[1]))
+}
+
+/// The drawing in offsets that are just long enough.
+pub fn draw(plan: &Plan, query: Query) -> Drawn {
+    drawn(plan, query, DRAWN * (plan.corners.len() / 2))
 }
 
 /// The stands' own replies, each its number, row count and crossings, and all rows.

@@ -170,6 +170,10 @@ impl Morning {
 /// line is in reach, 1 where it is not.
 pub const ROW: usize = 4;
 
+/// How many numbers a row has in a drawing: x and y of its right limit less the
+/// stand, then of its left limit.
+pub const DRAWN: usize = 4;
+
 /// A door change as it is asked for.
 #[derive(Clone, Copy, Debug)]
 pub struct DoorChange<'a> {
@@ -187,7 +191,7 @@ pub struct DoorChange<'a> {
 ///
 /// Values of reply 0: corners, cells, doors (check, read, write), and then the
 /// kind that was read (read); the cell, 1 where the stand is within a side of it,
-/// and that side (find); rows, crossings (list, change); their sums
+/// and that side (find); rows, crossings (list, change, draw); their sums
 /// (list_stands). Those that a call has no use for are 0.
 #[derive(Clone, Copy, Debug, PartialEq, Eq)]
 pub struct Reply {
@@ -219,6 +223,8 @@ pub enum Refusal {
     Room,
     /// After ROOM, and the last of a listing's.
     Ceiling,
+    /// After ROOM, and the last of a drawing's.
+    Far,
     Change,
     Rows,
 }
@@ -240,6 +246,7 @@ impl Refusal {
             Refusal::Outside => (10, 0),
             Refusal::Room => (11, 0),
             Refusal::Ceiling => (19, 0),
+            Refusal::Far => (14, 0),
             Refusal::Change => (12, 0),
             Refusal::Rows => (13, 0),
         };
@@ -263,6 +270,7 @@ impl Refusal {
             11 => Refusal::Room,
             12 => Refusal::Change,
             13 => Refusal::Rows,
+            14 => Refusal::Far,
             15 => Refusal::Reach,
             17 => Refusal::Overlap(place),
             19 => Refusal::Ceiling,
@@ -302,7 +310,7 @@ impl Reply {
             return Ok(self.values);
         }
         let refusal = Refusal::numbered(self.number, self.place as usize);
-        Err(refusal.expect("a reply's number is one of 0 to 13, 15, 17 or 19"))
+        Err(refusal.expect("a reply's number is one of 0 to 15, 17 or 19"))
     }
 }
 
@@ -334,6 +342,9 @@ pub trait Calls: Sync {
 
     /// The list under the new setting goes into the table.
     fn change(&self, lists: Lists<'_>, change: DoorChange<'_>, table: &mut [u16]) -> Reply;
+
+    /// `DRAWN` numbers a row go into the offsets.
+    fn draw(&self, lists: Lists<'_>, query: Query, offsets: &mut [f32]) -> Reply;
 
     /// What the printing program prints for this standard input.
     fn print(&self, input: &[u8]) -> Vec<u8>;

@@ -18,15 +18,18 @@ use std::thread;
 /// many is put to it.
 const PROGRAM_EVERY: u64 = 50;
 
-/// Reply numbers are below this one. There is no reply 14, 16 or 18.
+/// Reply numbers are below this one. There is no reply 16 or 18.
 pub const NUMBERS: usize = 20;
+
+/// How many public calls there are.
+pub const CALLS: usize = 9;
 
 /// How often each reply number came up, for each call.
 #[derive(Clone, Debug, Default, PartialEq, Eq)]
 pub struct Tally {
     pub cases: u64,
     /// By the kind of the plan's cells, then by call, then by reply number.
-    pub replies: [[[u64; NUMBERS]; 8]; 3],
+    pub replies: [[[u64; NUMBERS]; CALLS]; 3],
     /// Of a morning's first stand, of those between, and of its last: by their
     /// own reply's number.
     pub stands: [[u64; NUMBERS]; 3],
@@ -41,6 +44,7 @@ pub struct Tally {
     pub sides: Sides,
     pub reaches: Reaches,
     pub ceilings: Ceilings,
+    pub drawings: Drawings,
 }
 
 /// How often stands on a side came up.
@@ -91,6 +95,31 @@ pub struct Ceilings {
     pub in_all: u64,
 }
 
+/// How often drawings came up that are near to being refused for a far corner, or nearly
+/// were not. Of a drawing the farthest is what any limit of its rows is away, in x or in y.
+#[derive(Clone, Copy, Debug, Default, PartialEq, Eq)]
+pub struct Drawings {
+    /// Drawn with an offset of 0; and with the farthest just as far as can be.
+    pub zeros: u64,
+    pub farthest: u64,
+    /// Refused, with the farthest one millimetre beyond that, and two beyond, which a
+    /// single-precision number could have.
+    pub one_beyond: u64,
+    pub two_beyond: u64,
+    /// Refused for x alone, and for y alone; for limits of rows out of reach alone; and from a
+    /// side.
+    pub by_x: u64,
+    pub by_y: u64,
+    pub out_of_reach: u64,
+    pub from_sides: u64,
+    /// Drawn though a corner that is no row's limit is too far; and though an end of a
+    /// row's line is.
+    pub unnamed: u64,
+    pub ends: u64,
+    /// Refused for their room where a corner is too far, too.
+    pub without_room: u64,
+}
+
 /// The public calls, in the order of the tally.
 #[derive(Clone, Copy, Debug)]
 pub enum Call {
@@ -101,11 +130,12 @@ pub enum Call {
     List,
     ListStands,
     Change,
+    Draw,
     Print,
 }
 
-const CALL_NAMES: [&str; 8] = [
-    "check", "read", "write", "find", "list", "stands", "change", "print",
+const CALL_NAMES: [&str; CALLS] = [
+    "check", "read", "write", "find", "list", "stands", "change", "draw", "print",
 ];
 
 /// The kinds that cells come in, in the order of the tally; lists and files of
@@ -182,6 +212,17 @@ impl Tally {
         self.ceilings.by_cells += other.ceilings.by_cells;
         self.ceilings.between += other.ceilings.between;
         self.ceilings.in_all += other.ceilings.in_all;
+        self.drawings.zeros += other.drawings.zeros;
+        self.drawings.farthest += other.drawings.farthest;
+        self.drawings.one_beyond += other.drawings.one_beyond;
+        self.drawings.two_beyond += other.drawings.two_beyond;
+        self.drawings.by_x += other.drawings.by_x;
+        self.drawings.by_y += other.drawings.by_y;
+        self.drawings.out_of_reach += other.drawings.out_of_reach;
+        self.drawings.from_sides += other.drawings.from_sides;
+        self.drawings.unnamed += other.drawings.unnamed;
+        self.drawings.ends += other.drawings.ends;
+        self.drawings.without_room += other.drawings.without_room;
         self
     }
 
@@ -276,6 +317,26 @@ impl fmt::Display for Tally {
             ceilings.by_cells,
             ceilings.between,
             ceilings.in_all
+        )?;
+        let (drawings, refused) = (&self.drawings, Refusal::Far.reply().number as usize);
+        writeln!(
+            f,
+            "drawings: {} have an offset of 0, {} reach as far as can be drawn, {} are drawn though a \
+             corner that is no limit is farther, {} of them an end of a row's line",
+            drawings.zeros, drawings.farthest, drawings.unnamed, drawings.ends
+        )?;
+        writeln!(
+            f,
+            "too far to be drawn: {} replies are {refused}; {} for one millimetre, {} for two, {} in x \
+             alone, {} in y alone, {} out of reach alone, {} from a side; {} without room",
+            self.of_number(refused),
+            drawings.one_beyond,
+            drawings.two_beyond,
+            drawings.by_x,
+            drawings.by_y,
+            drawings.out_of_reach,
+            drawings.from_sides,
+            drawings.without_room
         )?;
         writeln!(f, "in either kind: {} plans of triangles", self.either)
     }
@@ -401,6 +462,9 @@ fn trials(case: Case) -> Vec<Trial> {
             shut: case.shut,
             given: case.given,
             table: case.table,
+        },
+        Asked::Draw {
+            offsets: case.offsets,
         },
         Asked::RoundTrip,
         Asked::EitherKind {

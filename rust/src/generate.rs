@@ -4,6 +4,7 @@
 mod ceilings;
 mod damage;
 mod dice;
+mod distances;
 mod extremes;
 mod floors;
 mod lines;
@@ -182,6 +183,8 @@ pub struct Case {
     /// The table and the replies of a morning.
     pub morning: [Room; 2],
     pub morning_ceiling: Ceiling,
+    /// The offsets of a drawing.
+    pub offsets: Room,
     /// A plan file for the reader, often a damaged one.
     pub file: Vec<u8>,
     pub lists: [Room; 3],
@@ -209,6 +212,10 @@ const TURNED: usize = 15;
 /// just are not.
 const ON_TOP: usize = 8;
 
+/// So many cases in a hundred have a floor of such a size that some corner is about as far
+/// from the stand as one may be to be drawn.
+const DISTANT: usize = 15;
+
 /// A floor whose coordinates go farther is so large that hardly any stand has a line
 /// in reach, where it is not beside one.
 const BEYOND_REACH: i64 = 4 * *REACHES.end() as i64;
@@ -217,13 +224,14 @@ const BEYOND_REACH: i64 = 4 * *REACHES.end() as i64;
 pub fn case(seed: u64, number: u64) -> Case {
     let dice = &mut Dice::for_case(seed, number);
     // The morning has dice of its own, and so have stands on lines, reaches with turned
-    // floors and stands beside lines, ceilings, and cells on top of others: one of them
-    // changes nothing of what the other dice give.
+    // floors and stands beside lines, ceilings, cells on top of others, and drawings: one
+    // of them changes nothing of what the other dice give.
     let aside = &mut Dice::for_case(!seed, number);
     let other = &mut Dice::for_case(seed ^ 1 << 63, number);
     let far = &mut Dice::for_case(seed ^ 1 << 62, number);
     let tablet = &mut Dice::for_case(seed ^ 1 << 61, number);
     let upon = &mut Dice::for_case(seed ^ 1 << 60, number);
+    let screen = &mut Dice::for_case(seed ^ 1 << 59, number);
     let mut mesh = floor(dice);
     let on_lines = other.percent(ON_LINES);
     if on_lines && other.percent(40) {
@@ -252,7 +260,7 @@ pub fn case(seed: u64, number: u64) -> Case {
     }
     let mut plan = plan(&mesh, dice);
     let lines = Lines::new(&plan);
-    let on_line = on_lines.then(|| lines.random(other)).flatten();
+    let mut on_line = on_lines.then(|| lines.random(other)).flatten();
     if let Some(OnLine { at, .. }) = on_line {
         stand = stands::as_stand(&mesh, at, other);
     }
@@ -271,6 +279,24 @@ pub fn case(seed: u64, number: u64) -> Case {
         morning::put(&mut stands, &mesh, beside, far);
         // These are to be at the end of a reach, before all others.
         near = near.repeat(8);
+    }
+    // After all that has a say in where the stand is.
+    let distant = screen.percent(DISTANT).then(|| {
+        let q = stands::near(&mesh, stand);
+        let those = distances::those_that_matter(&plan, stand, screen);
+        distances::random(&mesh.corners, &those, q, screen)
+    });
+    let distant = distant.flatten();
+    if let Some(map) = distant {
+        let map = |at| map.of(at);
+        mesh.map_corners(map);
+        let (spots, _) = plan.corners.as_chunks_mut::<2>();
+        for at in spots {
+            *at = map(at.map(i64::from)).map(|number| number as i32);
+        }
+        stand = stands::mapped(stand, map);
+        morning::map(&mut stands, map);
+        on_line = on_line.map(|on_line| on_line.mapped(map));
     }
     let mut directions = directions(&mesh, stand, dice);
     if let Some(OnLine { at, ends, .. }) = on_line {
@@ -293,6 +319,9 @@ pub fn case(seed: u64, number: u64) -> Case {
         }
     }
     near.extend(lines.some(door, far));
+    if let Some(map) = distant {
+        near.iter_mut().flatten().for_each(|at| *at = map.of(*at));
+    }
     let q = stands::near(&mesh, some_stand(stand, &stands, far));
     let reach = reaches::random(q, &near, far);
     let longer = reaches::longer(reach, q, &near, far);
@@ -315,6 +344,7 @@ pub fn case(seed: u64, number: u64) -> Case {
         ceiling: ceilings::random(tablet),
         morning: [room(aside), room(aside)],
         morning_ceiling: ceilings::random(tablet),
+        offsets: room(screen),
         file: file(&scene, dice),
         lists: [room(dice), room(dice), room(dice)],
         bytes: room(dice),

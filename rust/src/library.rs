@@ -3,7 +3,7 @@
 //! `include/manopluea.h` has the promise of each call. The lists say which kind
 //! their cells are in. A refusal leaves every lent list, table and file as it was.
 
-use crate::calls::{Calls, DoorChange, Listing, Lists, Morning, Refusal, Reply, Stand};
+use crate::calls::{Calls, DoorChange, Listing, Lists, Morning, Query, Refusal, Reply, Stand};
 use crate::proved::Proved;
 
 /// How many corners, cells and doors an accepted plan has.
@@ -23,7 +23,7 @@ pub struct Read {
     pub numbers: usize,
 }
 
-/// How many rows stand in the table, and how many free lines were crossed.
+/// How many rows stand in the table, or are drawn, and how many free lines were crossed.
 #[derive(Clone, Copy, Debug, PartialEq, Eq)]
 pub struct Listed {
     pub rows: usize,
@@ -138,10 +138,18 @@ pub fn change(
     listed(Proved.change(lists, asked, table))
 }
 
+/// The drawing: where the limits of the listing's rows are from the stand, in whole
+/// millimetres. `DRAWN` numbers a row go into the offsets, from their beginning on: x and
+/// y of the right limit, then of the left one. It is refused where one of them is more
+/// than 16,777,216 mm away in x or in y.
+pub fn draw(lists: Lists<'_>, query: Query, offsets: &mut [f32]) -> Result<Listed, Refusal> {
+    listed(Proved.draw(lists, query, offsets))
+}
+
 #[cfg(test)]
 mod tests {
     use super::*;
-    use crate::calls::{Query, Reach, POLYGONS, ROW, TRIANGLES};
+    use crate::calls::{Reach, DRAWN, POLYGONS, ROW, TRIANGLES};
     use crate::examples::{self, plan_q, plan_q_as_one_cell, Expected};
     use crate::paper::WALL;
 
@@ -301,6 +309,28 @@ mod tests {
             assert_eq!(list(plan.lists(), listing, &mut table), expected);
             assert_eq!(table == [7; 16], expected.is_err(), "{ceiling:?}");
         }
+    }
+
+    /// From (6, 3) the four rows of plan Q go from corner 0 round to corner 0 again. With
+    /// corner 2 too far away nothing is drawn.
+    #[test]
+    fn a_drawing_has_the_limits_less_the_stand() {
+        let mut plan = plan_q();
+        let query = Query::without_reach(0, Stand::Point(6.0, 3.0));
+        let seen = Listed {
+            rows: 4,
+            crossings: 1,
+        };
+        let mut offsets = [7.0; DRAWN * 4 + 1];
+        assert_eq!(draw(plan.lists(), query, &mut offsets), Ok(seen));
+        let (rows, rest) = offsets.as_chunks::<DRAWN>();
+        let [a, b, c, d] = [[-6.0, -3.0], [4.0, -3.0], [4.0, 7.0], [-6.0, 7.0]];
+        assert_eq!(rows.as_flattened(), [a, b, b, c, c, d, d, a].as_flattened());
+        assert_eq!(rest, [7.0]);
+        let short = &mut offsets[..DRAWN * 4 - 1];
+        assert_eq!(draw(plan.lists(), query, short), Err(Refusal::Room));
+        plan.corners[5] = 3 + 16_777_217;
+        assert_eq!(draw(plan.lists(), query, &mut offsets), Err(Refusal::Far));
     }
 
     /// Offsets are told from points, whatever their corner; a stand that is

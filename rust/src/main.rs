@@ -1,5 +1,5 @@
 //! The commands: `compare SEED COUNT`, `self SEED COUNT`, `case LETTER`, `stack BYTES`, `bench`,
-//! `bench finding`.
+//! `bench finding`, `bench drawing`.
 
 use manopluea_compare::calls::Calls;
 use manopluea_compare::paper::Paper;
@@ -10,7 +10,7 @@ use std::process::ExitCode;
 
 const USAGE: &str =
     "usage: manopluea-compare compare SEED COUNT | self SEED COUNT | case a..l | stack BYTES | bench \
-     [finding]";
+     [finding | drawing]";
 
 fn main() -> ExitCode {
     let arguments: Vec<String> = std::env::args().skip(1).collect();
@@ -22,6 +22,7 @@ fn main() -> ExitCode {
         ["stack", bytes] => ask_on_stack(bytes),
         ["bench"] => bench_proved(bench::report),
         ["bench", "finding"] => bench_proved(bench::report_finding),
+        ["bench", "drawing"] => bench_proved(bench::report_drawing),
         _ => Err(USAGE.to_string()),
     };
     match done {

@@ -8,8 +8,9 @@
 //! overlap is asked of the part that they have in common, whose corners are fractions.
 //! Whether a line is in reach is asked of the one point of it that is nearest, wherever
 //! that is. A ceiling is held against the crossings of the whole listing, once it is
-//! made.
+//! made, and a drawing is made of its rows.
 
+mod drawing;
 mod file;
 mod morning;
 mod overlap;
@@ -20,6 +21,7 @@ mod runs;
 mod sight;
 mod stand;
 
+pub use drawing::{limits, Offset, MOST_OFFSET};
 pub use file::{decode, encode, take_record};
 pub use morning::{stand_of, MOST_STANDS};
 pub use plan::{cut_cells, Cell, Floor, Point, CELLS, COORDINATES, CORNERS, DOORS, SIDES, WALL};
@@ -30,7 +32,7 @@ pub use sight::{Direction, Line, Listed, Row, View, Walk};
 pub use stand::{is_within, millimetres, Place};
 
 use crate::calls::{
-    Calls, DoorChange, Listing, Lists, Morning, Query, Refusal, Reply, Stand, Values, ROW,
+    Calls, DoorChange, Listing, Lists, Morning, Query, Refusal, Reply, Stand, Values, DRAWN, ROW,
 };
 use morning::Answers;
 
@@ -79,6 +81,10 @@ impl Calls for Paper {
         change(lists, asked, table)
     }
 
+    fn draw(&self, lists: Lists<'_>, query: Query, offsets: &mut [f32]) -> Reply {
+        draw(lists, query, offsets)
+    }
+
     fn print(&self, input: &[u8]) -> Vec<u8> {
         print(input)
     }
@@ -117,6 +123,10 @@ pub fn list_stands(
 
 pub fn change(lists: Lists<'_>, asked: DoorChange<'_>, table: &mut [u16]) -> Reply {
     reply(change_checked(lists, asked, table))
+}
+
+pub fn draw(lists: Lists<'_>, query: Query, offsets: &mut [f32]) -> Reply {
+    reply(draw_checked(lists, query, offsets))
 }
 
 fn read_checked(
@@ -210,10 +220,25 @@ fn change_checked(
     Ok(hand_back(&View::new(&floor, query)?.list(), table))
 }
 
+fn draw_checked(lists: Lists<'_>, query: Query, offsets: &mut [f32]) -> Result<Values, Refusal> {
+    let floor = Floor::check(lists)?;
+    let view = View::new(&floor, query)?;
+    room_for(&floor, DRAWN, offsets.len())?;
+    let Listed { rows, crossings } = view.list();
+    let drawn = drawing::draw(&floor, view.stand(), &rows)?;
+    offsets[..DRAWN * drawn.len()].copy_from_slice(drawn.as_flattened());
+    Ok([rows.len() as u64, crossings, 0, 0, 0])
+}
+
 fn room_for_rows(floor: &Floor, table: &[u16]) -> Result<(), Refusal> {
+    room_for(floor, ROW, table.len())
+}
+
+/// Whether so much room is enough for rows of so many numbers.
+fn room_for(floor: &Floor, numbers: usize, room: usize) -> Result<(), Refusal> {
     // A row can be due for every corner, so the room asked for is fixed
     // before anything is listed.
-    if table.len() < ROW * floor.corners().len() {
+    if room < numbers * floor.corners().len() {
         return Err(Refusal::Room);
     }
     Ok(())

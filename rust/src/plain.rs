@@ -1,18 +1,20 @@
-//! The check, the finding, the listings and the door change once more, by the
+//! The check, the finding, the listings, the door change and the drawing once more, by the
 //! steps that the proved library takes, as one writes them in Rust without a
 //! proof in mind: 64 bits wide, and a pair of functions that call each other. Cells are
 //! compared by their sides, and only those whose boxes meet, from west to east; a stand is
 //! looked for by the sides of those cells alone whose boxes hold it. Where a
 //! reach is stated, the lines out of it are told before any is followed, which is
 //! faster the more crossings there are. Where there is a ceiling, a listing is given up
-//! as soon as it is passed. What they cost is what the benchmarks hold the proved
+//! as soon as it is passed. A drawing looks at each limit once, and lists into a table of
+//! its own. What they cost is what the benchmarks hold the proved
 //! library to.
 
 use crate::calls::{
-    DoorChange, Listing, Lists, Morning, Query, Reach, Refusal, Stand, POLYGONS, ROW, TRIANGLES,
+    DoorChange, Listing, Lists, Morning, Query, Reach, Refusal, Stand, DRAWN, POLYGONS, ROW,
+    TRIANGLES,
 };
 use crate::paper::{
-    stand_of, CELLS, COORDINATES, CORNERS, DOORS, MOST_STANDS, REACHES, SIDES, WALL,
+    stand_of, CELLS, COORDINATES, CORNERS, DOORS, MOST_OFFSET, MOST_STANDS, REACHES, SIDES, WALL,
 };
 use std::ops::Range;
 
@@ -242,6 +244,37 @@ pub fn change(
     }
     let lines = plan.lines(setting ^ 1 << asked.door);
     plan.list_up_to(None, &lines, view, table)
+}
+
+pub fn draw(lists: Lists<'_>, query: Query, offsets: &mut [f32]) -> Result<Counts, Refusal> {
+    let plan = check(lists)?;
+    plan.check_setting(query.setting)?;
+    let view = plan.find(query)?;
+    if offsets.len() < DRAWN * plan.corners.len() {
+        return Err(Refusal::Room);
+    }
+    let mut table = vec![0; ROW * plan.corners.len()];
+    let counts = plan.list_from(u64::MAX, &plan.lines(query.setting), view, &mut table);
+    let (rows, _) = table.as_chunks::<ROW>();
+    let rows = &rows[..counts.rows];
+    let offset = |corner: u16| {
+        let at = point(plan.corners[usize::from(corner)]);
+        [at[0] - view.q[0], at[1] - view.q[1]]
+    };
+    // What is a left limit is the right limit of some row too.
+    let is_far = |row: &[u16; ROW]| {
+        let [x, y] = offset(row[1]);
+        x.abs() > MOST_OFFSET || y.abs() > MOST_OFFSET
+    };
+    if rows.iter().any(is_far) {
+        return Err(Refusal::Far);
+    }
+    let (drawn, _) = offsets.as_chunks_mut::<DRAWN>();
+    for (row, drawn) in rows.iter().zip(drawn) {
+        let [right, left] = [offset(row[1]), offset(row[2])];
+        *drawn = [right[0], right[1], left[0], left[1]].map(|number| number as f32);
+    }
+    Ok(counts)
 }
 
 /// A reach in millimetres; 0 where it is unlimited.

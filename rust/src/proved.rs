@@ -12,7 +12,7 @@ mod c;
 
 pub use c::on_stack;
 
-use crate::calls::{Calls, DoorChange, Listing, Lists, Morning, Reply, Stand};
+use crate::calls::{Calls, DoorChange, Listing, Lists, Morning, Query, Reply, Stand};
 
 /// The proved library.
 pub struct Proved;
@@ -95,6 +95,10 @@ impl Calls for Proved {
         replied(|seven| c::change(lists, asked, table, seven))
     }
 
+    fn draw(&self, lists: Lists<'_>, query: Query, offsets: &mut [f32]) -> Reply {
+        replied(|seven| c::draw(lists, query, offsets, seven))
+    }
+
     fn print(&self, input: &[u8]) -> Vec<u8> {
         let mut text = vec![UNPRINTED; MOST_TEXT];
         let reply = replied(|seven| c::print(input, &mut text, seven));
@@ -128,6 +132,7 @@ mod tests {
             let (mut corners, mut cells, mut doors) = ([9; 8], [9; 12], [9; 1]);
             let mut table = [9; 16];
             let mut replies = [9; 3];
+            let mut offsets = [9.0; 16];
             let mut text = vec![9; MOST_TEXT];
             c::check(lists, &mut short);
             c::read(&file, &mut corners, &mut cells, &mut doors, &mut short);
@@ -163,6 +168,7 @@ mod tests {
                         shut: true,
                     };
                     c::change(lists, asked, &mut table, &mut short);
+                    c::draw(lists, listing.query, &mut offsets, &mut short);
                 }
             }
             c::print(&file, &mut text, &mut short);
@@ -171,6 +177,7 @@ mod tests {
             assert_eq!(bytes, vec![9; file.len()]);
             assert_eq!((corners, cells, doors), ([9; 8], [9; 12], [9; 1]));
             assert_eq!((table, replies), ([9; 16], [9; 3]));
+            assert_eq!(offsets, [9.0; 16]);
         }
     }
 

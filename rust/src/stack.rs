@@ -6,7 +6,9 @@
 //! that check a plan on the longest lists, which are refused. A stack that is too small
 //! ends the process.
 
-use crate::calls::{Calls, DoorChange, Listing, Morning, Plan, Query, Reach, Stand, POINT, ROW};
+use crate::calls::{
+    Calls, DoorChange, Listing, Morning, Plan, Query, Reach, Stand, DRAWN, POINT, ROW,
+};
 use crate::generate::{self, in_other_kind, query_record, spot_at, steps_between, Spot};
 use crate::paper::{self, Floor, Paper, Place, View, DOORS, MOST_STANDS, REACHES, WALL};
 use crate::proved::{on_stack, Proved};
@@ -130,6 +132,10 @@ fn ask_on(name: &str, plan: &Plan, inside: Spot, bytes: usize) -> Result<(), Str
                 let mut table = table();
                 let listing = Listing { query, ceiling };
                 (calls.list(lists, listing, &mut table), table)
+            })?;
+            same("draw", bytes, |calls| {
+                let mut offsets = vec![0.0; DRAWN * (plan.corners.len() / 2)];
+                (calls.draw(lists, query, &mut offsets), offsets)
             })?;
             // As many as there may be; one listing is as deep as many.
             let mut stands = [POINT, f64::NAN, f64::NAN].repeat(MOST_STANDS - 1);

@@ -3,25 +3,26 @@
 //! find every one of them.
 
 use manopluea_compare::calls::{
-    Calls, DoorChange, Listing, Lists, Morning, Plan, Query, Reach, Reply, Stand, POINT, POLYGONS,
-    ROW, TRIANGLES,
+    Calls, DoorChange, Listing, Lists, Morning, Plan, Query, Reach, Reply, Stand, DRAWN, POINT,
+    POLYGONS, ROW, TRIANGLES,
 };
 use manopluea_compare::compare::{compare, compare_program, Asked, Mismatch, Trial};
 use manopluea_compare::generate::in_other_kind;
 use manopluea_compare::paper::{
-    self, cut_cells, is_within, millimetres, Cell, Floor, Line, Paper, Place, Point, Row, View,
-    CELLS, CORNERS, DOORS, MOST_STANDS, REACHES, WALL,
+    self, cut_cells, is_within, millimetres, Cell, Floor, Line, Offset, Paper, Place, Point, Row,
+    View, CELLS, CORNERS, DOORS, MOST_OFFSET, MOST_STANDS, REACHES, WALL,
 };
 
 /// The enum of the faults, the list of all of them, those in the expansion, those in
-/// where a stand is found, those in the boxes that it is found by, and those in which
-/// cells overlap.
+/// where a stand is found, those in the boxes that it is found by, those in which cells
+/// overlap, and those in the drawing.
 macro_rules! faults {
     (
         expansion { $($slip:ident,)* }
         place { $($found:ident,)* }
         boxes { $($boxed:ident,)* }
         overlap { $($upon:ident,)* }
+        drawing { $($drawn:ident,)* }
         elsewhere { $($fault:ident,)* }
     ) => {
         #[derive(Clone, Copy, Debug, PartialEq, Eq)]
@@ -30,6 +31,7 @@ macro_rules! faults {
             $($found,)*
             $($boxed,)*
             $($upon,)*
+            $($drawn,)*
             $($fault,)*
         }
 
@@ -38,12 +40,14 @@ macro_rules! faults {
             $(Fault::$found,)*
             $(Fault::$boxed,)*
             $(Fault::$upon,)*
+            $(Fault::$drawn,)*
             $(Fault::$fault,)*
         ];
         const IN_EXPANSION: &[Fault] = &[$(Fault::$slip,)*];
         const IN_PLACE: &[Fault] = &[$(Fault::$found,)*];
         const IN_BOXES: &[Fault] = &[$(Fault::$boxed,)*];
         const IN_OVERLAP: &[Fault] = &[$(Fault::$upon,)*];
+        const IN_DRAWING: &[Fault] = &[$(Fault::$drawn,)*];
     };
 }
 
@@ -112,6 +116,43 @@ faults! {
         OverlapIsOf32Bits,
         FirstPairFoundIsNamed,
         HigherCellIsNamed,
+    }
+    drawing {
+        LeftLimitIsDrawnFirst,
+        YIsDrawnFirst,
+        StandIsDrawnFromTheCorner,
+        CornersAreDrawnAsTheyAre,
+        EndsOfTheLineAreDrawn,
+        RepeatsAreLeftOut,
+        ZeroIsMinusZero,
+        ZeroIsMinusZeroInY,
+        SinglesAreSubtracted,
+        RestOfOffsetsIsCleared,
+        PayloadsAreLost,
+        MinusZeroInTheRestIsLost,
+        RefusalClearsOffsets,
+        RoomOfOffsetsIsAskedForRowsOnly,
+        RoomOfOffsetsIsTwoNumbersACorner,
+        // What is too far. That only right limits are looked at is no fault: each row's
+        // left limit is the right limit of another.
+        FarIsExclusive,
+        FarOffsetIsRounded,
+        FittingOffsetIsDrawn,
+        FarIsForX,
+        FarIsForY,
+        FarIsAhead,
+        FarIsTheDistance,
+        FarIsTheSumOfBoth,
+        FarIsOfTheFirstRow,
+        FarIsOfAllCorners,
+        FarIsOfCornersInCells,
+        FarIsOfTheEndsOfLines,
+        FarIsOfRowsInReach,
+        FarComesBeforeRoom,
+        FarComesBeforeReach,
+        RowsBeforeAFarOneAreDrawn,
+        FarHasItsCorner,
+        CountsAreSaidOfAFarDrawing,
     }
     elsewhere {
         // In the order of the refusals.
@@ -711,6 +752,72 @@ impl Calls for Faulty {
         reply
     }
 
+    fn draw(&self, lists: Lists<'_>, query: Query, offsets: &mut [f32]) -> Reply {
+        let before = offsets.to_vec();
+        let mut reply = Paper.draw(lists, query, offsets);
+        let corners = lists.corners.len() / 2;
+        match self.0 {
+            RefusalClearsOffsets if reply.number != 0 => offsets.fill(0.0),
+            FarComesBeforeReach if reply.number == 15 => {
+                let unlimited = Query::without_reach(query.setting, query.stand);
+                let other = Paper.draw(lists, unlimited, &mut before.clone());
+                if other.number == 14 {
+                    return other;
+                }
+            }
+            // The others are of drawings that are not refused before.
+            slip if !IN_DRAWING.contains(&slip) || ![0, 11, 14].contains(&reply.number) => {}
+            RestOfOffsetsIsCleared if reply.number == 0 => {
+                offsets[DRAWN * reply.values[0] as usize..].fill(0.0);
+            }
+            PayloadsAreLost if reply.number == 0 => {
+                let numbers = offsets.iter_mut().filter(|n| n.is_nan());
+                numbers.for_each(|n| *n = f32::NAN);
+            }
+            MinusZeroInTheRestIsLost if reply.number == 0 => {
+                let zeros = offsets.iter_mut().filter(|n| **n == 0.0);
+                zeros.for_each(|n| *n = 0.0);
+            }
+            FarHasItsCorner if reply.number == 14 => {
+                let drawing = Drawing::of(lists, query);
+                let far = drawing
+                    .named()
+                    .find(|&corner| drawing.offset(corner).is_far());
+                reply.place = far.expect("it is refused for it").into();
+            }
+            CountsAreSaidOfAFarDrawing if reply.number == 14 => {
+                let Drawing {
+                    rows, crossings, ..
+                } = Drawing::of(lists, query);
+                reply.values[..2].copy_from_slice(&[rows.len() as u64, crossings]);
+            }
+            RowsBeforeAFarOneAreDrawn if reply.number == 14 => {
+                let drawing = Drawing::of(lists, query);
+                let drawn = drawing.rows.iter().take_while(|row| !drawing.is_far(row));
+                let numbers: Vec<f32> =
+                    drawn.flat_map(|row| drawing.numbers(row, self.0)).collect();
+                offsets[..numbers.len()].copy_from_slice(&numbers);
+            }
+            FarComesBeforeRoom if reply.number == 11 => {
+                let drawing = Drawing::of(lists, query);
+                if drawing.rows.iter().any(|row| drawing.is_far(row)) {
+                    return refused(14);
+                }
+            }
+            slip => {
+                let drawing = Drawing::of(lists, query);
+                let room = match slip {
+                    RoomOfOffsetsIsAskedForRowsOnly => DRAWN * drawing.rows.len(),
+                    RoomOfOffsetsIsTwoNumbersACorner => 2 * corners,
+                    _ => DRAWN * corners,
+                };
+                offsets.copy_from_slice(&before);
+                return drawing.hand_back(slip, room, offsets);
+            }
+        }
+        reply
+    }
+
     fn print(&self, input: &[u8]) -> Vec<u8> {
         let mut printed = paper::print(input);
         match self.0 {
@@ -727,6 +834,133 @@ impl Calls for Faulty {
             }
             _ => printed,
         }
+    }
+}
+
+/// What is drawn, of a query that is not refused before.
+struct Drawing {
+    floor: Floor,
+    q: Point,
+    rows: Vec<Row>,
+    crossings: u64,
+}
+
+impl Drawing {
+    fn of(lists: Lists<'_>, query: Query) -> Drawing {
+        let floor = Floor::check(lists).expect("it passed the check");
+        let view = View::new(&floor, query).expect("the stand was found");
+        let (q, listing) = (view.stand(), view.list());
+        let (rows, crossings) = (listing.rows, listing.crossings);
+        Drawing {
+            floor,
+            q,
+            rows,
+            crossings,
+        }
+    }
+
+    fn offset(&self, corner: u16) -> Offset {
+        Offset::new(self.q, self.floor.corner(corner))
+    }
+
+    /// The limits of all rows, in the order of the rows.
+    fn named(&self) -> impl Iterator<Item = u16> + '_ {
+        self.rows
+            .iter()
+            .flat_map(|&[_, right, left, _]| [right, left])
+    }
+
+    fn is_far(&self, &[_, right, left, _]: &Row) -> bool {
+        [right, left]
+            .iter()
+            .any(|&corner| self.offset(corner).is_far())
+    }
+
+    /// The corners that are looked at for being too far.
+    fn looked_at(&self, slip: Fault) -> Vec<u16> {
+        let all = 0..self.floor.corners().len() as u16;
+        let ends = |row: &Row| self.floor.ends(row[0]);
+        match slip {
+            FarIsOfTheFirstRow => self.named().take(2).collect(),
+            FarIsOfAllCorners => all.collect(),
+            FarIsOfCornersInCells => {
+                let cells = 0..self.floor.cell_count();
+                let faces = cells.flat_map(|cell| self.floor.faces(cell));
+                faces.map(|face| self.floor.ends(face)[0]).collect()
+            }
+            FarIsOfTheEndsOfLines | EndsOfTheLineAreDrawn => {
+                self.rows.iter().flat_map(ends).collect()
+            }
+            FarIsOfRowsInReach => {
+                let rows = self.rows.iter().filter(|row| row[3] == 0);
+                rows.flat_map(|&[_, right, left, _]| [right, left])
+                    .collect()
+            }
+            _ => self.named().collect(),
+        }
+    }
+
+    /// Whether an offset is taken for one that is too far.
+    fn is_taken_for_far(&self, offset: Offset, slip: Fault) -> bool {
+        let Offset { x, y } = offset;
+        let beyond = |number: i64| number > MOST_OFFSET;
+        match slip {
+            FarIsExclusive => beyond(x.abs() + 1) || beyond(y.abs() + 1),
+            FarOffsetIsRounded => false,
+            FittingOffsetIsDrawn => [x, y].iter().any(|&number| number as f32 as i64 != number),
+            FarIsForX => beyond(x.abs()),
+            FarIsForY => beyond(y.abs()),
+            FarIsAhead => beyond(x) || beyond(y),
+            FarIsTheDistance => x * x + y * y > MOST_OFFSET * MOST_OFFSET,
+            FarIsTheSumOfBoth => beyond(x.abs() + y.abs()),
+            _ => offset.is_far(),
+        }
+    }
+
+    /// The numbers of a row.
+    fn numbers(&self, &[face, right, left, _]: &Row, slip: Fault) -> [f32; DRAWN] {
+        let limits = match slip {
+            LeftLimitIsDrawnFirst => [left, right],
+            EndsOfTheLineAreDrawn => self.floor.ends(face),
+            _ => [right, left],
+        };
+        let [[a, b], [c, d]] = limits.map(|corner| {
+            let (at, q) = (self.floor.corner(corner), self.q);
+            let Offset { x, y } = self.offset(corner);
+            let minus_zero = |number: i64| if number == 0 { -0.0 } else { number as f32 };
+            match slip {
+                YIsDrawnFirst => [y, x].map(|number| number as f32),
+                StandIsDrawnFromTheCorner => [-x, -y].map(|number| number as f32),
+                CornersAreDrawnAsTheyAre => [at.x, at.y].map(|number| number as f32),
+                ZeroIsMinusZero => [minus_zero(x), y as f32],
+                ZeroIsMinusZeroInY => [x as f32, minus_zero(y)],
+                SinglesAreSubtracted => [at.x as f32 - q.x as f32, at.y as f32 - q.y as f32],
+                _ => [x, y].map(|number| number as f32),
+            }
+        });
+        [a, b, c, d]
+    }
+
+    /// Draws, with a slip, into offsets of which so many are asked for.
+    fn hand_back(&self, slip: Fault, room: usize, offsets: &mut [f32]) -> Reply {
+        if offsets.len() < room {
+            return refused(11);
+        }
+        let looked_at = self.looked_at(slip);
+        let mut looked_at = looked_at.iter().map(|&corner| self.offset(corner));
+        if looked_at.any(|offset| self.is_taken_for_far(offset, slip)) {
+            return refused(14);
+        }
+        let rows = self.rows.iter();
+        let mut numbers: Vec<f32> = rows.flat_map(|row| self.numbers(row, slip)).collect();
+        if slip == RepeatsAreLeftOut {
+            // A row's right limit is the left one of the row before.
+            let (rows, _) = numbers.as_chunks::<DRAWN>();
+            numbers = rows.iter().flat_map(|row| [row[0], row[1]]).collect();
+        }
+        let written = numbers.len().min(offsets.len());
+        offsets[..written].copy_from_slice(&numbers[..written]);
+        Reply::done([self.rows.len() as u64, self.crossings])
     }
 }
 
@@ -1763,6 +1997,11 @@ fn a_mismatch_is_made_small() {
         CeilingIsExclusive,
         CeilingIsForEachSide,
         CeilingIsForEachCell,
+        FarIsExclusive,
+        FittingOffsetIsDrawn,
+        FarIsOfAllCorners,
+        FarIsOfTheEndsOfLines,
+        ZeroIsMinusZero,
     ] {
         match mismatch(fault).trial {
             Trial::Lists(scene, _) => {

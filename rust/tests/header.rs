@@ -5,7 +5,7 @@ use manopluea_compare::calls::{Query, Refusal, Stand, POINT, POLYGONS, TRIANGLES
 use manopluea_compare::generate::{self, in_other_kind};
 use manopluea_compare::paper::{
     self, encode, Direction, Floor, Place, View, CELLS, COORDINATES, CORNERS, DOORS, MOST_INPUT,
-    MOST_STANDS, REACHES, SIDES, WALL,
+    MOST_OFFSET, MOST_STANDS, REACHES, SIDES, WALL,
 };
 use manopluea_compare::proved::{MOST_TEXT, REPLY};
 use manopluea_compare::stack::doorway;
@@ -49,6 +49,7 @@ fn the_limits() {
     assert_eq!(defined("REPLY"), REPLY as i64);
     assert_eq!(defined("LEAST_REACH"), *REACHES.start() as i64);
     assert_eq!(defined("MOST_REACH"), *REACHES.end() as i64);
+    assert_eq!(defined("MOST_OFFSET"), MOST_OFFSET);
 }
 
 /// No list could be longer, and only because its cells overlap is the plan refused.
@@ -97,6 +98,7 @@ fn the_reply_numbers() {
         Refusal::Room,
         Refusal::Change,
         Refusal::Rows,
+        Refusal::Far,
         Refusal::Reach,
         Refusal::Overlap(0),
         Refusal::Ceiling,

@@ -26,11 +26,12 @@ fn every_reply_number_comes_up_in_every_call_that_has_it() {
         assert_eq!(numbers(4), up_to(11, &[15, 17, 19]), "list");
         assert_eq!(numbers(5), up_to(7, &[11, 17]), "stands");
         assert_eq!(numbers(6), up_to(13, &[15, 17]), "change");
-        assert_eq!(numbers(7), up_to(10, &[17]), "print");
+        assert_eq!(numbers(7), up_to(11, &[14, 15, 17]), "draw");
+        assert_eq!(numbers(8), up_to(10, &[17]), "print");
     }
     // Any other kind is a fault of the frame, in every call that takes lists.
     for (call, &replies) in tally.replies[2].iter().enumerate() {
-        let expected: &[usize] = if call == 7 { &[1, 2] } else { &[1] };
+        let expected: &[usize] = if call == 8 { &[1, 2] } else { &[1] };
         assert_eq!(came_up(replies), expected, "call {call}");
     }
     assert!(tally.directions > 8_000 && tally.changes > 1_000 && tally.either > 2_000);
@@ -56,6 +57,13 @@ fn every_reply_number_comes_up_in_every_call_that_has_it() {
     let in_parts = [of.by_sides, of.by_cells, of.between, of.in_all];
     let mut ties = of_listings.iter().chain(&in_parts);
     assert!(ties.all(|&count| count > 20), "{of:?}");
+    let of = tally.drawings;
+    let just_there = [of.farthest, of.one_beyond, of.two_beyond, of.ends];
+    assert!(just_there.iter().all(|&count| count > 5), "{of:?}");
+    let by_parts = [of.by_x, of.by_y, of.out_of_reach, of.from_sides];
+    let others = [of.zeros, of.unnamed, of.without_room];
+    let mut some = by_parts.iter().chain(&others);
+    assert!(some.all(|&count| count > 50), "{of:?}");
 }
 
 /// At the first place of a morning, at those between, and at the last.

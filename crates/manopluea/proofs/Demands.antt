@@ -54,7 +54,7 @@ use Rattle.doors.proofs.PlanDemand3.{untouched-rows-stand-in-both, rows-on-the-
 use Rattle.manopluea.specs.Conditions.{inside-some, within-some, on-some-border, door-underfoot}
 use Rattle.manopluea.specs.Demands.{Demand-1, HoldsDirection, InReachOfStand, Says, Sighted, Demand-2, while-open, once-shut, RunByRun, Demand-3}
 use Rattle.manopluea.specs.Demands.Says.{wall-in-reach, out-of-reach}
-use Rattle.manopluea.proofs.Replies.{check-answers, read-answers, write-answers, find-answers, list-answers, change-answers, list-stands-answers, numbers-tell-refusals-apart}
+use Rattle.manopluea.proofs.Replies.{check-answers, read-answers, write-answers, find-answers, list-answers, draw-answers, change-answers, list-stands-answers, numbers-tell-refusals-apart}
 
 -- Every plan file, however damaged, every stand and every door setting gets an ending and one fixed reply. Each refusal has its own number and exact
 -- condition and writes nothing into lent memory.
@@ -66,6 +66,7 @@ demand-1 =
       write = write-answers;
       find = find-answers;
       list = list-answers;
+      draw = draw-answers;
       change = change-answers;
       list-stands = list-stands-answers;
       apart = numbers-tell-refusals-apart;

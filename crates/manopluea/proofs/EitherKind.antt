@@ -7,6 +7,7 @@ use Prim.Native.Nat.{ℕ, _*_, _%_}
 use lib.Dec.{eqb, ltb}
 use lib.ListN.{length, take, replicate}
 use lib.IntN.{ℤ}
+use lib.Ieee.{Float}
 use Rattle.limits.specs.Limits.{most-stands, triangles, polygons}
 use Rattle.limits.specs.declared.Refusal.the-variants.{Frame, Setting, Room}
 use Rattle.limits.specs.declared.Checked.{Checked}
@@ -25,6 +26,7 @@ use Rattle.sight.specs.declared.ceiling.Ceiling.{Ceiling}
 use Rattle.sight.specs.Ceiling.{up-to, listed-up-to}
 use Rattle.sight.specs.declared.view.View.{View}
 use Rattle.sight.specs.declared.list.Listed.{Listed}
+use Rattle.tablet.specs.Drawing.{drawn-from, drawn}
 use Rattle.doors.specs.Change.{changed-from, changed}
 use Rattle.setting.specs.Setting.{wrong-setting}
 use Rattle.grant.specs.Asked.{too-many, no-room, then-asked, asked}
@@ -53,6 +55,10 @@ module _ (k l : ℕ) (ts us : List ℕ) (cells : cells-of k ts ≡ cells-of l us
   unfolding listed-up-to
   same-listing-up-to cs ds a c table = ap (up-to c table) (same-listing cs ds a table)
 
+  same-drawing : (cs : List ℤ) (ds : List ℕ) (a : Query) (lent : List Float) → drawn k cs ts ds a lent ≡ drawn l cs us ds a lent
+  unfolding drawn
+  same-drawing cs ds a lent = ap₂ (λ (T : Cells) (v : View). drawn-from cs T ds (a .setting) (range (a .reach)) lent v) cells (same-view cs ds a)
+
   same-change : (cs : List ℤ) (ds : List ℕ) (a : Query) (given : List ℕ) (i : ℕ) (b : Bool) (table : List ℕ) → changed k cs ts ds a given i b table ≡ changed l cs us ds a given i b table
   unfolding changed
   same-change cs ds a given i b table = ap₂ (λ (T : Cells) (v : View). changed-from cs T ds (a .setting) (range (a .reach)) given i b table v) cells (same-view cs ds a)
@@ -74,6 +80,7 @@ pub record SameAnswers (ts us : List ℕ) : Type 0 where
   pub check : (cs : List ℤ) (ds : List ℕ) → checked triangles cs ts ds ≡ checked polygons cs us ds
   pub find : (cs : List ℤ) (ds : List ℕ) (w : ℕ) (s : Stand) → found triangles cs ts ds w s ≡ found polygons cs us ds w s
   pub list : (cs : List ℤ) (ds : List ℕ) (a : Query) (c : Ceiling) (table : List ℕ) → listed-up-to triangles cs ts ds a c table ≡ listed-up-to polygons cs us ds a c table
+  pub draw : (cs : List ℤ) (ds : List ℕ) (a : Query) (lent : List Float) → drawn triangles cs ts ds a lent ≡ drawn polygons cs us ds a lent
   pub change : (cs : List ℤ) (ds : List ℕ) (a : Query) (given : List ℕ) (i : ℕ) (b : Bool) (table : List ℕ) → changed triangles cs ts ds a given i b table ≡ changed polygons cs us ds a given i b table
   pub list-stands : (cs : List ℤ) (ds : List ℕ) (m : Morning) (stands : List Stand) (table replies : List ℕ) → listed-stands triangles cs ts ds m stands table replies ≡ listed-stands polygons cs us ds m stands table replies
 
@@ -92,6 +99,7 @@ triangles-are-answered-alike ts cells e =
       check = same-check triangles polygons ts us same alike;
       find = same-finding triangles polygons ts us same alike;
       list = same-listing-up-to triangles polygons ts us same alike;
+      draw = same-drawing triangles polygons ts us same alike;
       change = same-change triangles polygons ts us same alike;
       list-stands = same-morning triangles polygons ts us same alike;
     }

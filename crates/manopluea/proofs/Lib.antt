@@ -6,6 +6,8 @@ pub mod Demands
 pub mod WithinReach
 -- the listing keeps to its ceiling, which alters no list that is given (document 02, A13)
 pub mod Ceilings
+-- a drawing is the listing's rows, each number exact, and FAR exactly where a row names a corner too far (document 02, A2)
+pub mod Drawings
 -- several stands in one call are single calls, so demand 2 holds for each of them
 pub mod Together
 -- a promise said twice: of the answer, and in document 01's numbers
@@ -18,6 +20,8 @@ pub mod ChangesOfQ
 pub mod ReachOfQ
 -- a ceiling of crossings, computed on plan Q
 pub mod CeilingsOfQ
+-- drawings, computed: at 16,777,216 mm and beyond
+pub mod DrawingsComputed
 -- several stands in one call, computed on plan Q
 pub mod MorningOfQ
 -- wrong versions break the demand that document 01 names

@@ -7,6 +7,7 @@ use lib.Dec.{ltb, leb}
 use lib.ListN.{length, getD, take, drop}
 use lib.Seq.{sets}
 use lib.IntN.{ℤ}
+use lib.Ieee.{Float}
 use Rattle.plane.specs.Side.{Point}
 use Rattle.limits.specs.Limits.{most-stands, sized}
 use Rattle.cells.specs.Lists.{Cells, corner-count, cell-count, face-count}
@@ -35,7 +36,7 @@ use Rattle.stand.specs.declared.locate.Found.{Found}
 use Rattle.stand.specs.declared.locate.Found.the-variants as F
 use Rattle.reach.specs.Reach.{range, wrong-reach}
 use Rattle.reach.specs.declared.Reach.{Reach}
-use Rattle.sight.specs.Listing.{unless, view-of-place, view-of-spot, view-of-plan, viewed, refuse, no-room, listing-numbers, listing-row-count, listing-crossings, listed-from, listed}
+use Rattle.sight.specs.Listing.{unless, view-of-place, view-of-spot, view-of-plan, viewed, refuse, no-room, listing-rows, listing-numbers, listing-row-count, listing-crossings, listed-from, listed}
 use Rattle.sight.specs.Ceiling.{exceeds, up-to, listed-up-to}
 use Rattle.sight.specs.declared.ceiling.Ceiling.{Ceiling}
 use Rattle.sight.specs.Reply.{listed-reply}
@@ -44,11 +45,12 @@ use Rattle.sight.specs.declared.view.View.{View}
 use Rattle.sight.specs.declared.view.View.the-variants as O
 use Rattle.sight.specs.declared.list.Listed.{Listed}
 use Rattle.sight.specs.declared.list.Listed.the-variants as L
+use Rattle.tablet.specs.Drawing.{any-far, offsets-of, drawn-from, drawn}
 use Rattle.doors.specs.Change.{same-list, no-change, wished, underfoot, changed-from, changed}
 use Rattle.grant.specs.Asked.{too-many, no-room as no-room-for-all, then-asked, asked}
 use Rattle.morning.specs.declared.Morning.{Morning}
 use Rattle.morning.specs.Morning.{single, stands-from, listed-stands}
-use Rattle.manopluea.specs.Conditions.{Condition, when, lowest, CheckAnswers, ReadAnswers, WriteAnswers, FindAnswers, ListAnswers, ChangeAnswers, ListStandsAnswers, plan-conditions, plan-conditions-with, read-conditions, inside-some, within-some, on-some-border, place-conditions, stand-conditions, query-conditions-with, query-conditions, ceiling-conditions, door-underfoot, place-of, place-at, true-numbers}
+use Rattle.manopluea.specs.Conditions.{Condition, when, lowest, CheckAnswers, ReadAnswers, WriteAnswers, FindAnswers, ListAnswers, DrawAnswers, ChangeAnswers, ListStandsAnswers, plan-conditions, plan-conditions-with, read-conditions, inside-some, within-some, on-some-border, place-conditions, stand-conditions, query-conditions-with, query-conditions, ceiling-conditions, door-underfoot, place-of, place-at, true-numbers, true-far}
 
 -- what an answer tells in numbers
 abbrev pub told : Reply → ℕ × ℕ
@@ -231,26 +233,34 @@ module _ (f : View → ℕ × ℕ) (as-refused : (r : Refusal) → f (O.Refused 
       by-plan (λ k. f (view-of-plan cs (cells-of kind ts) ds a k)) as-refused kind cs ts ds _
       (refused-unless (wrong-setting (a .setting) (length ds)) Setting (view-of-spot cs (cells-of kind ts) ds (a .setting) (a .reach) (stood cs (a .stand))) more e)
 
--- a table that is too short, or a ceiling that the crossings exceed; a refusal keeps the table
+-- a lent list that is too short, then one more test; a refusal keeps the list
+abbrev short-or : {A : Type 0} → List A → Refusal → ℕ → ℕ → List A → Bool → Bool → Listed × List A
+short-or lent s n k new r t = refuse r Room lent (refuse t s lent (L.Rows n k, new))
+
+module _ {A : Type 0} (lent : List A) (s : Refusal) (n k : ℕ) (new : List A) where
+  told-by-two : (r t : Bool) → told (listed-reply (short-or lent s n k new r t .0)) ≡ lowest (when 11 r 0 ∷ when (number s) t (place s) ∷ [])
+  unfolding lowest
+  told-by-two true t = refl
+  told-by-two false true = refl
+  told-by-two false false = refl
+
+  kept-by-two : (r t : Bool) → (listed-reply (short-or lent s n k new r t .0) .number ≡ 0 → ⊥) → short-or lent s n k new r t .1 ≡ lent
+  kept-by-two true t h = refl
+  kept-by-two false true h = refl
+  kept-by-two false false h = absurd (h refl)
+
+-- a table that is too short, or a ceiling that the crossings exceed
 abbrev ceilinged : List ℕ → Ceiling → ℕ → ℕ → List ℕ → Bool → Listed × List ℕ
 ceilinged table c n k new r = up-to c table (refuse r Room table (L.Rows n k, new))
 
 told-by-ceiling : (table : List ℕ) (c : Ceiling) (n k : ℕ) (new : List ℕ) (r : Bool) → told (listed-reply (ceilinged table c n k new r .0)) ≡ lowest (when 11 r 0 ∷ when 19 (exceeds k c) 0 ∷ [])
 unfolding lowest
 told-by-ceiling table c n k new true = refl
-told-by-ceiling table c n k new false = by-excess (exceeds k c)
-  where
-    by-excess : (b : Bool) → told (listed-reply (refuse b NoCeiling table (L.Rows n k, new) .0)) ≡ lowest (when 19 b 0 ∷ [])
-    by-excess true = refl
-    by-excess false = refl
+told-by-ceiling table c n k new false = told-by-two table NoCeiling n k new false (exceeds k c)
 
 kept-by-ceiling : (table : List ℕ) (c : Ceiling) (n k : ℕ) (new : List ℕ) (r : Bool) → (listed-reply (ceilinged table c n k new r .0) .number ≡ 0 → ⊥) → ceilinged table c n k new r .1 ≡ table
 kept-by-ceiling table c n k new true h = refl
-kept-by-ceiling table c n k new false h = by-excess (exceeds k c) h
-  where
-    by-excess : (b : Bool) → (listed-reply (refuse b NoCeiling table (L.Rows n k, new) .0) .number ≡ 0 → ⊥) → refuse b NoCeiling table (L.Rows n k, new) .1 ≡ table
-    by-excess true h = refl
-    by-excess false h = absurd (h refl)
+kept-by-ceiling table c n k new false h = kept-by-two table NoCeiling n k new false (exceeds k c) h
 
 -- the listing of a stand on an accepted plan, under a right setting
 pub list-by-stand : (cs : List ℤ) (T : Cells) (ds : List ℕ) (w : ℕ) (reach : Reach) (c : Ceiling) (table : List ℕ) (spot : Spot) → told (listed-reply (up-to c table (listed-from cs T ds w (range reach) table (view-of-spot cs T ds w reach spot)) .0)) ≡ lowest (query-conditions cs T ds w reach spot ++ (when 11 (ltb (length table) (4 * corner-count cs)) 0 ∷ ceiling-conditions cs T ds w reach spot c))
@@ -288,6 +298,52 @@ list-answers kind cs ts ds a c table =
     alone : (v : View) → (listed-reply (from-view v .0) .number ≡ 0 → ⊥) → from-view v .1 ≡ table
     alone (O.From x y p) = let q : Point = record { x = x; y = y } in kept-by-ceiling table c (listing-row-count cs (cells-of kind ts) ds (a .setting) (range (a .reach)) q p) (listing-crossings cs (cells-of kind ts) ds (a .setting) (range (a .reach)) q p) (sets table 0 (listing-numbers cs (cells-of kind ts) ds (a .setting) (range (a .reach)) q p)) (no-room cs table)
     alone (O.Refused r) = λ h. refl
+
+-- ---- the drawing
+
+pub draw-answers : (kind : ℕ) (cs : List ℤ) (ts ds : List ℕ) (a : Query) (lent : List Float) → DrawAnswers kind cs ts ds a lent
+unfolding drawn lowest located no-room
+draw-answers kind cs ts ds a lent =
+    record {
+      of-the-paper = refl;
+      exact = by-view (λ v. told (listed-reply (from-view v .0))) (λ r. refl) kind cs ts ds a (conditions (stood cs (a .stand))) (by-stand (stood cs (a .stand)));
+      kept = alone (viewed kind cs ts ds a);
+    }
+  where
+    T : Cells
+    T = cells-of kind ts
+
+    w : ℕ
+    w = a .setting
+
+    R : ℕ
+    R = range (a .reach)
+
+    from-view : View → Listed × List Float
+    from-view v = drawn-from cs T ds w R lent v
+
+    last : Spot → List Condition
+    last spot = when 11 (ltb (length lent) (4 * corner-count cs)) 0 ∷ when 14 (true-far cs T ds w R spot) 0 ∷ []
+
+    conditions : Spot → List Condition
+    conditions spot = query-conditions cs T ds w (a .reach) spot ++ last spot
+
+    by-stand : (spot : Spot) → told (listed-reply (from-view (view-of-spot cs T ds w (a .reach) spot) .0)) ≡ lowest (conditions spot)
+    by-stand (S.At x y) =
+        let q : Point = record { x = x; y = y } in
+        let p = place-at cs T ds w q in
+        refused-unless (λ v. told (listed-reply (from-view v .0))) (λ r. refl) (wrong-reach (a .reach)) NoReach (view-of-place x y (located cs T ds w q)) (place-conditions false cs T ds w (S.At x y) ++ last (S.At x y))
+        (by-place (λ g. told (listed-reply (from-view (view-of-place x y g) .0))) (λ r. refl) (inside-some cs T q) (within-some cs T ds w q) (on-some-border cs T q) (first-inside cs T q) (side-at T (first-within cs T ds w q)) (last (S.At x y))
+        (told-by-two lent Far (listing-row-count cs T ds w R q p) (listing-crossings cs T ds w R q p) (sets lent 0 (offsets-of cs q (listing-rows cs T ds w R q p))) (ltb (length lent) (4 * corner-count cs)) (any-far cs q (listing-rows cs T ds w R q p))))
+    by-stand S.Refused = refl
+
+    alone : (v : View) → (listed-reply (from-view v .0) .number ≡ 0 → ⊥) → from-view v .1 ≡ lent
+    alone (O.From x y p) =
+        let q : Point = record { x = x; y = y } in
+        kept-by-two lent Far (listing-row-count cs T ds w R q p) (listing-crossings cs T ds w R q p) (sets lent 0 (offsets-of cs q (listing-rows cs T ds w R q p))) (no-room cs lent) (any-far cs q (listing-rows cs T ds w R q p))
+    alone (O.Refused r) = λ h. refl
+
+-- ---- the door change
 
 -- the four tests of a change from a stand that was found, and its rows
 abbrev tested : List ℕ → ℕ → ℕ → List ℕ → Bool → Bool → Bool → Bool → Listed × List ℕ

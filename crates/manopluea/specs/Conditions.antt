@@ -8,6 +8,7 @@ use Prim.Native.Nat.{ℕ, _*_}
 use lib.Dec.{ltb, leb}
 use lib.ListN.{length, getD}
 use lib.IntN.{ℤ}
+use lib.Ieee.{Float}
 use Rattle.plane.specs.Side.{Point}
 use Rattle.limits.specs.Limits.{most-stands, sized}
 use Rattle.cells.specs.Lists.{Cells, corner-count, cell-count, face-count}
@@ -30,11 +31,12 @@ use Rattle.reach.specs.declared.Reach.{Reach}
 use Rattle.sight.specs.declared.view.Query.{Query}
 use Rattle.sight.specs.declared.ceiling.Ceiling.{Ceiling}
 use Rattle.sight.specs.Ceiling.{exceeds}
-use Rattle.sight.specs.Listing.{listing-numbers, listing-crossings}
+use Rattle.sight.specs.Listing.{listing-rows, listing-numbers, listing-crossings}
+use Rattle.tablet.specs.Drawing.{any-far}
 use Rattle.doors.specs.Change.{same-list, no-change}
 use Rattle.grant.specs.Asked.{no-room}
 use Rattle.morning.specs.declared.Morning.{Morning}
-use Rattle.manopluea.specs.Calls.{check-replies, read-replies, write-replies, find-replies, list-replies, change-replies, list-stands-replies}
+use Rattle.manopluea.specs.Calls.{check-replies, read-replies, write-replies, find-replies, list-replies, draw-replies, change-replies, list-stands-replies}
 
 pub record Condition : Type 0 where
   pub number : ℕ
@@ -154,7 +156,7 @@ query-conditions-with on-its-door cs T ds w reach spot =
 abbrev pub query-conditions : List ℤ → Cells → List ℕ → ℕ → Reach → Spot → List Condition
 query-conditions = query-conditions-with false
 
--- a bit at or above the door count; the stand and the reach; a table shorter than 4·corners numbers
+-- a bit at or above the door count; the stand and the reach; a table, or a list to draw into, shorter than 4·corners numbers
 abbrev pub list-conditions-with : Bool → ℕ → List ℤ → List ℕ → List ℕ → Query → ℕ → List Condition
 list-conditions-with on-its-door kind cs ts ds a room =
     plan-conditions kind cs ts ds
@@ -190,6 +192,22 @@ list-conditions kind cs ts ds a c room =
 abbrev pub ListAnswers : ℕ → List ℤ → List ℕ → List ℕ → Query → Ceiling → List ℕ → Type 0
 ListAnswers kind cs ts ds a c table =
     Answers (1 ∷ 2 ∷ 3 ∷ 4 ∷ 5 ∷ 6 ∷ 17 ∷ 7 ∷ 8 ∷ 15 ∷ 9 ∷ 10 ∷ 11 ∷ 19 ∷ []) (list-conditions kind cs ts ds a c (length table)) (list-replies kind cs ts ds a c table .0) table (list-replies kind cs ts ds a c table .1)
+
+-- 14: some corner that a row of the true list names is too far (document 02, A2)
+abbrev pub true-far : List ℤ → Cells → List ℕ → ℕ → ℕ → Spot → Bool
+true-far cs T ds w R (At x y) =
+    any-far cs (record { x = x; y = y }) (listing-rows cs T ds w R (record { x = x; y = y }) (place-at cs T ds w (record { x = x; y = y })))
+true-far cs T ds w R Refused = false
+
+-- as the listing's, with room in the lent list; and last a corner too far
+abbrev pub draw-conditions : ℕ → List ℤ → List ℕ → List ℕ → Query → ℕ → List Condition
+draw-conditions kind cs ts ds a room =
+    list-conditions-with false kind cs ts ds a room
+    ++ (when 14 (true-far cs (cells-of kind ts) ds (a .setting) (range (a .reach)) (stood cs (a .stand))) 0 ∷ [])
+
+abbrev pub DrawAnswers : ℕ → List ℤ → List ℕ → List ℕ → Query → List Float → Type 0
+DrawAnswers kind cs ts ds a lent =
+    Answers (1 ∷ 2 ∷ 3 ∷ 4 ∷ 5 ∷ 6 ∷ 17 ∷ 7 ∷ 8 ∷ 15 ∷ 9 ∷ 10 ∷ 11 ∷ 14 ∷ []) (draw-conditions kind cs ts ds a (length lent)) (draw-replies kind cs ts ds a lent .0) lent (draw-replies kind cs ts ds a lent .1)
 
 -- the stand is on a side, and the door is there and its line holds the stand strictly within (document 02, A4)
 abbrev pub door-underfoot : List ℤ → Cells → List ℕ → ℕ → ℕ → Spot → Bool

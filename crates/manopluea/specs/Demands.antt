@@ -6,6 +6,7 @@ use mathlib.Core.Path.{_≡_}
 use Prim.Native.Nat.{ℕ, _*_, _<_}
 use lib.ListN.{getD, take, drop}
 use lib.IntN.{ℤ}
+use lib.Ieee.{Float}
 use Rattle.plane.specs.Side.{Point}
 use Rattle.plane.specs.Cone.{Meets, Direction}
 use Rattle.cells.specs.Lists.{Cells, corner-count, next, start, back}
@@ -34,7 +35,7 @@ use Rattle.runs.specs.Door.{on-door, untouched, those}
 use Rattle.runs.specs.Shutting.{runs, door-row}
 use Rattle.doors.specs.Change.{no-change, wished, wished-for}
 use Rattle.morning.specs.declared.Morning.{Morning}
-use Rattle.manopluea.specs.Conditions.{door-underfoot, CheckAnswers, ReadAnswers, WriteAnswers, FindAnswers, ListAnswers, ChangeAnswers, ListStandsAnswers}
+use Rattle.manopluea.specs.Conditions.{door-underfoot, CheckAnswers, ReadAnswers, WriteAnswers, FindAnswers, ListAnswers, DrawAnswers, ChangeAnswers, ListStandsAnswers}
 
 -- ---- demand 1
 
@@ -44,6 +45,7 @@ pub record Demand-1 : Type 0 where
   pub write : (kind : ℕ) (cs : List ℤ) (ts ds file : List ℕ) → WriteAnswers kind cs ts ds file
   pub find : (kind : ℕ) (cs : List ℤ) (ts ds : List ℕ) (w : ℕ) (s : Stand) → FindAnswers kind cs ts ds w s
   pub list : (kind : ℕ) (cs : List ℤ) (ts ds : List ℕ) (a : Query) (c : Ceiling) (table : List ℕ) → ListAnswers kind cs ts ds a c table
+  pub draw : (kind : ℕ) (cs : List ℤ) (ts ds : List ℕ) (a : Query) (lent : List Float) → DrawAnswers kind cs ts ds a lent
   pub change : (kind : ℕ) (cs : List ℤ) (ts ds : List ℕ) (a : Query) (given : List ℕ) (i : ℕ) (b : Bool) (table : List ℕ) → ChangeAnswers kind cs ts ds a given i b table
   pub list-stands : (kind : ℕ) (cs : List ℤ) (ts ds : List ℕ) (m : Morning) (stands : List Stand) (table replies : List ℕ) → ListStandsAnswers kind cs ts ds m stands table replies
   -- different refusals have different numbers, or the same number at different places

@@ -10,6 +10,8 @@ pub mod Longer
 pub mod Unlimited
 -- what a ceiling of crossings does to a listing
 pub mod Ceilings
+-- what a drawing is of the listing
+pub mod Drawings
 -- several stands in one call are single calls, one after another
 pub mod Together
 -- the twelve measured examples

@@ -1,21 +1,21 @@
 -- A double is accepted as z exactly when it is z and z is within the limits. What is accepted is the double of z, or minus zero; and the double
 -- of each whole number within the limits is accepted as that number.
-use mathlib.Core.Path.{_≡_, refl, sym, ap, _∙_}
-use mathlib.Core.Bool.{Bool, true, false, _&&_}
+use mathlib.Core.Path.{_≡_, refl, sym, ap, _∙_, subst}
+use mathlib.Core.Bool.{Bool, true, false, _&&_, true≢false}
 use mathlib.Core.Logic.{_⊎_, inl, inr}
-use Prim.Native.Nat.{ℕ, zero, suc, _*_, _≤_, _<_}
+use Prim.Native.Nat.{ℕ, zero, suc, _*_, _^_, _≤_, _<_}
 use native.Mathlib.Nat.{mul-one, zero-mul, mul-pos, mul-le-mul-right, zero-lt-suc}
 use native.Mathlib.Omega.{arith}
 use lib.Dec.{T, leb}
 use lib.IntN.{ℤ, pos, negsuc, negℤ, natAbs, _*ℤ_, pos-ne-negsuc}
-use lib.Ieee.{Float, nan, inf, fin, binary64, up, down, fits, ofInt}
+use lib.Ieee.{Float, nan, inf, fin, Format, binary64, prec, up, down, fits, ofInt}
 use lib.Ieee.Back.{round-whole, whole-unique}
 use lib.Ieee.Exact.{HasValue}
 use lib.Ieee.Fits.{down-pos, ofInt-fits}
 use borrow.Author.Tests.{leb-true, le-leb}
 use Rattle.exact.specs.Within.{Within}
 use Rattle.plane.specs.Side.{limit}
-use Rattle.number.specs.Whole.{is-whole, size, signed, accepted, whole, Is}
+use Rattle.number.specs.Whole.{is-whole, size, signed, accepted, whole, Is, minus-zero}
 use Rattle.number.specs.declared.Millimetres.the-variants.{Whole}
 use Rattle.number.proofs.Size.{whole-is-its-size, size-within, size-is, is-whole-number}
 
@@ -109,27 +109,32 @@ exact-and-within-is-accepted (fin s m e) {z} h w =
       sign-of-multiple s (m * up e) (down e) z (down-pos e) h,
     )
 
--- ---- the double of a whole number
+-- ---- the float of a whole number
 
 has-value-is : (x : Float) (s : Bool) (n : ℕ) → HasValue x s n 1 → Is x (signed s n)
 has-value-is nan s n v = v
 has-value-is (inf t) s n v = v
 has-value-is (fin t m e) s n v = rw (v .0, sym (mul-one (m * up e)) ∙ v .1) (signed-times s n (down e))
 
-double-is : (z : ℤ) → Within limit z → Is (ofInt binary64 z) z
-unfolding ofInt
-double-is (pos n) w =
-    let h : n ≤ limit = w .size in
-    has-value-is (ofInt binary64 (pos n)) false n (round-whole binary64 false n (omega arith))
-double-is (negsuc n) w =
-    let h : suc n ≤ limit = w .size in
-    has-value-is (ofInt binary64 (negsuc n)) true (suc n) (round-whole binary64 true (suc n) (omega arith))
+-- of either precision, up to 2^24 or 2^53
+module _ (f : Format) where
+  pub float-is : (z : ℤ) → Within (2 ^ prec f) z → Is (ofInt f z) z
+  unfolding ofInt
+  float-is (pos n) w = has-value-is (ofInt f (pos n)) false n (round-whole f false n (w .size))
+  float-is (negsuc n) w = has-value-is (ofInt f (negsuc n)) true (suc n) (round-whole f true (suc n) (w .size))
+
+  -- zero is plus zero
+  pub float-is-no-minus-zero : (z : ℤ) → Within (2 ^ prec f) z → ofInt f z ≡ minus-zero → ⊥
+  unfolding ofInt
+  float-is-no-minus-zero (pos n) w e = true≢false (subst (λ (x : Float). HasValue x false n 1) e (round-whole f false n (w .size)) .0)
+  float-is-no-minus-zero (negsuc n) w e =
+      let none : 0 ≡ suc n * 1 = subst (λ (x : Float). HasValue x true (suc n) 1) e (round-whole f true (suc n) (w .size)) .1 in
+      absurd (omega arith)
 
 pub double-of-whole-number-is-accepted : (z : ℤ) → Within limit z → whole (ofInt binary64 z) ≡ Whole z
-double-of-whole-number-is-accepted z w = exact-and-within-is-accepted (ofInt binary64 z) (double-is z w) w
-
-abbrev pub minus-zero : Float
-minus-zero = fin true 0 (pos 0)
+double-of-whole-number-is-accepted z w =
+    let h : natAbs z ≤ limit = w .size in
+    exact-and-within-is-accepted (ofInt binary64 z) (float-is binary64 z (record { size = omega arith })) w
 
 by-sign : (s : Bool) (m : ℕ) (e : ℤ) (n : ℕ) → T (fits binary64 (fin s m e)) → n ≤ limit → HasValue (fin s m e) s n 1
     → (fin s m e ≡ ofInt binary64 (signed s n)) ⊎ ((fin s m e ≡ minus-zero) × (signed s n ≡ pos 0))

@@ -53,8 +53,11 @@ unfoldable pub whole : Float → Millimetres
 unfolding is-finite is-whole is-within integer
 whole x = accepted (is-finite x && is-whole x && is-within x) (integer x)
 
--- the double is exactly the whole number z: ±m·2^e = z, both sides times down e
+-- the float is exactly the whole number z: ±m·2^e = z, both sides times down e
 abbrev pub Is : Float → ℤ → Type 0
 Is nan z = ⊥
 Is (inf s) z = ⊥
 Is (fin s m e) z = signed s (m * up e) ≡ z *ℤ pos (down e)
+
+abbrev pub minus-zero : Float
+minus-zero = fin true 0 (pos 0)

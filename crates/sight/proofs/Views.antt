@@ -22,11 +22,10 @@ use Rattle.limits.specs.declared.Refusal.the-variants as No
 use Rattle.limits.specs.declared.Checked.{Checked}
 use Rattle.limits.specs.declared.Checked.the-variants as C
 use Rattle.cells.proofs.Accepted.{accepted-is-sound, accepted-doors}
-use Rattle.cells.proofs.Plans.{counts}
 use Rattle.setting.proofs.Settings.{wrong-for-the-plan}
 use Rattle.stand.specs.Spot.{stood}
 use Rattle.stand.specs.Find.{located}
-use Rattle.limits.specs.Limits.{most-corners, most-reach}
+use Rattle.limits.specs.Limits.{most-reach}
 use Rattle.reach.specs.Reach.{range, wrong-reach}
 use Rattle.reach.specs.declared.Reach.{Reach}
 use Rattle.reach.proofs.Reaching.{right-reach}
@@ -230,14 +229,12 @@ module _ (k : ℕ) (cs : List ℤ) (ts ds : List ℕ) (a : Query) (table : List 
       by-view (O.From x y p) h e = by-room-there x y p h (no-room cs table) refl e
       by-view (O.Refused r) h e = absurd (rows-are-no-refusal e refl)
 
-  -- a table with room for every plan: what the listing refuses, the view did
-  pub refused-by-the-view : {r : Refusal} → 4 * most-corners ≤ length table → listed k cs ts ds a table .0 ≡ L.Refused r → viewed k cs ts ds a ≡ O.Refused r
+  -- where the table has room, what the listing refuses the view did
+  pub refused-by-the-view : {r : Refusal} → ((x y : ℤ) (p : Footing) → viewed k cs ts ds a ≡ O.From x y p → no-room cs table ≡ false) → listed k cs ts ds a table .0 ≡ L.Refused r → viewed k cs ts ds a ≡ O.Refused r
   unfolding listed
-  refused-by-the-view {r} long e = by-view (viewed k cs ts ds a) refl e
+  refused-by-the-view {r} room e = by-view (viewed k cs ts ds a) refl e
     where
       by-view : (v : View) → viewed k cs ts ds a ≡ v → listed-from cs (cells-of k ts) ds (a .setting) (range (a .reach)) table v .0 ≡ L.Refused r → viewed k cs ts ds a ≡ O.Refused r
       by-view (O.From x y p) h e =
-          let few = counts _ _ _ (view-says k cs ts ds a h .sound .in-size) .corners-at-most in
-          let room = is-long cs table (omega (arith, few, long)) in
-          absurd (rows-are-no-refusal refl (sym (ap (λ (b : Bool). refuse b No.Room table (rows-from cs (cells-of k ts) ds (a .setting) (range (a .reach)) table (record { x = x; y = y }) p) .0) room) ∙ e))
+          absurd (rows-are-no-refusal refl (sym (ap (λ (b : Bool). refuse b No.Room table (rows-from cs (cells-of k ts) ds (a .setting) (range (a .reach)) table (record { x = x; y = y }) p) .0) (room x y p h)) ∙ e))
       by-view (O.Refused s) h e = let same : s ≡ r = cc in h ∙ ap O.Refused same

@@ -4,3 +4,5 @@ pub mod Fars
 pub mod Rows
 -- what a drawing replies, by the listing's answer
 pub mod Drawn
+-- each number is exactly the difference, and where it stands
+pub mod Numbers

@@ -34,14 +34,14 @@ fn is_row_far(corners: &[i32], table: &[u16], q: [i64; 2], i: usize) -> bool
     is_far(corners, left, q)
 }
 
-// Does one of the first n rows?
-fn is_any_far(corners: &[i32], table: &[u16], q: [i64; 2], n: usize) -> bool
+// Does any of so many rows, from the first on?
+fn is_any_far(corners: &[i32], table: &[u16], q: [i64; 2], rows: usize) -> bool
     requires { ⌜ CornersNear (now corners) × Near (point q) ⌝ }
-    requires { ⌜ (4 * n ≤ length (now table)) × NameCorners (now corners) (now table) n ⌝ }
-    ensures { λ r. ⌜ r ≡ any-far (now (corners .entry)) (point q) (rows-in (now (table .entry)) 0 n) ⌝ }
+    requires { ⌜ (4 * rows ≤ length (now table)) × NameCorners (now corners) (now table) rows ⌝ }
+    ensures { λ r. ⌜ r ≡ any-far (now (corners .entry)) (point q) (rows-in (now (table .entry)) 0 rows) ⌝ }
 {
     let mut i = 0;
-    while i < n {
+    while i < rows {
         if is_row_far(corners, table, q, i) {
             return true;
         }

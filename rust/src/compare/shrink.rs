@@ -80,6 +80,9 @@ fn simpler_asked(asked: &Asked) -> Vec<Asked> {
             }
             simpler
         }
+        &Asked::Draw { offsets } => simpler_rooms([offsets])
+            .map(|[offsets]| Asked::Draw { offsets })
+            .collect(),
         &Asked::EitherKind {
             shut,
             given,

@@ -1,10 +1,12 @@
 //! One trial: something asked of both implementors, and what must hold of
 //! their answers.
 
-use super::{Call, Ceilings, Tally};
-use crate::calls::{Calls, DoorChange, Listing, Morning, Plan, Query, Reach, Refusal, Reply, ROW};
+use super::{Call, Ceilings, Drawings, Tally};
+use crate::calls::{
+    Calls, DoorChange, Listing, Morning, Plan, Query, Reach, Refusal, Reply, DRAWN, ROW,
+};
 use crate::generate::{in_other_kind, Ceiling, Given, Room, Scene};
-use crate::paper::{self, Direction, Floor, Listed, Place, Row, View};
+use crate::paper::{self, Direction, Floor, Listed, Offset, Place, Row, View, MOST_OFFSET};
 use std::fmt::Debug;
 
 /// What is asked about a scene.
@@ -31,6 +33,11 @@ pub enum Asked {
         shut: bool,
         given: Given,
         table: Room,
+    },
+    /// The drawing of what the scene's own stand sees: of the listing's rows, or refused
+    /// where a limit of them is too far.
+    Draw {
+        offsets: Room,
     },
     /// What is written and read again is what was written.
     RoundTrip,
@@ -152,6 +159,12 @@ fn run_scene(scene: &Scene, asked: &Asked, both: Both<'_>, tally: &mut Tally) ->
             tally.count(Call::Change, lists.kind, reply.number);
             tally.reaches.stated += u64::from(scene.reach.is_stated());
         }
+        &Asked::Draw { offsets } => {
+            let left = both.ask(|calls| draw(calls, scene, offsets))?;
+            tally.count(Call::Draw, lists.kind, left.0.number);
+            tally.reaches.stated += u64::from(scene.reach.is_stated());
+            drawn(scene, left, offsets, both, tally)?;
+        }
         Asked::RoundTrip => round_trip(&scene.plan, both)?,
         &Asked::EitherKind {
             shut,
@@ -191,6 +204,19 @@ fn lent<T>(length: usize, number: impl Fn(u32) -> T) -> Vec<T> {
 
 fn lent_words(length: usize) -> Vec<u16> {
     lent(length, |number| (number >> 16) as u16)
+}
+
+/// The bits of single-precision numbers of every kind: minus zero, infinities, what is no
+/// number with a payload, quiet or not, what is next to zero, and any other.
+fn lent_singles(length: usize) -> Vec<u32> {
+    lent(length, |number| match number % 8 {
+        0 => 1 << 31,
+        1 => 0x7f80_0000 | number & 1 << 31,
+        2 => 0x7f80_0001 | number & 0x803f_ffff,
+        3 => 0x7fc0_0000 | number & 0x803f_ffff,
+        4 => number & 0x807f_ffff,
+        _ => number,
+    })
 }
 
 // Each call below is made with lent memory of a length, and gives back its
@@ -269,6 +295,19 @@ fn change(
         shut,
     };
     (calls.change(scene.plan.lists(), asked, &mut table), table)
+}
+
+/// The offsets as bits: what is no number equals nothing.
+fn draw(calls: &dyn Calls, scene: &Scene, room: Room) -> (Reply, Vec<u32>) {
+    let lent = lent_singles(room.length(offsets_asked(scene)));
+    let mut offsets: Vec<f32> = lent.into_iter().map(f32::from_bits).collect();
+    let reply = calls.draw(scene.plan.lists(), scene.query(), &mut offsets);
+    (reply, offsets.into_iter().map(f32::to_bits).collect())
+}
+
+/// The length of the offsets that a drawing asks for.
+fn offsets_asked(scene: &Scene) -> usize {
+    DRAWN * (scene.plan.corners.len() / 2)
 }
 
 /// The length of the table a listing asks for.
@@ -378,6 +417,84 @@ fn count_exceeding(scene: &Scene, most: u64, has_room: bool, ceilings: &mut Ceil
     Ok(())
 }
 
+/// What a drawing leaves is the listing's reply with the offsets of its rows' limits; or its
+/// refusal, or that of a limit that is too far, and the offsets as they were lent.
+fn drawn(
+    scene: &Scene,
+    left: (Reply, Vec<u32>),
+    room: Room,
+    both: Both<'_>,
+    tally: &mut Tally,
+) -> Outcome {
+    let listing = scene.query().without_ceiling();
+    let (reply, table) = both.ask(|calls| list(calls, scene, listing, room))?;
+    let mut offsets = lent_singles(room.length(offsets_asked(scene)));
+    let refused = reply.number;
+    if refused == 0 || refused == Refusal::Room.reply().number {
+        let floor = Floor::check(scene.plan.lists()).map_err(wrongly_listed)?;
+        let view = View::new(&floor, scene.query()).map_err(wrongly_listed)?;
+        count_drawing(&floor, &view, refused == 0, &mut tally.drawings);
+        let q = view.stand();
+        let rows = listed_of((reply, table)).map_or(Vec::new(), |listed| listed.rows);
+        let limits = rows.iter().flat_map(|&row| paper::limits(&floor, q, row));
+        let limits: Vec<Offset> = limits.collect();
+        if limits.iter().any(|limit| limit.is_far()) {
+            return same(left, (Refusal::Far.reply(), offsets)).map(drop);
+        }
+        let singles = limits.iter().flat_map(|limit| [limit.x, limit.y]);
+        let bits: Vec<u32> = singles.map(single_bits).collect();
+        put(&mut offsets, &bits);
+    }
+    same(left, (reply, offsets)).map(drop)
+}
+
+/// The bits of a whole number as one of single precision, put together by hand: a sign,
+/// how many bits it has, and those after the first.
+fn single_bits(number: i64) -> u32 {
+    let size = number.unsigned_abs();
+    let Some(last) = size.checked_ilog2() else {
+        return 0;
+    };
+    let after_first = (size << 24 >> (last + 1)) as u32 & 0x7f_ffff;
+    u32::from(number < 0) << 31 | (127 + last) << 23 | after_first
+}
+
+/// Counts a drawing by how far its rows' limits are, and by what else could be taken for
+/// that.
+fn count_drawing(floor: &Floor, view: &View<'_>, has_room: bool, drawings: &mut Drawings) {
+    let (rows, q) = (view.list().rows, view.stand());
+    let far = |offset: &Offset| offset.x.abs().max(offset.y.abs());
+    let of_rows = |is_meant: fn(&&Row) -> bool| -> Vec<Offset> {
+        let rows = rows.iter().filter(is_meant);
+        rows.flat_map(|&row| paper::limits(floor, q, row)).collect()
+    };
+    let limits = of_rows(|_| true);
+    let farthest = limits.iter().map(far).max().unwrap_or(0);
+    let is_far = |offset: Offset| offset.is_far();
+    if farthest > MOST_OFFSET && !has_room {
+        drawings.without_room += 1;
+    } else if farthest > MOST_OFFSET {
+        drawings.one_beyond += u64::from(farthest == MOST_OFFSET + 1);
+        drawings.two_beyond += u64::from(farthest == MOST_OFFSET + 2);
+        let in_x = limits.iter().any(|&limit| is_far(Offset { y: 0, ..limit }));
+        let in_y = limits.iter().any(|&limit| is_far(Offset { x: 0, ..limit }));
+        drawings.by_x += u64::from(!in_y);
+        drawings.by_y += u64::from(!in_x);
+        let in_reach = of_rows(|row| row[3] == 0);
+        drawings.out_of_reach += u64::from(!in_reach.into_iter().any(is_far));
+        drawings.from_sides += u64::from(is_on_side(view));
+    } else if has_room {
+        let has_zero = |limit: &Offset| limit.x == 0 || limit.y == 0;
+        drawings.zeros += u64::from(limits.iter().any(has_zero));
+        drawings.farthest += u64::from(farthest == MOST_OFFSET);
+        let mut corners = floor.corners().iter();
+        drawings.unnamed += u64::from(corners.any(|&corner| is_far(Offset::new(q, corner))));
+        let mut ends = rows.iter().flat_map(|row| floor.ends(row[0]));
+        let end_is_far = |end: u16| is_far(Offset::new(q, floor.corner(end)));
+        drawings.ends += u64::from(ends.any(end_is_far));
+    }
+}
+
 /// What single calls give for a morning, stand by stand: their rows one after
 /// another, their replies and counts, and the sums.
 fn single_calls(calls: &dyn Calls, scene: &Scene, morning: Morning, room: [Room; 2]) -> Left {
@@ -437,8 +554,8 @@ fn round_trip(plan: &Plan, both: Both<'_>) -> Outcome {
 }
 
 /// What a call on a plan of triangles leaves is the same in either kind: for
-/// the check, finding, the listing, a morning and the door change. One of the
-/// implementors is asked in each.
+/// the check, finding, the listing, a morning, the door change and a drawing. One of
+/// the implementors is asked in each.
 fn either_kind(
     scene: &Scene,
     shut: bool,
@@ -464,6 +581,7 @@ fn either_kind(
             list(calls, scene, listing, room),
             list_stands(calls, scene, morning, [room; 2]),
             change(calls, scene, &given, shut, room),
+            draw(calls, scene, room),
         )
     };
     same(ask(both.left, scene), ask(both.right, other))?;

@@ -37,6 +37,15 @@ impl OnLine {
             door: None,
         }
     }
+
+    /// The same after all spots are mapped.
+    pub fn mapped(self, map: impl Fn(Spot) -> Spot) -> OnLine {
+        OnLine {
+            at: map(self.at),
+            ends: self.ends.map(map),
+            ..self
+        }
+    }
 }
 
 impl Lines {

@@ -206,6 +206,35 @@ pub fn change(lists: Lists<'_>, asked: DoorChange<'_>, table: &mut [u16], reply:
     }
 }
 
+pub fn draw(lists: Lists<'_>, query: Query, offsets: &mut [f32], reply: &mut [u64]) {
+    let Query {
+        setting,
+        stand,
+        reach,
+    } = query;
+    match stand {
+        Stand::Point(x, y) => call!(manopluea_draw_point(
+            lists: Lists,
+            setting: u64,
+            x: f64,
+            y: f64,
+            reach: Reach,
+            offsets: &mut [f32],
+            reply: &mut [u64],
+        )),
+        Stand::Offset(corner, dx, dy) => call!(manopluea_draw_offset(
+            lists: Lists,
+            setting: u64,
+            corner: u16,
+            dx: f64,
+            dy: f64,
+            reach: Reach,
+            offsets: &mut [f32],
+            reply: &mut [u64],
+        )),
+    }
+}
+
 pub fn print(input: &[u8], text: &mut [u8], reply: &mut [u64]) {
     call!(manopluea_print(input: &[u8], text: &mut [u8], reply: &mut [u64],))
 }

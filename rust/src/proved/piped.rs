@@ -22,10 +22,12 @@ enum Function {
     ListStands,
     ChangePoint,
     ChangeOffset,
+    DrawPoint,
+    DrawOffset,
     Print,
 }
 
-/// A request: numbers, and the ten lists. The file of `Print` is its input.
+/// A request: numbers, and the eleven lists. The file of `Print` is its input.
 #[derive(Default)]
 struct Request<'a> {
     kind: u16,
@@ -43,6 +45,7 @@ struct Request<'a> {
     replies: &'a [u64],
     stands: &'a [f64],
     corners: &'a [i32],
+    offsets: &'a [f32],
     cells: &'a [u16],
     doors: &'a [u16],
     given: &'a [u16],
@@ -51,12 +54,13 @@ struct Request<'a> {
     text: &'a [u8],
 }
 
-/// The ten lists after a call, the stands as bits: NaN does not equal itself.
+/// The eleven lists after a call, stands and offsets as bits: NaN does not equal itself.
 struct Answer {
     reply: Vec<u64>,
     replies: Vec<u64>,
     stands: Vec<u64>,
     corners: Vec<i32>,
+    offsets: Vec<u32>,
     cells: Vec<u16>,
     doors: Vec<u16>,
     given: Vec<u16>,
@@ -95,6 +99,7 @@ impl Server {
             bytes_of(request.replies, u64::to_le_bytes),
             bytes_of(request.stands, f64::to_le_bytes),
             bytes_of(request.corners, i32::to_le_bytes),
+            bytes_of(request.offsets, f32::to_le_bytes),
             bytes_of(request.cells, u16::to_le_bytes),
             bytes_of(request.doors, u16::to_le_bytes),
             bytes_of(request.given, u16::to_le_bytes),
@@ -120,6 +125,7 @@ impl Server {
             request.replies.len() as u64,
             request.stands.len() as u64,
             request.corners.len() as u64,
+            request.offsets.len() as u64,
             request.cells.len() as u64,
             request.doors.len() as u64,
             request.given.len() as u64,
@@ -142,6 +148,7 @@ impl Server {
             replies: numbers_of(&mut rest, request.replies.len(), u64::from_le_bytes),
             stands: numbers_of(&mut rest, request.stands.len(), u64::from_le_bytes),
             corners: numbers_of(&mut rest, request.corners.len(), i32::from_le_bytes),
+            offsets: numbers_of(&mut rest, request.offsets.len(), u32::from_le_bytes),
             cells: numbers_of(&mut rest, request.cells.len(), u16::from_le_bytes),
             doors: numbers_of(&mut rest, request.doors.len(), u16::from_le_bytes),
             given: numbers_of(&mut rest, request.given.len(), u16::from_le_bytes),
@@ -380,6 +387,20 @@ pub fn change(lists: Lists<'_>, asked: DoorChange<'_>, table: &mut [u16], reply:
     kept(lists, &answer);
     assert_eq!(answer.given, asked.given, "the given list is not lent");
     table.copy_from_slice(&answer.table);
+    reply.copy_from_slice(&answer.reply);
+}
+
+pub fn draw(lists: Lists<'_>, query: Query, offsets: &mut [f32], reply: &mut [u64]) {
+    let functions = [Function::DrawPoint, Function::DrawOffset];
+    let request = Request {
+        offsets,
+        ..of_lists(lists, reply)
+    };
+    let (function, request) = with_query(query, functions, request);
+    let answer = ask(function, &request);
+    kept(lists, &answer);
+    let bits = offsets.iter_mut().zip(answer.offsets);
+    bits.for_each(|(offset, bits)| *offset = f32::from_bits(bits));
     reply.copy_from_slice(&answer.reply);
 }
 

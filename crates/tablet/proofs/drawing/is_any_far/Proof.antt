@@ -7,10 +7,10 @@ use Rattle.tablet.proofs.drawing.is_any_far.Statement.{statement}
 use Rattle.tablet.proofs.drawing.is_any_far.Tie as tie
 
 abbrev Inv-loop : tie.InvT-loop
-Inv-loop corners table q n i₀ i = Looks corners (point q) table n i
+Inv-loop corners table q rows i₀ i = Looks corners (point q) table rows i
 
 abbrev μ-loop : tie.MeasureT-loop
-μ-loop corners table q n i₀ i = n - i
+μ-loop corners table q rows i₀ i = rows - i
 
 loop-holds : tie.Need-loop-holds Inv-loop μ-loop
 loop-holds c = looks-begin _ _ _ _
