@@ -7,12 +7,14 @@ import sys
 
 from client import CELLS, CORNERS, TRIANGLES, lend
 
-FRAME, SIZE, ROOM, ROWS, REACH, CEILING = 1, 2, 11, 13, 15, 19
+FRAME, SIZE, ROOM, ROWS, FAR, REACH, CEILING = 1, 2, 11, 13, 14, 15, 19
 NULL = None, ctypes.c_size_t(0)
 PLAN = *lend(ctypes.c_int32, CORNERS), *lend(ctypes.c_uint16, CELLS)
 ONE_DOOR = lend(ctypes.c_uint16, [2])
 FILE = lend(ctypes.c_uint8, bytes(18 + 32 + 24))
 TABLE = lend(ctypes.c_uint16, [0] * 16)
+OFFSETS = lend(ctypes.c_float, [0.0] * 16)
+FAR_PLAN = *lend(ctypes.c_int32, [*CORNERS[:5], 3 + 16_777_217, *CORNERS[6:]]), *lend(ctypes.c_uint16, CELLS)
 MORNING = lend(ctypes.c_double, [-1, 6, 3])
 REPLIES = lend(ctypes.c_uint64, [0] * 3)
 TEXT = lend(ctypes.c_uint8, bytes(49216))
@@ -58,6 +60,13 @@ def main(library):
         expect(REACH, none, *listing, *WRONG_REACH, *NO_CEILING, *NULL)
         expect(ROOM, none, *listing, *NO_REACH, *LOWEST, *NULL)
         expect(CEILING, none, *listing, *NO_REACH, *LOWEST, *TABLE)
+        drawing = f"draw_{form}", *PLAN, *NULL, KIND, SETTING, *stand
+        expect(ROOM, none, *drawing, *NO_REACH, *NULL)
+        expect(0, listed, *drawing, *NO_REACH, *OFFSETS)
+        expect(REACH, none, *drawing, *WRONG_REACH, *NULL)
+        far = f"draw_{form}", *FAR_PLAN, *NULL, KIND, SETTING, *stand
+        expect(ROOM, none, *far, *NO_REACH, *NULL)
+        expect(FAR, none, *far, *NO_REACH, *OFFSETS)
         change = f"change_{form}", *PLAN, *ONE_DOOR, KIND, SETTING, *stand, *NO_REACH, *NULL, DOOR, SHUT
         expect(ROOM, none, *change, *NULL)
         expect(ROWS, none, *change, *TABLE)

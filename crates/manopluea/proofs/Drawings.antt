@@ -1,9 +1,9 @@
 -- A drawing is the listing's rows, number by number, and it is refused as too far exactly where one of them names a corner that is (document 02, A2).
-use mathlib.Core.Bool.{Bool, true, false, _||_}
-use mathlib.Core.List.{List, _++_}
+use mathlib.Core.Bool.{Bool, true, false}
+use mathlib.Core.List.{List}
 use mathlib.Core.Logic.{_⊎_, inl, inr}
 use mathlib.Core.Path.{_≡_, refl, sym, ap, ap₂, _∙_, subst}
-use Prim.Native.Nat.{ℕ, zero, _+_, _*_, _<_, _≤_}
+use Prim.Native.Nat.{ℕ, _+_, _*_, _<_, _≤_}
 use native.Mathlib.Nat.{add-zero}
 use native.Mathlib.Omega.{arith}
 use borrow.Author.Tests.{ltb-true, lt-ltb}
@@ -14,19 +14,17 @@ use lib.IntN.{ℤ, natAbs}
 use lib.Ieee.{Float, nan, binary32, ofInt}
 use Rattle.exact.specs.Within.{Within}
 use Rattle.exact.proofs.Lent.{written-from-the-beginning, rest-is-kept}
-use Rattle.exact.proofs.Truth.{one-true}
+use Rattle.exact.proofs.Truth.{one-true, first-true, second-true}
 use Rattle.plane.specs.Side.{Point}
 use Rattle.limits.specs.Limits.{most-offset}
-use Rattle.limits.specs.declared.Refusal.{Refusal}
-use Rattle.limits.specs.declared.Refusal.the-variants.{Room, Far}
-use Rattle.cells.specs.Lists.{corner-count}
+use Rattle.limits.specs.declared.Refusal.the-variants.{Far}
 use Rattle.cells.specs.Cut.{cells-of}
 use Rattle.reach.specs.Reach.{range}
 use Rattle.stand.specs.Spot.{stood}
 use Rattle.stand.specs.declared.spot.Spot.the-variants.{At}
 use Rattle.fan.specs.Sight.{Row}
 use Rattle.fan.specs.Once as Once
-use Rattle.fan.specs.Written.{written, row-at}
+use Rattle.fan.specs.Written.{row-at}
 use Rattle.fan.proofs.Tables.{row-stands-there, place-is-within, one-at-a-place}
 use Rattle.sight.specs.Listing.{seen, no-room, listing-rows, listing-row-count, listing-crossings, listed}
 use Rattle.sight.specs.declared.view.Query.{Query}
@@ -38,14 +36,10 @@ use Rattle.tablet.specs.Drawing.{far, row-far, any-far, row-offsets, offsets-of
 use Rattle.tablet.proofs.Fars.{not-far}
 use Rattle.tablet.proofs.Rows.{not-far-right, not-far-left}
 use Rattle.tablet.proofs.Drawn.{view-refused, room-refused, far-refused, none-far-is-drawn, DrawnFrom, rows-are-drawn, seen-is-told}
-use Rattle.tablet.proofs.Numbers.{exact, no-minus-zero, length-of-offsets, number-stands, a-row-is-far, no-row-is-far, FarRow, some-row-is-far}
+use Rattle.tablet.proofs.Numbers.{exact, no-minus-zero, length-of-offsets, number-stands, a-row-is-far, no-row-is-far, some-row-is-far}
 use Rattle.manopluea.specs.Drawings.{Drawn, RowDrawn, TooFar, NamesTooFar, RowsDrawn, DrawsTheListing}
 
 -- ---- too far, by the definition's test and in words
-
-either : (b : Bool) → (b || true) ≡ true
-either true = refl
-either false = refl
 
 module _ (d : Point) where
   far-in-words : far d ≡ true → TooFar d
@@ -58,8 +52,8 @@ module _ (d : Point) where
 
   words-are-far : TooFar d → far d ≡ true
   unfolding far
-  words-are-far (inl h) = ap (λ (b : Bool). b || ltb most-offset (natAbs (d .y))) (lt-ltb _ _ h)
-  words-are-far (inr h) = ap (λ (b : Bool). ltb most-offset (natAbs (d .x)) || b) (lt-ltb _ _ h) ∙ either (ltb most-offset (natAbs (d .x)))
+  words-are-far (inl h) = first-true (ltb most-offset (natAbs (d .x))) (ltb most-offset (natAbs (d .y))) (lt-ltb _ _ h)
+  words-are-far (inr h) = second-true (ltb most-offset (natAbs (d .x))) (ltb most-offset (natAbs (d .y))) (lt-ltb _ _ h)
 
 module _ (cs : List ℤ) (q : Point) (r : Row) where
   row-in-words : row-far cs q r ≡ true → NamesTooFar cs q r
@@ -70,8 +64,8 @@ module _ (cs : List ℤ) (q : Point) (r : Row) where
       by-limit (inr e) = inr (far-in-words _ e)
 
   words-are-row : NamesTooFar cs q r → row-far cs q r ≡ true
-  words-are-row (inl h) = ap (λ (b : Bool). b || far (seen cs q (r .left))) (words-are-far (seen cs q (r .right)) h)
-  words-are-row (inr h) = ap (λ (b : Bool). far (seen cs q (r .right)) || b) (words-are-far (seen cs q (r .left)) h) ∙ either (far (seen cs q (r .right)))
+  words-are-row (inl h) = first-true (far (seen cs q (r .right))) (far (seen cs q (r .left))) (words-are-far (seen cs q (r .right)) h)
+  words-are-row (inr h) = second-true (far (seen cs q (r .right))) (far (seen cs q (r .left))) (words-are-far (seen cs q (r .left)) h)
 
 -- ---- a number that is drawn
 

@@ -9,7 +9,7 @@ use lib.IntN.{ℤ, pos, negsuc, negℤ, natAbs}
 use lib.Signed.{ltZ}
 use lib.Ieee.{binary32, inFloat}
 use Rattle.exact.specs.Within.{Within}
-use Rattle.exact.proofs.Truth.{neither-true}
+use Rattle.exact.proofs.Truth.{first-true, second-true, neither-true}
 use Rattle.plane.specs.Side.{Point}
 use Rattle.limits.specs.Limits.{most-offset}
 use Rattle.tablet.specs.Drawing.{far}
@@ -33,18 +33,14 @@ not-below (negsuc n) h = sym (le-ltb most-offset (suc n) (omega (arith, ltb-fals
 
 -- ---- both axes, where the code has u and v for the differences
 
-right-true : (a : Bool) → (a || true) ≡ true
-right-true true = refl
-right-true false = refl
-
 module _ (d : Point) {u v : ℤ} (is-u : u ≡ d .x) (is-v : v ≡ d .y) where
   by-x : beyond (d .x) ≡ true → true ≡ far d
   unfolding far
-  by-x h = ap (λ (b : Bool). b || beyond (d .y)) (sym h)
+  by-x h = sym (first-true (beyond (d .x)) (beyond (d .y)) h)
 
   by-y : beyond (d .y) ≡ true → true ≡ far d
   unfolding far
-  by-y h = sym (right-true (beyond (d .x))) ∙ ap (λ (b : Bool). beyond (d .x) || b) (sym h)
+  by-y h = sym (second-true (beyond (d .x)) (beyond (d .y)) h)
 
   pub x-below : ltZ u (negℤ (pos most-offset)) ≡ true → true ≡ far d
   x-below h = by-x (below (d .x) (ap (λ (z : ℤ). ltZ z (negℤ (pos most-offset))) (sym is-u) ∙ h))

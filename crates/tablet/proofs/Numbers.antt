@@ -1,15 +1,15 @@
 -- The numbers of a drawing: those of each row stand at its place, each is exactly the difference, and one row that names a corner too far is enough.
-use mathlib.Core.Bool.{Bool, true, false, _||_, false≢true}
+use mathlib.Core.Bool.{true, false, false≢true}
 use mathlib.Core.List.{List, [], _∷_, _++_}
 use mathlib.Core.Logic.{_⊎_, inl, inr}
-use mathlib.Core.Path.{_≡_, refl, sym, ap, _∙_}
+use mathlib.Core.Path.{_≡_, refl, ap, _∙_}
 use Prim.Native.Nat.{ℕ, zero, suc, _+_, _*_, _<_}
 use native.Mathlib.Omega.{arith}
 use lib.ListN.{length, getD}
 use lib.IntN.{ℤ}
 use lib.Ieee.{Float, nan, binary32, ofInt}
 use Rattle.exact.specs.Within.{Within}
-use Rattle.exact.proofs.Truth.{one-true, neither-true}
+use Rattle.exact.proofs.Truth.{one-true, first-true, second-true, neither-true}
 use Rattle.plane.specs.Side.{Point}
 use Rattle.limits.specs.Limits.{most-offset}
 use Rattle.number.specs.Whole.{Is, minus-zero}
@@ -56,12 +56,8 @@ module _ (cs : List ℤ) (q : Point) where
 
   pub a-row-is-far : {r : Row} {rs : List Row} {i : ℕ} → At r rs i → row-far cs q r ≡ true → any-far cs q rs ≡ true
   unfolding any-far
-  a-row-is-far (first {xs = rs}) h = ap (λ (b : Bool). b || any-far cs q rs) h
-  a-row-is-far (later {y = s} {xs = rs} a) h = ap (λ (b : Bool). row-far cs q s || b) (a-row-is-far a h) ∙ either (row-far cs q s)
-    where
-      either : (b : Bool) → (b || true) ≡ true
-      either true = refl
-      either false = refl
+  a-row-is-far {r} (first {xs = rs}) h = first-true (row-far cs q r) (any-far cs q rs) h
+  a-row-is-far (later {y = s} {xs = rs} a) h = second-true (row-far cs q s) (any-far cs q rs) (a-row-is-far a h)
 
   pub no-row-is-far : {r : Row} {rs : List Row} {i : ℕ} → At r rs i → any-far cs q rs ≡ false → row-far cs q r ≡ false
   unfolding any-far
