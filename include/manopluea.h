@@ -74,7 +74,8 @@
  * Each promise below is proved: crates/exports/specs/Reply.antt defines what a call leaves in the lent memory and in
  * the reply as a function of its input, and the call's contract says that it leaves exactly that. The stack is not
  * proved but measured: rust/tests/header.rs runs every function on the deepest floors known, in either kind, and on a
- * plan of the largest size with no more than is stated.
+ * plan of the largest size with no more than is stated. Nor is it proved, but compared, that a NaN which stood in the
+ * offsets of a drawing keeps its bits: the logic has one NaN.
  */
 #ifndef MANOPLUEA_H
 #define MANOPLUEA_H

@@ -2,8 +2,8 @@
 use mathlib.Core.Path.{_≡_, refl}
 use mathlib.Core.Bool.{Bool}
 use lib.IntN.{pos, negsuc}
-use lib.Ieee.{nan, inf, binary64, ofBits}
-use Rattle.number.specs.Whole.{whole}
+use lib.Ieee.{nan, inf, binary32, binary64, ofBits}
+use Rattle.number.specs.Whole.{whole, minus-zero}
 use Rattle.number.specs.declared.Millimetres.the-variants.{Whole, Refused}
 
 pub six : whole (ofBits binary64 0x4018_0000_0000_0000) ≡ Whole (pos 6)
@@ -13,6 +13,11 @@ six = refl
 pub minus-zero-reads-as-zero : whole (ofBits binary64 0x8000_0000_0000_0000) ≡ Whole (pos 0)
 unfolding whole ofBits
 minus-zero-reads-as-zero = refl
+
+-- of either precision it is the one float that is called minus zero
+pub bits-of-minus-zero : (ofBits binary32 0x8000_0000 ≡ minus-zero) × (ofBits binary64 0x8000_0000_0000_0000 ≡ minus-zero)
+unfolding ofBits
+bits-of-minus-zero = (refl, refl)
 
 pub six-and-a-half-is-refused : whole (ofBits binary64 0x401a_0000_0000_0000) ≡ Refused
 unfolding whole ofBits

@@ -64,6 +64,19 @@ macro_rules! call {
     }};
 }
 
+/// Calls the one of two functions that takes such a stand, with the arguments before it and
+/// after it.
+macro_rules! call_from {
+    ($stand:ident, $point:ident, $offset:ident, [$($before:tt)*] [$($after:tt)*]) => {
+        match $stand {
+            Stand::Point(x, y) => call!($point($($before)* x: f64, y: f64, $($after)*)),
+            Stand::Offset(corner, dx, dy) => {
+                call!($offset($($before)* corner: u16, dx: f64, dy: f64, $($after)*))
+            }
+        }
+    };
+}
+
 pub fn check(lists: Lists<'_>, reply: &mut [u64]) {
     call!(manopluea_check(lists: Lists, reply: &mut [u64],))
 }
@@ -89,23 +102,13 @@ pub fn write(lists: Lists<'_>, file: &mut [u8], reply: &mut [u64]) {
 }
 
 pub fn find(lists: Lists<'_>, setting: u64, stand: Stand, reply: &mut [u64]) {
-    match stand {
-        Stand::Point(x, y) => call!(manopluea_find_point(
-            lists: Lists,
-            setting: u64,
-            x: f64,
-            y: f64,
-            reply: &mut [u64],
-        )),
-        Stand::Offset(corner, dx, dy) => call!(manopluea_find_offset(
-            lists: Lists,
-            setting: u64,
-            corner: u16,
-            dx: f64,
-            dy: f64,
-            reply: &mut [u64],
-        )),
-    }
+    call_from!(
+        stand,
+        manopluea_find_point,
+        manopluea_find_offset,
+        [lists: Lists, setting: u64,]
+        [reply: &mut [u64],]
+    )
 }
 
 pub fn list(lists: Lists<'_>, listing: Listing, table: &mut [u16], reply: &mut [u64]) {
@@ -115,29 +118,13 @@ pub fn list(lists: Lists<'_>, listing: Listing, table: &mut [u16], reply: &mut [
         stand,
         reach,
     } = query;
-    match stand {
-        Stand::Point(x, y) => call!(manopluea_list_point(
-            lists: Lists,
-            setting: u64,
-            x: f64,
-            y: f64,
-            reach: Reach,
-            ceiling: Option<u64>,
-            table: &mut [u16],
-            reply: &mut [u64],
-        )),
-        Stand::Offset(corner, dx, dy) => call!(manopluea_list_offset(
-            lists: Lists,
-            setting: u64,
-            corner: u16,
-            dx: f64,
-            dy: f64,
-            reach: Reach,
-            ceiling: Option<u64>,
-            table: &mut [u16],
-            reply: &mut [u64],
-        )),
-    }
+    call_from!(
+        stand,
+        manopluea_list_point,
+        manopluea_list_offset,
+        [lists: Lists, setting: u64,]
+        [reach: Reach, ceiling: Option<u64>, table: &mut [u16], reply: &mut [u64],]
+    )
 }
 
 pub fn list_stands(
@@ -177,33 +164,13 @@ pub fn change(lists: Lists<'_>, asked: DoorChange<'_>, table: &mut [u16], reply:
         stand,
         reach,
     } = query;
-    match stand {
-        Stand::Point(x, y) => call!(manopluea_change_point(
-            lists: Lists,
-            setting: u64,
-            x: f64,
-            y: f64,
-            reach: Reach,
-            given: &[u16],
-            door: usize,
-            shut: bool,
-            table: &mut [u16],
-            reply: &mut [u64],
-        )),
-        Stand::Offset(corner, dx, dy) => call!(manopluea_change_offset(
-            lists: Lists,
-            setting: u64,
-            corner: u16,
-            dx: f64,
-            dy: f64,
-            reach: Reach,
-            given: &[u16],
-            door: usize,
-            shut: bool,
-            table: &mut [u16],
-            reply: &mut [u64],
-        )),
-    }
+    call_from!(
+        stand,
+        manopluea_change_point,
+        manopluea_change_offset,
+        [lists: Lists, setting: u64,]
+        [reach: Reach, given: &[u16], door: usize, shut: bool, table: &mut [u16], reply: &mut [u64],]
+    )
 }
 
 pub fn draw(lists: Lists<'_>, query: Query, offsets: &mut [f32], reply: &mut [u64]) {
@@ -212,27 +179,13 @@ pub fn draw(lists: Lists<'_>, query: Query, offsets: &mut [f32], reply: &mut [u6
         stand,
         reach,
     } = query;
-    match stand {
-        Stand::Point(x, y) => call!(manopluea_draw_point(
-            lists: Lists,
-            setting: u64,
-            x: f64,
-            y: f64,
-            reach: Reach,
-            offsets: &mut [f32],
-            reply: &mut [u64],
-        )),
-        Stand::Offset(corner, dx, dy) => call!(manopluea_draw_offset(
-            lists: Lists,
-            setting: u64,
-            corner: u16,
-            dx: f64,
-            dy: f64,
-            reach: Reach,
-            offsets: &mut [f32],
-            reply: &mut [u64],
-        )),
-    }
+    call_from!(
+        stand,
+        manopluea_draw_point,
+        manopluea_draw_offset,
+        [lists: Lists, setting: u64,]
+        [reach: Reach, offsets: &mut [f32], reply: &mut [u64],]
+    )
 }
 
 pub fn print(input: &[u8], text: &mut [u8], reply: &mut [u64]) {
