@@ -1,6 +1,6 @@
 """Lists what is seen from (6, 3) in plan Q, a square of two cells with a door, as the printing program prints it.
 
-    python3 examples/client.py LIBRARY        a shared object, linked from the archive as in examples/run.sh
+    python3 examples/client.py LIBRARY        a shared object, as python/build.sh makes it
 """
 import ctypes
 import sys

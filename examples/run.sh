@@ -31,7 +31,7 @@ for example in client morning; do
     prints "$made/$example.out" "$made/$example-c99"
     prints "$made/$example.out" "$made/$example-c++17"
 done
-cc -shared -Wl,--whole-archive "$shipped_archive" -Wl,--no-whole-archive -o "$made/libmanopluea.so"
-prints "$printed" python3 examples/client.py "$made/libmanopluea.so"
-python3 examples/empty_lists.py "$made/libmanopluea.so"
+shared=$(bash python/build.sh)
+prints "$printed" python3 examples/client.py "$shared"
+python3 examples/empty_lists.py "$shared"
 echo "examples: C99, C++17 and Python print what the printing program prints; every function takes null for no numbers"

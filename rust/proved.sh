@@ -33,15 +33,21 @@ ask_rt() { # WORDS..
 # The folder of the Rattle kit: RATTLE_HOME, or where `rt` is.
 kit_home() { echo "${RATTLE_HOME:-$(dirname "$(dirname "$(readlink -f "$(command -v rt)")")")}"; }
 
-# The printing program, for x86-64.
+machine=$(uname -m)
+
+# The printing program, for x86-64, and the command that runs it: elsewhere under the kit's emulator and loader.
 make_program() { ask_rt check print; }
+program=("$PWD/target/bin/print")
+if [ "$machine" != x86_64 ]; then
+    tools=$(kit_home)/on/$machine/toolchain
+    program=("$tools/bin/qemu-x86_64" "$tools/lib/ld-linux-x86-64.so.2" --library-path "$tools/lib" "${program[@]}")
+fi
 
 # The archive that is shipped, for x86-64.
 shipped_archive=target/staticlib/libexports.a
 make_shipped() { make_archive "$shipped_archive" ask_rt staticlib exports; }
 
 # The archive for the machine at hand.
-machine=$(uname -m)
 if [ "$machine" = x86_64 ]; then native_archive=$shipped_archive; else native_archive=target/native/libexports.a; fi
 make_native() {
     if [ "$machine" = x86_64 ]; then make_shipped; else make_archive "$native_archive" build_native; fi
