@@ -1,11 +1,7 @@
-//! Links the proved library. Where its archive is not there, the build fails:
-//! tests that were left out would say that nothing is wrong.
-//!
-//! The archive that `rt staticlib exports` makes is for x86-64. For another
-//! machine it is linked with `bridge/serve.c` by the kit's compiler, into a
-//! program that the kit's emulator runs. `MANOPLUEA_ARCHIVE` names another
-//! archive, made for the machine at hand: `bench.sh` makes one, since the speed
-//! under an emulator means nothing.
+//! Where the archive that is shipped is not for the machine at hand, and none that is has
+//! been asked for by the feature `native`: links it with `bridge/serve.c` by the kit's
+//! compiler, into a program for x86-64 that the kit's emulator runs. Elsewhere the crate
+//! `manopluea` links an archive, and there is nothing to do.
 
 #[path = "src/kit.rs"]
 mod kit;
@@ -15,52 +11,36 @@ use std::path::{Path, PathBuf};
 use std::process::Command;
 
 fn main() {
-    println!("cargo::rustc-check-cfg=cfg(linked)");
     println!("cargo::rerun-if-changed=build.rs");
     println!("cargo::rerun-if-changed=src/kit.rs");
     println!("cargo::rerun-if-changed=bridge");
     println!("cargo::rerun-if-changed=../include/manopluea.h");
     println!("cargo::rerun-if-env-changed=RATTLE_HOME");
-    println!("cargo::rerun-if-env-changed=MANOPLUEA_ARCHIVE");
-    if let Err(why) = link() {
-        println!("cargo::error=the proved library cannot be linked: {why}");
+    let is_x86_64 = env::var("CARGO_CFG_TARGET_ARCH").as_deref() == Ok("x86_64");
+    if is_x86_64 || env::var_os("CARGO_FEATURE_NATIVE").is_some() {
+        return;
+    }
+    if let Err(why) = serve() {
+        println!("cargo::error=the proved library cannot be run: {why}");
     }
 }
 
-fn link() -> Result<(), String> {
+fn serve() -> Result<(), String> {
     let package = Path::new(env!("CARGO_MANIFEST_DIR"));
-    if let Some(archive) = env::var_os("MANOPLUEA_ARCHIVE") {
-        return link_archive(&present(package.join(archive))?);
-    }
-    let archive = present(package.join("../target/staticlib/libexports.a"))?;
-    if env::var("CARGO_CFG_TARGET_ARCH").as_deref() == Ok("x86_64") {
-        return link_archive(&archive);
+    let archive = package.join("../target/staticlib/libexports.a");
+    println!("cargo::rerun-if-changed={}", archive.display());
+    // Tests that were left out would say that nothing is wrong.
+    if !archive.is_file() {
+        let archive = archive.display();
+        return Err(format!(
+            "{archive} is not there; rust/compare.sh has the kit make it, and then runs these tests"
+        ));
     }
     let tools = kit::toolchain()?.join("bin");
     let server = link_server(&tools, &package.join("bridge"), &archive)?;
     let emulator = tools.join("qemu-x86_64");
     println!("cargo::rustc-env=MANOPLUEA_EMULATOR={}", emulator.display());
     println!("cargo::rustc-env=MANOPLUEA_SERVER={}", server.display());
-    Ok(())
-}
-
-fn present(archive: PathBuf) -> Result<PathBuf, String> {
-    println!("cargo::rerun-if-changed={}", archive.display());
-    if archive.is_file() {
-        return Ok(archive);
-    }
-    let archive = archive.display();
-    Err(format!(
-        "{archive} is not there; rust/compare.sh has the kit make it, and then runs these tests"
-    ))
-}
-
-/// Links an archive that is made for the machine at hand.
-fn link_archive(archive: &Path) -> Result<(), String> {
-    let folder = archive.parent().ok_or("an archive lies in a folder")?;
-    println!("cargo::rustc-link-search=native={}", folder.display());
-    println!("cargo::rustc-link-lib=static=exports");
-    println!("cargo::rustc-cfg=linked");
     Ok(())
 }
 

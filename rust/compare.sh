@@ -9,7 +9,12 @@ cd "$(dirname "$0")/.."
 make_shipped
 make_program
 renew_for_cargo "$shipped_archive" rust/target
-if [ "$machine" = x86_64 ]; then count=200000; else count=20000; fi
+# The library for Rust is tested where its archive can be linked.
+if [ "$machine" = x86_64 ]; then
+    count=200000 tested=--workspace
+else
+    count=20000 tested=--package=manopluea-compare
+fi
 cd rust
-cargo test --quiet --release
+cargo test --quiet --release "$tested"
 cargo run --quiet --release -- compare "${1:-1}" "${2:-$count}"

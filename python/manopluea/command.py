@@ -46,6 +46,8 @@ def main(argv: Optional[Sequence[str]] = None) -> int:
         return _complain(refusal, _REFUSED)
     except (_Failure, library.LibraryError) as failure:
         return _complain(failure, _FAILED)
+    except KeyboardInterrupt:
+        return _complain("stopped", _FAILED)
     except OSError as fault:
         # Each file that is opened here has a handler of its own, so this is standard output. What it still holds cannot
         # be written, and Python would try once more.
@@ -259,19 +261,20 @@ def _stands(arguments) -> int:
 
 
 def _named(paths: Sequence[str]) -> List[stands.Named]:
-    """The stands of all files. Those without a name are numbered from 1, in each file."""
+    """The stands of all files."""
     named: List[stands.Named] = []
     for path in paths:
         try:
-            named += stands.read(path)
+            named += stands.read(path, len(named))
         except (OSError, UnicodeDecodeError) as fault:
             raise _Failure(f"{path}: {getattr(fault, 'strerror', fault)}") from None
         except ValueError as fault:
             raise _Failure(fault) from None
-    names = [name for name, _ in named]
-    twice = [name for name in names if names.count(name) > 1]
-    if twice:
-        raise _Failure(f"two stands have the name {twice[0]}, so the sheet could not tell them apart")
+    names = set()
+    for name, _ in named:
+        if name in names:
+            raise _Failure(f"two stands have the name {name}, so the sheet could not tell them apart")
+        names.add(name)
     return named
 
 

@@ -103,9 +103,15 @@ class Plan:
         cells = [Cell(tuple(corners), tuple(neighbours)) for corners, neighbours in cells]
         if kind is None:
             kind = TRIANGLES if all(len(cell.corners) == 3 for cell in cells) else POLYGONS
-        counted = kind == POLYGONS
-        flat = [[len(cell.corners)] * counted + [*cell.corners, *cell.neighbours] for cell in cells]
-        self._hold(itertools.chain(*corners), itertools.chain(*flat), doors, kind)
+        flat: List[int] = []
+        for number, (named, neighbours) in enumerate(cells):
+            # The list would be cut elsewhere, and the reply would be about other cells.
+            if len(named) != len(neighbours) or (kind == TRIANGLES and len(named) != 3):
+                raise ValueError(
+                    f"cell {number} has {len(named)} corners and {len(neighbours)} neighbours, of kind {kind}"
+                )
+            flat += [*([len(named)] if kind == POLYGONS else []), *named, *neighbours]
+        self._hold([coordinate for x, y in corners for coordinate in (x, y)], flat, doors, kind)
 
     @classmethod
     def from_lists(cls, corners: Iterable[int], cells: Iterable[int], doors: Iterable[int], kind: int) -> "Plan":
@@ -193,7 +199,9 @@ class Plan:
     def alone(self, *cells: int) -> "Plan":
         """These cells by themselves, between walls. Their corners keep their numbers."""
         kept = (self.cells[cell].corners for cell in cells)
-        return Plan(self.corners, [(corners, [WALL] * len(corners)) for corners in kept])
+        plan = Plan((), [(corners, [WALL] * len(corners)) for corners in kept])
+        plan.lists = (self.lists[0], *plan.lists[1:])
+        return plan
 
     # The calls.
 

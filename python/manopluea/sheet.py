@@ -4,12 +4,11 @@ from __future__ import annotations
 
 import csv
 import io
-from typing import Container, Dict, Iterable, List, NamedTuple, Sequence, Tuple, Union
+from typing import Container, Dict, Iterable, List, NamedTuple, Sequence, Tuple
 
 from . import words
 from .plan import Listing, Plan, Row
 from .records import WALL
-from .refusal import Refusal
 
 _LINE = ["face", "cell", "side", "from", "to"]
 _LIST = [*_LINE, "right limit", "left limit", "reach", "line"]
@@ -62,22 +61,18 @@ class Seen(NamedTuple):
     """A line of the sheet of several stands: a face, and the stands whose listing has it in reach, and out of it."""
 
     face: int
-    near: List[str]
-    far: List[str]
+    near: Tuple[str, ...]
+    far: Tuple[str, ...]
 
 
-def seen(answers: Sequence[Tuple[str, Union[Listing, Refusal]]]) -> List[Seen]:
+def seen(listings: Iterable[Tuple[str, Listing]]) -> List[Seen]:
     """The sheet of several stands, each with its name: which walls, from which stand. In the order of the faces."""
-    faces: Dict[int, Seen] = {}
-    for name, answer in answers:
-        if isinstance(answer, Refusal):
-            continue
-        for row in answer.rows:
-            found = faces.setdefault(row.face, Seen(row.face, [], []))
-            names = found.far if row.out else found.near
-            if name not in names:  # a stand may see a wall by two ways
-                names.append(name)
-    return [faces[face] for face in sorted(faces)]
+    # Keys stand in the order in which they came. A stand may see a wall by two ways, and has its name there once.
+    faces: Dict[int, Tuple[Dict[str, None], Dict[str, None]]] = {}
+    for name, listing in listings:
+        for face, _, _, out in listing.rows:
+            faces.setdefault(face, ({}, {}))[out][name] = None
+    return [Seen(face, tuple(near), tuple(far)) for face, (near, far) in sorted(faces.items())]
 
 
 def coverage(plan: Plan, sheet: Sequence[Seen], shut: Container[int]) -> str:

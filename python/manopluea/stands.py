@@ -44,8 +44,8 @@ def whole(text: str, most: int) -> int:
     return value
 
 
-def read(path: str) -> List[Named]:
-    """The stands of a file of comma- or semicolon-separated values.
+def read(path: str, before: int = 0) -> List[Named]:
+    """The stands of a file of comma- or semicolon-separated values, with so many stands before them.
 
     The first line may name its columns: x, y, and, where they are wanted, name and corner. Without it they are x, y and
     corner. A stand without a corner is a point, a stand without a name has its number, from 1.
@@ -53,7 +53,10 @@ def read(path: str) -> List[Named]:
     with open(path, newline="", encoding="utf-8-sig") as file:
         text = file.read()
     delimiter = ";" if ";" in text else ","
-    rows = csv.reader(text.splitlines(), delimiter=delimiter)
+    try:
+        rows = list(csv.reader(text.splitlines(), delimiter=delimiter))
+    except csv.Error as fault:
+        raise ValueError(f"{path}: {fault}") from None
     lines = [(at, [entry.strip() for entry in row]) for at, row in enumerate(rows, start=1)]
     lines = [(at, row) for at, row in lines if any(row)]
     columns: Sequence[str] = ("x", "y", "corner")
@@ -75,7 +78,7 @@ def read(path: str) -> List[Named]:
             raise ValueError(f"{path}, line {at}: {fault.args[0]} is missing") from None
         except ValueError as fault:
             raise ValueError(f"{path}, line {at}: {fault}") from None
-        stands.append(Named(entries.get("name", str(len(stands) + 1)), stand))
+        stands.append(Named(entries.get("name", str(before + len(stands) + 1)), stand))
     return stands
 
 

@@ -138,6 +138,9 @@ class Wrong(unittest.TestCase):
         for ask in (
             lambda: Plan([(2**31, 0)], []),
             lambda: Plan([(0.5, 0)], []),
+            lambda: Plan([(0, 0, 0)], []),
+            lambda: Plan(Q.corners, [((0, 1, 2), (WALL, WALL))]),
+            lambda: Plan(Q.corners, ONE_CELL.cells, kind=TRIANGLES),
             lambda: q_with(doors=[65536]),
             lambda: q_with(doors=[-1]),
             lambda: Plan(Q.corners, Q.cells, kind=65536),

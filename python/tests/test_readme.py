@@ -4,7 +4,9 @@ import os
 import pathlib
 import re
 import subprocess
+import sys
 import tempfile
+import textwrap
 import unittest
 
 from house import PYTHON, TOP
@@ -38,6 +40,14 @@ class Readme(unittest.TestCase):
             for stored in PICTURES.iterdir():
                 with self.subTest(stored.name):
                     self.assertEqual((folder / "docs" / "pictures" / stored.name).read_bytes(), stored.read_bytes())
+
+    def test_the_example_in_python_runs(self):
+        (example,) = re.findall(r"^    import manopluea\n(?:    .*\n|\n(?=    ))*", README, re.MULTILINE)
+        command = [sys.executable, "-c", textwrap.dedent(example)]
+        environment = {**os.environ, "PYTHONPATH": "python"}
+        ended = subprocess.run(command, cwd=TOP, env=environment, capture_output=True, check=False)
+        printed = b"0 (0, 0) (10, 0) in reach\n1 (10, 0) (10, 10) in reach\n2 (10, 10) (0, 0) in reach\n"
+        self.assertEqual((ended.returncode, ended.stdout, ended.stderr), (0, printed, b""))
 
     def test_the_pictures_are_shown(self):
         shown = re.findall(r"!\[[^]]*\]\(docs/pictures/([^)]*)\)", README)

@@ -43,13 +43,15 @@ class Read(Files):
             ("6,3\n6,three\n", "line 2: 'three' is no number"),
             ("x,y\n6\n", "line 2: y is missing"),
             ("x,y\n6,3,4\n", "line 2: 3 values for the columns x, y"),
+            ("6," + "3" * 200_000, "field larger than field limit"),
             ("6,3,-1\n", "line 1: '-1' is no whole number from 0 to 65535"),
             ("6.00000000000000000001,3\n", "line 1: 6.00000000000000000001 is no double-precision number"),
         ):
             path = self.file(text)
             with self.assertRaises(ValueError) as fault:
                 stands.read(path)
-            self.assertEqual(str(fault.exception)[: len(f"{path}, {said}")], f"{path}, {said}")
+            self.assertTrue(str(fault.exception).startswith(str(path)))
+            self.assertIn(said, str(fault.exception))
         with self.assertRaisesRegex(ValueError, "each once, not x, y, z"):
             stands.read(self.file("x,y,z\n1,2,3\n"))
 
@@ -109,6 +111,8 @@ class Sheet(Files):
     def test_several_files(self):
         first, second = self.file("name,x,y\nA,6,3\n", "first.csv"), self.file("name,x,y\nB,5,5\n", "second.csv")
         self.assertIn("wall  A; B", run("stands", self.q, first, second).out)
+        third, fourth = self.file("6,3\n", "third.csv"), self.file("5,5\n", "fourth.csv")
+        self.assertIn("wall  1; 2", run("stands", self.q, third, fourth).out)
         ended = run("stands", self.q, first, first)
         self.assertEqual((ended.status, ended.out), (2, ""))
         self.assertIn("two stands have the name A", ended.err)

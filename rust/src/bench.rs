@@ -4,10 +4,11 @@
 //! two floors of slivers: of the proved library, of the second program and of plain Rust, side by side.
 
 use crate::calls::{
-    Calls, DoorChange, Listing, Lists, Morning, Plan, Query, Reach, Refusal, Stand, DRAWN, ROW,
+    Calls, DoorChange, Listing, Lists, Morning, Plan, Query, Reach, Refusal, Stand, DRAWN,
+    MOST_STANDS, ROW,
 };
 use crate::generate::{self, Dice, Merged, Mesh};
-use crate::paper::{self, Paper, DOORS, MOST_STANDS, REACHES};
+use crate::paper::{self, Paper, DOORS, REACHES};
 use crate::plain;
 use std::fmt::Write;
 use std::hint::black_box;
@@ -32,13 +33,13 @@ const STANDS_TRIED: usize = 60;
 struct Floor {
     name: &'static str,
     plan: Plan,
-    stand: Stand,
+    /// The stands tried, and which of them crosses most lines: it is the floor's own.
+    tried: Vec<Stand>,
+    best: usize,
     /// The true list.
     given: Vec<u16>,
     crossings: u64,
     door: usize,
-    /// The first of the stands tried, as many as a morning has.
-    morning: Vec<Stand>,
     /// The same floor and doors, with every triangle merged that could be.
     merged: Plan,
     /// The longer of its two sides, in millimetres.
@@ -46,11 +47,27 @@ struct Floor {
 }
 
 impl Floor {
+    fn stand(&self) -> Stand {
+        self.tried[self.best]
+    }
+
+    /// The first of the stands tried, as many as a morning has.
+    fn morning(&self) -> &[Stand] {
+        &self.tried[..MOST_STANDS]
+    }
+
+    /// The stands tried, the floor's own before the others.
+    fn best_first(&self) -> Vec<Stand> {
+        let mut stands = self.tried.clone();
+        stands[..=self.best].rotate_right(1);
+        stands
+    }
+
     /// With every door open, from the floor's stand.
     fn query(&self, reach: Reach) -> Query {
         Query {
             reach,
-            ..Query::without_reach(0, self.stand)
+            ..Query::without_reach(0, self.stand())
         }
     }
 
@@ -132,6 +149,18 @@ pub fn report(proved: &dyn Calls) -> String {
     let text = text + &report_morning(&floors[0], proved) + "\n";
     let text = text + &report_merged(&floors[0], proved) + "\n";
     text + &report_found(&floors, proved)
+}
+
+/// A floor for another program: its plan file, and the stands tried on it as CSV, the one
+/// that crosses most lines first. None where no floor has the name.
+pub fn files(name: &str) -> Option<(Vec<u8>, String)> {
+    let floor = floors().into_iter().find(|floor| floor.name == name)?;
+    let mut stands = "x,y\n".to_string();
+    for stand in floor.best_first() {
+        let [_, x, y] = stand.numbers();
+        writeln!(stands, "{x},{y}").expect("a string takes every line");
+    }
+    Some((paper::encode(floor.plan.lists()), stands))
 }
 
 /// The last part of the report alone: finding.
@@ -301,12 +330,13 @@ fn floor(name: &'static str, mesh: &Mesh, dice: &mut Dice) -> Floor {
             (stand, seen(&checked, Query::without_reach(0, stand)))
         })
         .collect();
-    let stands = tried.iter().map(|&(stand, _)| stand);
-    let morning = stands.take(MOST_STANDS).collect();
-    let (stand, (given, crossings)) = tried
+    let (tried, listings): (Vec<Stand>, Vec<_>) = tried.into_iter().unzip();
+    let (best, (given, crossings)) = listings
         .into_iter()
+        .enumerate()
         .max_by_key(|(_, (_, crossings))| *crossings)
         .expect("some stand is tried");
+    let stand = tried[best];
     // A door that is seen, so that the change changes something.
     let door = (0..plan.doors.len())
         .find(|door| seen(&checked, Query::without_reach(1 << door, stand)).0 != given)
@@ -314,11 +344,11 @@ fn floor(name: &'static str, mesh: &Mesh, dice: &mut Dice) -> Floor {
     Floor {
         name,
         plan,
-        stand,
+        tried,
+        best,
         given,
         crossings,
         door,
-        morning,
         // Dice of its own, so that the floors after it stay what they were.
         merged: Merged::whole(mesh, &doors, &mut Dice::new(2)).plan(&doors),
         size: size(mesh),
@@ -392,7 +422,7 @@ fn calls_on<'a, Checked, Found, Listed>(
     list: impl Fn(Lists<'a>, Listing, &mut [u16]) -> Listed + Copy + 'a,
     change: impl Fn(Lists<'a>, DoorChange<'a>, &mut [u16]) -> Listed + 'a,
 ) -> [Call<'a>; 5] {
-    let (lists, stand) = (floor.plan.lists(), floor.stand);
+    let (lists, stand) = (floor.plan.lists(), floor.stand());
     let list_under = |setting| {
         let listing = Query::without_reach(setting, stand).without_ceiling();
         list_again(&floor.plan, listing, list)
@@ -450,9 +480,9 @@ fn morning_on<'a, Listed>(
     let (lists, morning) = (floor.plan.lists(), Morning::under(0));
     let mut table = table(&floor.plan);
     [
-        together_on(floor, &floor.morning, together),
+        together_on(floor, floor.morning(), together),
         Box::new(move || {
-            for &stand in &floor.morning {
+            for &stand in floor.morning() {
                 black_box(list(lists, morning.listing(stand), &mut table));
             }
         }),
@@ -482,7 +512,7 @@ fn reaches_on<'a, Found, Listed>(
         .map(|reach| list_within(Reach::Stated(reach)));
     [
         Box::new(move || {
-            black_box(find(floor.plan.lists(), 0, floor.stand));
+            black_box(find(floor.plan.lists(), 0, floor.stand()));
         }),
         list_within(Reach::NotStated),
         tenth,
@@ -515,7 +545,7 @@ fn ceilings_on<'a, Checked, Found, Listed>(
             black_box(check(lists));
         }),
         Box::new(move || {
-            black_box(find(lists, 0, floor.stand));
+            black_box(find(lists, 0, floor.stand()));
         }),
         list_up_to(None),
         list_up_to(Some(CEILING)),
@@ -564,7 +594,7 @@ fn merged_on<'a, Checked, Found, Listed>(
     list: impl Fn(Lists<'a>, Listing, &mut [u16]) -> Listed + Copy + 'a,
 ) -> [Call<'a>; 6] {
     let on = |plan: &'a Plan| -> [Call<'a>; 3] {
-        let (lists, stand) = (plan.lists(), floor.stand);
+        let (lists, stand) = (plan.lists(), floor.stand());
         [
             Box::new(move || {
                 black_box(check(lists));
@@ -740,13 +770,13 @@ fn describe_drawn(floor: &Floor, times: [[f64; 2]; 3]) -> String {
 
 fn describe_morning(floor: &Floor, times: [[f64; 2]; 3]) -> String {
     let listings = floor
-        .morning
+        .morning()
         .iter()
         .map(|&stand| listing(&floor.plan, Query::without_reach(0, stand)));
     let (rows, crossings) = listings.fold((0, 0), |(rows, crossings), listing| {
         (rows + listing.0.len() / ROW, crossings + listing.1)
     });
-    let count = floor.morning.len();
+    let count = floor.morning().len();
     let mut text = format!(
         "{}, a morning: {count} stands; {rows} rows, {crossings} crossings\n{}",
         floor.name,
@@ -799,7 +829,7 @@ fn describe_found(floor: &Floor, stands: &[Stand], times: [[f64; 2]; 3]) -> Stri
         columns()
     );
     text += &line("finding, a stand", 0, each);
-    for (name, stands) in [("in no cell", stands), ("inside cells", &floor.morning)] {
+    for (name, stands) in [("in no cell", stands), ("inside cells", floor.morning())] {
         let values = stands.iter().map(|&stand| side_values(floor, stand));
         let sum = values.fold([0, 0], |[all, boxed], values| {
             [all + values.without_boxes, boxed + values.with_boxes]
@@ -884,12 +914,26 @@ mod tests {
         );
     }
 
+    /// The floor's own stand goes first, and the others keep their order.
+    #[test]
+    fn the_stands_are_those_tried() {
+        for floor in floors() {
+            let [first, all] =
+                [floor.best_first(), floor.tried.clone()].map(|stands| numbers(&stands));
+            let (own, others) = first.split_at(3);
+            assert_eq!(own, floor.stand().numbers(), "{}", floor.name);
+            let (before, after) = all.split_at(3 * floor.best);
+            assert_eq!(others, [before, &after[3..]].concat(), "{}", floor.name);
+            assert_eq!(all.len(), 3 * STANDS_TRIED, "{}", floor.name);
+        }
+    }
+
     /// A plan whose last door is no face is refused for just that.
     #[test]
     fn the_last_door_is_refused() {
         for floor in floors() {
             let wrong = without_pairs(&floor.plan);
-            let refused = Refusal::Door(63).reply();
+            let refused = Reply::from(Refusal::Door(63));
             assert_eq!(Paper.check(wrong.lists()), refused, "{}", floor.name);
             assert_eq!(Proved.check(wrong.lists()), refused, "{}", floor.name);
         }
@@ -925,13 +969,13 @@ mod tests {
         let floors = floors();
         let timed = floors.iter();
         for floor in timed.filter(|floor| FLOORS_FINDING.contains(&floor.name)) {
-            assert_eq!(floor.morning.len(), MOST_STANDS);
+            assert_eq!(floor.morning().len(), MOST_STANDS);
             let lists = floor.plan.lists();
             let cells = cells(&floor.plan) as usize;
             for (&stand, holds) in outside(floor)
                 .iter()
                 .map(|stand| (stand, false))
-                .chain(floor.morning.iter().map(|stand| (stand, true)))
+                .chain(floor.morning().iter().map(|stand| (stand, true)))
             {
                 let (found, looked_at) = match plain::find(lists, 0, stand) {
                     Ok(plain::Footing::Inside { cell }) if holds => {
@@ -958,7 +1002,7 @@ mod tests {
         assert_eq!((reply, proved), left, "{name}");
         let reply = match plain::list(lists, listing, &mut plain) {
             Ok(counts) => Reply::done([counts.rows as u64, counts.crossings]),
-            Err(refusal) => refusal.reply(),
+            Err(refusal) => refusal.into(),
         };
         assert_eq!((reply, plain), left, "{name}");
         left
@@ -1005,7 +1049,7 @@ mod tests {
                 listed_alike(floor.name, &floor.plan, listing)
             };
             for ceiling in [CEILING, floor.crossings - 1] {
-                let refused = (Refusal::Ceiling.reply(), table(&floor.plan));
+                let refused = (Refusal::Ceiling.into(), table(&floor.plan));
                 assert_eq!(up_to(ceiling), refused, "{}", floor.name);
             }
             let unlimited = listed_alike(floor.name, &floor.plan, floor.listing(None));
@@ -1062,7 +1106,7 @@ mod tests {
     #[test]
     fn the_mornings_are_listed_alike() {
         let floor = &floors()[0];
-        let (lists, stands) = (floor.plan.lists(), numbers(&floor.morning));
+        let (lists, stands) = (floor.plan.lists(), numbers(floor.morning()));
         let morning = Morning::under(0);
         let lent = || {
             (

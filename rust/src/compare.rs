@@ -172,7 +172,7 @@ impl Tally {
                 *count += 1;
             }
         }
-        let over = u64::from(Refusal::Ceiling.reply().number);
+        let over = u64::from(Refusal::Ceiling.number());
         let is_between = |stands: &[[u64; 3]]| stands.iter().map(|own| own[0]).eq([0, over, 0]);
         self.ceilings.between += u64::from(replies.windows(3).any(is_between));
         let crossings = replies.iter().map(|own| own[2]).sum();
@@ -268,7 +268,7 @@ impl fmt::Display for Tally {
         }
         writeln!(f, "cases {}", self.cases)?;
         writeln!(f, "rows {} crossings {}", self.rows, self.crossings)?;
-        let refused = Refusal::Overlap(0).reply().number as usize;
+        let refused = Refusal::Overlap(0).number() as usize;
         let overlaps = self.of_number(refused);
         writeln!(f, "cells that overlap: {overlaps} replies are {refused}")?;
         writeln!(f, "demand 2: {} directions", self.directions)?;
@@ -280,7 +280,7 @@ impl fmt::Display for Tally {
              a door there refused",
             sides.found, sides.directions, sides.changes, sides.own_doors
         )?;
-        let (reaches, refused) = (&self.reaches, Refusal::Reach.reply().number as usize);
+        let (reaches, refused) = (&self.reaches, Refusal::Reach.number() as usize);
         writeln!(
             f,
             "reach: {} queries state one; {} of the rows are out of it, and {} of the door changes \
@@ -296,7 +296,7 @@ impl fmt::Display for Tally {
             "with a longer reach: {} listings, {} of them with more crossings",
             reaches.longer, reaches.further
         )?;
-        let (ceilings, refused) = (&self.ceilings, Refusal::Ceiling.reply().number as usize);
+        let (ceilings, refused) = (&self.ceilings, Refusal::Ceiling.number() as usize);
         writeln!(
             f,
             "ceiling: {} listings and mornings have one; {} listings have just as many crossings, \
@@ -318,7 +318,7 @@ impl fmt::Display for Tally {
             ceilings.between,
             ceilings.in_all
         )?;
-        let (drawings, refused) = (&self.drawings, Refusal::Far.reply().number as usize);
+        let (drawings, refused) = (&self.drawings, Refusal::Far.number() as usize);
         writeln!(
             f,
             "drawings: {} have an offset of 0, {} reach as far as can be drawn, {} are drawn though a \

@@ -29,6 +29,7 @@ pub use stands::inside;
 
 use crate::calls::{Listing, Morning, Plan, Query, Reach, Stand, ROW};
 use crate::paper::{self, Direction, Floor, View, DOORS, MOST_INPUT, REACHES};
+use std::io::{self, Write};
 
 /// A plan seen from a stand under a setting, as far as a reach goes, with a door to
 /// be changed, and the stands of a morning there.
@@ -488,6 +489,16 @@ fn input(scene: &Scene, dice: &mut Dice) -> Vec<u8> {
     input
 }
 
+/// Writes the inputs of a seed's first cases, each after its length in four bytes.
+pub fn write_inputs(seed: u64, count: u64, out: &mut impl Write) -> io::Result<()> {
+    for number in 0..count {
+        let input = case(seed, number).input;
+        out.write_all(&(input.len() as u32).to_le_bytes())?;
+        out.write_all(&input)?;
+    }
+    Ok(())
+}
+
 /// The query record of the printing program.
 pub fn query_record(setting: u64, stand: Stand) -> Vec<u8> {
     let (kind, corner, x, y) = match stand {
@@ -657,7 +668,7 @@ mod tests {
                     at_edges += usize::from(plan.corners.iter().any(|n| n.abs() == edge));
                 }
                 Some(refusal) if Dice::for_case(8 ^ 1 << 60, number).percent(ON_TOP) => {
-                    damaged[refusal.reply().number as usize] += 1;
+                    damaged[refusal.number() as usize] += 1;
                 }
                 None => touching += usize::from(touches(&floor.expect("it is accepted"))),
                 _ => {}

@@ -3,9 +3,8 @@
 //! public calls, and benchmarks.
 //!
 //! The other implementor, the proved library behind its C interface, is the
-//! module `proved`. The build links the library's archive:
-//! `../target/staticlib/libexports.a`, which `compare.sh` has the kit make, or
-//! the one that `MANOPLUEA_ARCHIVE` names.
+//! module `proved`. The crate `manopluea` in the folder beside this one links the
+//! library's archive, which `compare.sh` has the kit make.
 
 pub mod bench;
 pub mod both;
@@ -15,7 +14,6 @@ pub mod compare;
 pub mod examples;
 pub mod generate;
 mod kit;
-pub mod library;
 pub mod paper;
 pub mod plain;
 pub mod program;

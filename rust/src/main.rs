@@ -1,16 +1,21 @@
 //! The commands: `compare SEED COUNT`, `self SEED COUNT`, `case LETTER`, `stack BYTES`, `bench`,
-//! `bench finding`, `bench drawing`.
+//! `bench finding`, `bench drawing`; and for other programs `floor NAME PLAN STANDS`, which writes
+//! a floor of the benchmark and the stands tried on it into two files, and
+//! `inputs SEED COUNT FILE`, which writes generated inputs of the printing program into one.
 
 use manopluea_compare::calls::Calls;
 use manopluea_compare::paper::Paper;
 use manopluea_compare::program::Program;
-use manopluea_compare::proved::Proved;
-use manopluea_compare::{bench, compare, examples, stack};
+use manopluea_compare::proved::{self, Proved};
+use manopluea_compare::{bench, compare, examples, generate, stack};
+use std::fs::{self, File};
+use std::io::{self, BufWriter, Write};
 use std::process::ExitCode;
 
 const USAGE: &str =
     "usage: manopluea-compare compare SEED COUNT | self SEED COUNT | case a..l | stack BYTES | bench \
-     [finding | drawing]";
+     [finding | drawing] | floor cathedral|corridor|largest|splitting PLAN STANDS | inputs SEED COUNT \
+     FILE";
 
 fn main() -> ExitCode {
     let arguments: Vec<String> = std::env::args().skip(1).collect();
@@ -23,6 +28,10 @@ fn main() -> ExitCode {
         ["bench"] => bench_proved(bench::report),
         ["bench", "finding"] => bench_proved(bench::report_finding),
         ["bench", "drawing"] => bench_proved(bench::report_drawing),
+        ["floor", name, plan, stands] => write_floor(name, plan, stands),
+        ["inputs", seed, count, file] => {
+            run(seed, count, |seed, count| write_inputs(seed, count, file))
+        }
         _ => Err(USAGE.to_string()),
     };
     match done {
@@ -34,7 +43,11 @@ fn main() -> ExitCode {
     }
 }
 
-fn run(seed: &str, count: &str, compare: fn(u64, u64) -> Result<(), String>) -> Result<(), String> {
+fn run(
+    seed: &str,
+    count: &str,
+    compare: impl FnOnce(u64, u64) -> Result<(), String>,
+) -> Result<(), String> {
     match (seed.parse(), count.parse()) {
         (Ok(_), Ok(0)) => Err("with no case there is nothing to compare".to_string()),
         (Ok(seed), Ok(count)) => compare(seed, count),
@@ -57,15 +70,32 @@ fn compare_with_proved(seed: u64, count: u64) -> Result<(), String> {
 }
 
 /// Times the proved library, where it is part of this program.
-#[cfg(linked)]
 fn bench_proved(report: fn(&dyn Calls) -> String) -> Result<(), String> {
+    if !proved::IS_LINKED {
+        let why = "this build has no proved library for the machine at hand: run bench.sh";
+        return Err(why.to_string());
+    }
     print!("{}", report(&Proved));
     Ok(())
 }
 
-#[cfg(not(linked))]
-fn bench_proved(_: fn(&dyn Calls) -> String) -> Result<(), String> {
-    Err("this build has no proved library for the machine at hand: run bench.sh".to_string())
+fn write_floor(name: &str, plan: &str, stands: &str) -> Result<(), String> {
+    let (file, csv) = bench::files(name).ok_or(USAGE)?;
+    fs::write(plan, file).map_err(|fault| not_written(plan, &fault))?;
+    fs::write(stands, csv).map_err(|fault| not_written(stands, &fault))
+}
+
+fn write_inputs(seed: u64, count: u64, path: &str) -> Result<(), String> {
+    let written = File::create(path).and_then(|file| {
+        let mut file = BufWriter::new(file);
+        generate::write_inputs(seed, count, &mut file)?;
+        file.flush()
+    });
+    written.map_err(|fault| not_written(path, &fault))
+}
+
+fn not_written(path: &str, fault: &io::Error) -> String {
+    format!("{path} is not written: {fault}")
 }
 
 /// Puts the paper program to itself: what this tests is the generator, and

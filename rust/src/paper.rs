@@ -23,8 +23,8 @@ mod stand;
 
 pub use drawing::{limits, Offset, MOST_OFFSET};
 pub use file::{decode, encode, take_record};
-pub use morning::{stand_of, MOST_STANDS};
-pub use plan::{cut_cells, Cell, Floor, Point, CELLS, COORDINATES, CORNERS, DOORS, SIDES, WALL};
+pub use morning::stand_of;
+pub use plan::{cut_cells, Cell, Floor, Point, CELLS, COORDINATES, CORNERS, DOORS, SIDES};
 pub use printing::{print, query, MOST_INPUT};
 pub use reach::{SquaredDistance, REACHES};
 pub use runs::change_by_runs;
@@ -271,6 +271,6 @@ fn counts(floor: &Floor) -> Values {
 pub(crate) fn reply(result: Result<Values, Refusal>) -> Reply {
     match result {
         Ok(values) => Reply::done(values),
-        Err(refusal) => refusal.reply(),
+        Err(refusal) => refusal.into(),
     }
 }

@@ -10,12 +10,10 @@
 //! library to.
 
 use crate::calls::{
-    DoorChange, Listing, Lists, Morning, Query, Reach, Refusal, Stand, DRAWN, POLYGONS, ROW,
-    TRIANGLES,
+    DoorChange, Listing, Lists, Morning, Query, Reach, Refusal, Stand, DRAWN, MOST_STANDS,
+    POLYGONS, ROW, TRIANGLES, WALL,
 };
-use crate::paper::{
-    stand_of, CELLS, COORDINATES, CORNERS, DOORS, MOST_OFFSET, MOST_STANDS, REACHES, SIDES, WALL,
-};
+use crate::paper::{stand_of, CELLS, COORDINATES, CORNERS, DOORS, MOST_OFFSET, REACHES, SIDES};
 use std::ops::Range;
 
 /// Lists that are cut into corners, cells and doors.
@@ -215,7 +213,7 @@ pub fn list_stands(
                 sums.crossings += counts.crossings;
                 [0, counts.rows as u64, counts.crossings]
             }
-            Err(refusal) => [refusal.reply().number.into(), 0, 0],
+            Err(refusal) => [refusal.number().into(), 0, 0],
         };
     }
     Ok(sums)

@@ -3,38 +3,27 @@
 
 // Where the archive is not made for the machine at hand, its functions run in a
 // process of their own, under an emulator. Both modules have the same functions.
-#[cfg(linked)]
+#[cfg(any(target_arch = "x86_64", feature = "native"))]
 #[path = "proved/linked.rs"]
 mod c;
-#[cfg(not(linked))]
+#[cfg(not(any(target_arch = "x86_64", feature = "native")))]
 #[path = "proved/piped.rs"]
 mod c;
 
-pub use c::on_stack;
+pub use c::{on_stack, IS_LINKED};
 
-use crate::calls::{Calls, DoorChange, Listing, Lists, Morning, Query, Reply, Stand};
+use crate::calls::{
+    Calls, DoorChange, Listing, Lists, Morning, Query, Reply, Stand, MOST_TEXT, REPLY,
+};
 
 /// The proved library.
 pub struct Proved;
 
-/// A text of so many bytes has room for everything that is printed: the
-/// header's MANOPLUEA_TEXT.
-pub const MOST_TEXT: usize = 49_216;
-
 /// What a text holds before a call: no byte that is ever printed.
 const UNPRINTED: u8 = 0xa5;
 
-/// How many numbers a reply has: the header's MANOPLUEA_REPLY.
-pub const REPLY: usize = 7;
-
 /// The seven numbers before a call: every one of them has to be written.
 const UNWRITTEN: [u64; REPLY] = [u64::MAX; REPLY];
-
-/// The number of a ceiling that passes to C. Where there is none it means nothing
-/// there, and is the one that would refuse most if it did.
-fn number_of(ceiling: Option<u64>) -> u64 {
-    ceiling.unwrap_or(0)
-}
 
 /// What a function put there, as a reply.
 fn reply([number, place, values @ ..]: [u64; REPLY]) -> Reply {

@@ -7,10 +7,11 @@
 //! ends the process.
 
 use crate::calls::{
-    Calls, DoorChange, Listing, Morning, Plan, Query, Reach, Stand, DRAWN, POINT, ROW,
+    Calls, DoorChange, Listing, Morning, Plan, Query, Reach, Stand, DRAWN, MOST_STANDS, POINT, ROW,
+    WALL,
 };
 use crate::generate::{self, in_other_kind, query_record, spot_at, steps_between, Spot};
-use crate::paper::{self, Floor, Paper, Place, View, DOORS, MOST_STANDS, REACHES, WALL};
+use crate::paper::{self, Floor, Paper, Place, View, DOORS, REACHES};
 use crate::proved::{on_stack, Proved};
 
 /// Asks each function, and compares with the paper program.

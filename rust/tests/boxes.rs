@@ -7,11 +7,10 @@
 use manopluea_compare::both::{both, list, list_stands, room};
 use manopluea_compare::brute::{cross, minus};
 use manopluea_compare::calls::{
-    DoorChange, Morning, Plan, Query, Reply, Stand, POLYGONS, TRIANGLES,
+    DoorChange, Morning, Plan, Query, Reply, Stand, POLYGONS, TRIANGLES, WALL,
 };
 use manopluea_compare::examples::{one_cell, polygons, row_of_cells, widest};
 use manopluea_compare::generate::in_other_kind;
-use manopluea_compare::paper::WALL;
 use manopluea_compare::plain::{self, Footing};
 
 /// The end of the coordinate range.
@@ -39,7 +38,7 @@ fn found(plan: &Plan, setting: u64, stand: Stand) -> Reply {
     let in_plain_rust = match plain::find(plan.lists(), setting, stand) {
         Ok(Footing::Inside { cell }) => inside(cell as u64),
         Ok(Footing::Side { cell, side }) => within(cell as u64, side as u64),
-        Err(refusal) => refusal.reply(),
+        Err(refusal) => refusal.into(),
     };
     assert_eq!(in_plain_rust, reply, "plain Rust, {stand:?}");
     reply

@@ -231,13 +231,13 @@ fn every_other_refusal_comes_before_the_ceiling() {
                 assert!(table.iter().all(|&number| number == FILL.into()));
                 reply
             });
-            assert_eq!(reply, expected.reply(), "{ceiling:?}");
+            assert_eq!(reply, Reply::from(expected), "{ceiling:?}");
         }
     }
     // And the ceiling itself, which has no place.
     let reply = both(|calls| calls.list(plan.lists(), up_to(0, from(6, 3)), &mut [0; 16]));
     assert_eq!(reply, Reply::refused(19, 0));
-    assert_eq!(reply.answer(), Err(Refusal::Ceiling));
+    assert_eq!(reply, Reply::from(Refusal::Ceiling));
 }
 
 /// Fewer lines are crossed where fewer are in reach. In the row of cells the doors are 5,

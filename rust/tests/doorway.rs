@@ -3,9 +3,9 @@
 //! stated, and no ceiling.
 
 use manopluea_compare::brute::{cross, first_met, minus, Spot};
-use manopluea_compare::calls::{DoorChange, Plan, Query, Reply, Stand, ROW};
+use manopluea_compare::calls::{DoorChange, Plan, Query, Reply, Stand, ROW, WALL};
 use manopluea_compare::generate::{self, Dice, Lines, Merged, Scene};
-use manopluea_compare::paper::{self, Direction, Floor, Place, Row, View, WALL};
+use manopluea_compare::paper::{self, Direction, Floor, Place, Row, View};
 
 /// A face of a checked plan, with all that the words ask about it.
 struct Face {

@@ -4,13 +4,13 @@
 
 use manopluea_compare::both::{both, draw, drawn, list, DrawnRow, SINGLES};
 use manopluea_compare::calls::{
-    Calls, Plan, Query, Reach, Refusal, Reply, Stand, DRAWN, POLYGONS, ROW,
+    Calls, Plan, Query, Reach, Refusal, Reply, Stand, DRAWN, POLYGONS, ROW, WALL,
 };
 use manopluea_compare::examples::{
     self, one_cell, plan_q, plan_q_and, plan_q_as_one_cell, row_of_cells, widest, Expected,
 };
 use manopluea_compare::generate::{self, in_other_kind, OCTAGON};
-use manopluea_compare::paper::{Paper, WALL};
+use manopluea_compare::paper::Paper;
 use std::collections::BTreeSet;
 
 /// As far as can be drawn, in x and in y.
@@ -432,13 +432,13 @@ fn every_other_refusal_comes_before_far() {
             });
             let is_short = expected == Refusal::Far && room == 0;
             let expected = if is_short { Refusal::Room } else { expected };
-            assert_eq!(reply, expected.reply(), "{query:?}");
+            assert_eq!(reply, Reply::from(expected), "{query:?}");
         }
     }
     // It has no place and no values.
     let reply = both(|calls| calls.draw(far().lists(), inside, &mut [0.0; 16]));
     assert_eq!(reply, Reply::refused(14, 0));
-    assert_eq!(reply.answer(), Err(Refusal::Far));
+    assert_eq!(reply, Reply::from(Refusal::Far));
 }
 
 /// How often drawings of a run came up.

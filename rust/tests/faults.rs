@@ -3,14 +3,14 @@
 //! find every one of them.
 
 use manopluea_compare::calls::{
-    Calls, DoorChange, Listing, Lists, Morning, Plan, Query, Reach, Reply, Stand, DRAWN, POINT,
-    POLYGONS, ROW, TRIANGLES,
+    Calls, DoorChange, Listing, Lists, Morning, Plan, Query, Reach, Reply, Stand, DRAWN,
+    MOST_STANDS, POINT, POLYGONS, ROW, TRIANGLES, WALL,
 };
 use manopluea_compare::compare::{compare, compare_program, Asked, Mismatch, Trial};
 use manopluea_compare::generate::in_other_kind;
 use manopluea_compare::paper::{
     self, cut_cells, is_within, millimetres, Cell, Floor, Line, Offset, Paper, Place, Point, Row,
-    View, CELLS, CORNERS, DOORS, MOST_OFFSET, MOST_STANDS, REACHES, WALL,
+    View, CELLS, CORNERS, DOORS, MOST_OFFSET, REACHES,
 };
 
 /// The enum of the faults, the list of all of them, those in the expansion, those in
@@ -1305,7 +1305,7 @@ fn found_by(
         return Some((q, found_by_boxes(slip, &floor, &across, q)));
     }
     let truth = View::new(&floor, Query::without_reach(setting, stand));
-    let is_on_border = matches!(&truth, Err(refusal) if refusal.reply().number == 9);
+    let is_on_border = matches!(&truth, Err(refusal) if refusal.number() == 9);
     let is_found = |face: &u16| {
         let [a, b] = floor.ends(*face).map(|corner| floor.corner(corner));
         let turn = i128::from(b.x - a.x) * i128::from(q.y - a.y)

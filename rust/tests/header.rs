@@ -1,13 +1,15 @@
 //! The numbers of `include/manopluea.h` are those of the documents, and its stack
 //! is enough for every function.
 
-use manopluea_compare::calls::{Query, Refusal, Stand, POINT, POLYGONS, TRIANGLES};
+use manopluea::STACK;
+use manopluea_compare::calls::{
+    Query, Refusal, Reply, Stand, MOST_STANDS, MOST_TEXT, POINT, POLYGONS, REPLY, TRIANGLES, WALL,
+};
 use manopluea_compare::generate::{self, in_other_kind};
 use manopluea_compare::paper::{
     self, encode, Direction, Floor, Place, View, CELLS, COORDINATES, CORNERS, DOORS, MOST_INPUT,
-    MOST_OFFSET, MOST_STANDS, REACHES, SIDES, WALL,
+    MOST_OFFSET, REACHES, SIDES,
 };
-use manopluea_compare::proved::{MOST_TEXT, REPLY};
 use manopluea_compare::stack::doorway;
 use std::process::{Command, Output};
 
@@ -50,6 +52,7 @@ fn the_limits() {
     assert_eq!(defined("LEAST_REACH"), *REACHES.start() as i64);
     assert_eq!(defined("MOST_REACH"), *REACHES.end() as i64);
     assert_eq!(defined("MOST_OFFSET"), MOST_OFFSET);
+    assert_eq!(defined("STACK"), STACK as i64);
 }
 
 /// No list could be longer, and only because its cells overlap is the plan refused.
@@ -65,7 +68,7 @@ fn the_largest_file() {
     assert_eq!(counts, [CORNERS, CELLS, DOORS].map(|counts| *counts.end()));
     assert_eq!(longest.cells.len(), (1 + 2 * SIDES.end()) * CELLS.end());
     let refused = paper::check(longest.lists());
-    assert_eq!(refused, Refusal::Overlap(0).reply());
+    assert_eq!(refused, Reply::from(Refusal::Overlap(0)));
     let most = encode(longest.lists()).len() as i64;
     assert_eq!(defined("MOST_FILE"), most);
 }
@@ -105,7 +108,7 @@ fn the_reply_numbers() {
     ];
     let expected = refusals.map(|refusal| {
         let name = format!("{refusal:?}").replace("(0)", "").to_uppercase();
-        format!("{name} = {}", refusal.reply().number)
+        format!("{name} = {}", refusal.number())
     });
     let listed: Vec<&str> = HEADER
         .lines()

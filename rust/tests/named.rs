@@ -4,7 +4,7 @@
 
 use manopluea_compare::both::{both, FILL};
 use manopluea_compare::calls::{
-    DoorChange, Lists, Morning, Plan, Query, Reply, Stand, POINT, POLYGONS, ROW, TRIANGLES,
+    DoorChange, Lists, Morning, Plan, Query, Reply, Stand, POINT, POLYGONS, ROW, TRIANGLES, WALL,
 };
 use manopluea_compare::examples::{
     all, hall, one_cell, plan_q, plan_q_as_one_cell, polygons, row_of_cells, widest, Example,
@@ -12,7 +12,7 @@ use manopluea_compare::examples::{
 use manopluea_compare::generate::{
     fullest, in_other_kind, largest, longest_fans, longest_lists, most_splits, query_record, Dice,
 };
-use manopluea_compare::paper::{cut_cells, encode, WALL};
+use manopluea_compare::paper::{cut_cells, encode};
 
 /// The end of the coordinate range.
 const LIMIT: i32 = 536_870_912;

@@ -6,11 +6,11 @@ use manopluea_compare::both::{both, room, FILL};
 use manopluea_compare::brute::{self, overlap};
 use manopluea_compare::calls::{
     Calls, DoorChange, Listing, Morning, Plan, Query, Reach, Refusal, Reply, Stand, POINT,
-    TRIANGLES,
+    TRIANGLES, WALL,
 };
 use manopluea_compare::examples::{plan_q, plan_q_and, polygons, row_of_cells, widest};
 use manopluea_compare::generate::{self, in_other_kind, query_record, OCTAGON};
-use manopluea_compare::paper::{self, encode, Floor, WALL};
+use manopluea_compare::paper::{self, encode, Floor};
 
 /// The end of the coordinate range.
 const LIMIT: i32 = 536_870_912;
@@ -582,7 +582,7 @@ fn the_stands_of_a_morning() {
     assert_eq!(reply(&[POINT; 96]), Reply::refused(17, 1));
     assert_eq!(reply(&[POINT; 99]), Reply::refused(2, 0));
     assert_eq!(reply(&[POINT; 2]), Reply::refused(1, 0));
-    assert_eq!(reply(&[]).answer(), Err(Refusal::Overlap(1)));
+    assert_eq!(reply(&[]), Reply::from(Refusal::Overlap(1)));
 }
 
 /// Of any two cells that agree along their lines, by brute force: refused exactly if some

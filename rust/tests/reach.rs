@@ -6,12 +6,14 @@ use manopluea_compare::both::{
     self, both, list_each, list_stands, listed, refused_as_ever, room, Listed,
 };
 use manopluea_compare::brute::{cross, dot, first_met, minus, Spot};
-use manopluea_compare::calls::{DoorChange, Morning, Plan, Query, Reach, Reply, Stand, POLYGONS};
+use manopluea_compare::calls::{
+    DoorChange, Morning, Plan, Query, Reach, Reply, Stand, POLYGONS, WALL,
+};
 use manopluea_compare::examples::{
     hall, one_cell, plan_q, plan_q_as_one_cell, row_of_cells, widest, STANDS_IN_Q,
 };
 use manopluea_compare::generate::{self, in_other_kind, query_record, Dice, Scene, OCTAGON};
-use manopluea_compare::paper::{encode, Direction, Floor, Place, Row, View, WALL};
+use manopluea_compare::paper::{encode, Direction, Floor, Place, Row, View};
 
 /// The end of the coordinate range.
 const LIMIT: i32 = 536_870_912;

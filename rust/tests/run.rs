@@ -1,9 +1,9 @@
 //! Seeded runs of the paper program against itself and the demands.
 
-use manopluea_compare::calls::{Query, Stand, TRIANGLES};
+use manopluea_compare::calls::{Query, Stand, TRIANGLES, WALL};
 use manopluea_compare::compare::{compare, Tally, NUMBERS};
 use manopluea_compare::generate::{self, Dice, Merged};
-use manopluea_compare::paper::{change_by_runs, Floor, Line, Paper, Place, Row, View, WALL};
+use manopluea_compare::paper::{change_by_runs, Floor, Line, Paper, Place, Row, View};
 
 fn run(seed: u64, count: u64) -> Tally {
     compare(&Paper, &Paper, seed, count).unwrap_or_else(|mismatch| panic!("{mismatch}"))

@@ -1,9 +1,9 @@
 //! Making a failing trial smaller while it still fails.
 
 use super::{Asked, AskedOfBytes, Trial};
-use crate::calls::{Plan, Reach, Stand, POINT, POLYGONS};
+use crate::calls::{Plan, Reach, Stand, POINT, POLYGONS, WALL};
 use crate::generate::{in_other_kind, query_record, Ceiling, Given, Room, Scene};
-use crate::paper::{self, cut_cells, Cell, SIDES, WALL};
+use crate::paper::{self, cut_cells, Cell, SIDES};
 
 /// A trial that fails is run again so often at most.
 const MOST_RUNS: usize = 40_000;

@@ -382,7 +382,7 @@ fn up_to(
     let (Reply { number, values, .. }, _) = all;
     let [_, crossings, ..] = values;
     let expected = if number == 0 && crossings > most {
-        (Refusal::Ceiling.reply(), lent_for_listing(scene, room))
+        (Refusal::Ceiling.into(), lent_for_listing(scene, room))
     } else {
         all
     };
@@ -393,7 +393,7 @@ fn up_to(
         ceilings.one_more += u64::from(crossings.checked_sub(1) == Some(most));
         ceilings.one_fewer += u64::from(crossings + 1 == most);
     }
-    if number == 0 && crossings > most || number == Refusal::Room.reply().number {
+    if number == 0 && crossings > most || number == Refusal::Room.number() {
         count_exceeding(scene, most, number == 0, ceilings)?;
     }
     Ok(())
@@ -430,7 +430,7 @@ fn drawn(
     let (reply, table) = both.ask(|calls| list(calls, scene, listing, room))?;
     let mut offsets = lent_singles(room.length(offsets_asked(scene)));
     let refused = reply.number;
-    if refused == 0 || refused == Refusal::Room.reply().number {
+    if refused == 0 || refused == Refusal::Room.number() {
         let floor = Floor::check(scene.plan.lists()).map_err(wrongly_listed)?;
         let view = View::new(&floor, scene.query()).map_err(wrongly_listed)?;
         count_drawing(&floor, &view, refused == 0, &mut tally.drawings);
@@ -439,7 +439,7 @@ fn drawn(
         let limits = rows.iter().flat_map(|&row| paper::limits(&floor, q, row));
         let limits: Vec<Offset> = limits.collect();
         if limits.iter().any(|limit| limit.is_far()) {
-            return same(left, (Refusal::Far.reply(), offsets)).map(drop);
+            return same(left, (Refusal::Far.into(), offsets)).map(drop);
         }
         let singles = limits.iter().flat_map(|limit| [limit.x, limit.y]);
         let bits: Vec<u32> = singles.map(single_bits).collect();
@@ -527,7 +527,7 @@ fn single_call(
     morning: Morning,
     numbers: [f64; 3],
 ) -> Result<Listed, u32> {
-    let stand = paper::stand_of(numbers).ok_or(Refusal::Stand.reply().number)?;
+    let stand = paper::stand_of(numbers).ok_or(Refusal::Stand.number())?;
     listed_of(list(calls, scene, morning.listing(stand), Room::Exact))
 }
 
@@ -673,7 +673,7 @@ fn demand_3(scene: &Scene, both: Both<'_>, tally: &mut Tally) -> Outcome {
     let floor = Floor::check(scene.plan.lists()).map_err(wrongly_listed)?;
     let old = View::new(&floor, scene.query()).map_err(wrongly_listed)?;
     if old.is_in_doorway(scene.door) {
-        let refused = Err(Refusal::Line.reply().number);
+        let refused = Err(Refusal::Line.number());
         same(change_to(shut)?, refused.clone()).map(drop)?;
         same(change_to(!shut)?, refused).map(drop)?;
         tally.sides.own_doors += 1;

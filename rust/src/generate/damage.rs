@@ -2,8 +2,8 @@
 
 use super::dice::Dice;
 use super::floors::greatest_divisor;
-use crate::calls::{Plan, POLYGONS, TRIANGLES};
-use crate::paper::{cut_cells, CELLS, COORDINATES, CORNERS, DOORS, SIDES, WALL};
+use crate::calls::{Plan, POLYGONS, TRIANGLES, WALL};
+use crate::paper::{cut_cells, CELLS, COORDINATES, CORNERS, DOORS, SIDES};
 
 /// Damages a plan in one way, now and then in two.
 pub fn damage_plan(plan: &mut Plan, dice: &mut Dice) {

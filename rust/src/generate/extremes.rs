@@ -4,8 +4,8 @@
 
 use super::floors::OCTAGON;
 use super::mesh::Spot;
-use crate::calls::{Plan, POLYGONS};
-use crate::paper::{Cell, CELLS, CORNERS, DOORS, WALL};
+use crate::calls::{Plan, POLYGONS, WALL};
+use crate::paper::{Cell, CELLS, CORNERS, DOORS};
 
 /// A plan whose lists are as long as they can be: pairs of octagons side by side
 /// with a line between them, every pair in the same place. So it is refused, and for

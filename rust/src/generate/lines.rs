@@ -5,8 +5,8 @@ use super::dice::Dice;
 use super::floors::{spot_at, spot_between};
 use super::mesh::{side_value, Spot};
 use super::reaches;
-use crate::calls::Plan;
-use crate::paper::{cut_cells, SIDES, WALL};
+use crate::calls::{Plan, WALL};
+use crate::paper::{cut_cells, SIDES};
 
 /// The lines of a plan that passes the check.
 pub struct Lines {

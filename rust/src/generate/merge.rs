@@ -3,8 +3,8 @@
 
 use super::dice::Dice;
 use super::mesh::{side_value, Mesh};
-use crate::calls::{Plan, POLYGONS, TRIANGLES};
-use crate::paper::{cut_cells, Cell, SIDES, WALL};
+use crate::calls::{Plan, POLYGONS, TRIANGLES, WALL};
+use crate::paper::{cut_cells, Cell, SIDES};
 
 /// A floor whose cells are made of one or more triangles of a mesh.
 pub struct Merged<'a> {

@@ -5,8 +5,8 @@
 //! cells overlap it keeps that too, but for a cell that is added.
 
 use super::dice::Dice;
-use crate::calls::{Plan, Refusal, TRIANGLES};
-use crate::paper::{Floor, WALL};
+use crate::calls::{Plan, Refusal, TRIANGLES, WALL};
+use crate::paper::Floor;
 
 pub type Spot = [i64; 2];
 

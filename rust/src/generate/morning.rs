@@ -3,8 +3,7 @@
 use super::dice::Dice;
 use super::mesh::{Mesh, Spot};
 use super::stands::{as_stand, inside, mapped_numbers, on_border, random as random_stand};
-use crate::calls::{Stand, POINT};
-use crate::paper::MOST_STANDS;
+use crate::calls::{Stand, MOST_STANDS, POINT};
 
 /// A floor of more cells is a large one: each of its stands takes long.
 const LARGE: usize = 400;

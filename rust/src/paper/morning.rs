@@ -2,10 +2,7 @@
 
 use super::plan::Floor;
 use super::sight::{Listed, Row, View};
-use crate::calls::{Lists, Morning, Refusal, Stand, POINT, ROW};
-
-/// A crew plans up to so many stands.
-pub const MOST_STANDS: usize = 32;
+use crate::calls::{Lists, Morning, Refusal, Stand, MOST_STANDS, POINT, ROW};
 
 /// What each stand of a morning is answered: its listing, or its refusal.
 pub struct Answers(Vec<Result<Listed, Refusal>>);
@@ -46,7 +43,7 @@ impl Answers {
     pub fn replies(&self) -> Vec<[u64; 3]> {
         let own = |answer: &Result<Listed, Refusal>| match answer {
             Ok(listing) => [0, listing.rows.len() as u64, listing.crossings],
-            Err(refusal) => [refusal.reply().number.into(), 0, 0],
+            Err(refusal) => [refusal.number().into(), 0, 0],
         };
         self.0.iter().map(own).collect()
     }
@@ -65,7 +62,7 @@ fn cut(list: &[f64]) -> Result<&[[f64; 3]], Refusal> {
 fn lowest<A, B>(a: Result<A, Refusal>, b: Result<B, Refusal>) -> Result<(A, B), Refusal> {
     match (a, b) {
         (Ok(a), Ok(b)) => Ok((a, b)),
-        (Err(a), Err(b)) if b.reply().number < a.reply().number => Err(b),
+        (Err(a), Err(b)) if b.number() < a.number() => Err(b),
         (Err(refusal), _) | (_, Err(refusal)) => Err(refusal),
     }
 }

@@ -173,9 +173,10 @@ impl Straight {
 mod tests {
     use super::*;
     use crate::brute;
+    use crate::calls::WALL;
     use crate::examples::polygons;
     use crate::generate::Dice;
-    use crate::paper::{COORDINATES, WALL};
+    use crate::paper::COORDINATES;
 
     /// A convex cell of 3 to 8 corners: what some random spots span.
     fn convex(size: i32, dice: &mut Dice) -> Vec<[i32; 2]> {

@@ -2,7 +2,7 @@
 //! cells of a list, and the check, which turns the lists into a floor.
 
 use super::overlap::least_overlapping;
-use crate::calls::{Lists, Refusal, POLYGONS, TRIANGLES};
+use crate::calls::{Lists, Refusal, POLYGONS, TRIANGLES, WALL};
 use std::borrow::Cow;
 use std::ops::{Range, RangeInclusive};
 
@@ -13,9 +13,6 @@ pub const COORDINATES: RangeInclusive<i64> = -(1 << 29)..=1 << 29;
 
 /// How many corners a cell has, and so how many sides.
 pub const SIDES: RangeInclusive<usize> = 3..=8;
-
-/// The neighbour number, and here also the opposite face, that means wall.
-pub const WALL: u16 = u16::MAX;
 
 /// A point of the floor in whole millimetres.
 #[derive(Clone, Copy, Debug, PartialEq, Eq, PartialOrd, Ord)]

@@ -3,7 +3,7 @@
 use super::file::{decode, take_record};
 use super::plan::Floor;
 use super::sight::{Listed, View};
-use crate::calls::{Query, Refusal, Stand};
+use crate::calls::{Query, Refusal, Reply, Stand};
 use std::fmt::Write;
 
 /// Longer input is refused by SIZE, unread.
@@ -14,8 +14,8 @@ pub fn print(input: &[u8]) -> Vec<u8> {
     let text = match answer(input) {
         Ok(listing) => listing_text(&listing),
         Err(refusal) => {
-            let reply = refusal.reply();
-            format!("refused {} {}\n", reply.number, reply.place)
+            let Reply { number, place, .. } = refusal.into();
+            format!("refused {number} {place}\n")
         }
     };
     text.into_bytes()

@@ -1,10 +1,10 @@
 //! "Expansion" and "Walk": what is seen from a stand under a setting, as far as the
 //! reach goes.
 
-use super::plan::{product, side_value, Floor, Point, WALL};
+use super::plan::{product, side_value, Floor, Point};
 use super::reach::{self, SquaredDistance};
 use super::stand::{self, Place};
-use crate::calls::{Query, Reach, Refusal, Stand, ROW};
+use crate::calls::{Query, Reach, Refusal, Stand, ROW, WALL};
 
 /// A line as it is handed on: face, right limit, left limit.
 pub type Line = [u16; 3];

@@ -1,8 +1,8 @@
 //! "The stand": from doubles to whole millimetres, and to the cell, or with
 //! request A4 of document 02 to the side.
 
-use super::plan::{side_value, Floor, Point, COORDINATES, WALL};
-use crate::calls::{Refusal, Stand};
+use super::plan::{side_value, Floor, Point, COORDINATES};
+use crate::calls::{Refusal, Stand, WALL};
 
 /// The stand in whole millimetres, within the coordinate limits.
 pub fn millimetres(floor: &Floor, stand: Stand) -> Result<Point, Refusal> {

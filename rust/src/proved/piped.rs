@@ -2,12 +2,14 @@
 //! pointers and lengths: on a machine that the archive is not made for,
 //! `bridge/serve.c` is linked with it and runs under the kit's emulator.
 
-use super::number_of;
 use crate::calls::{DoorChange, Listing, Lists, Morning, Query, Stand};
 use std::cell::Cell;
 use std::io::{Read, Write};
 use std::process::{Child, ChildStdin, ChildStdout, Command, Stdio};
 use std::sync::{Mutex, MutexGuard, PoisonError};
+
+/// The archive is part of another program.
+pub const IS_LINKED: bool = false;
 
 /// The functions, as `bridge/serve.c` numbers them.
 #[derive(Clone, Copy)]
@@ -217,6 +219,12 @@ pub fn on_stack<T: Send>(bytes: usize, ask: impl FnOnce() -> T + Send) -> T {
     let answer = ask();
     OWN.set(None);
     answer
+}
+
+/// The number of a ceiling that passes to C. Where there is none it means nothing
+/// there, and is the one that would refuse most if it did.
+fn number_of(ceiling: Option<u64>) -> u64 {
+    ceiling.unwrap_or(0)
 }
 
 /// Checks that a call left the lists of the plan alone.
