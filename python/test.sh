@@ -7,17 +7,16 @@ cd "$(dirname "$0")/.."
 . rust/proved.sh
 bash python/build.sh
 make_program
+make_shipped # the comparison program is not built without it
 made=$PWD/target/python
 mkdir -p "$made"
-cd rust
-for asked in "inputs 1 3000 $made/inputs" "floor cathedral $made/cathedral.plan $made/cathedral.csv"; do
-    # shellcheck disable=SC2086
-    cargo run --quiet --release -- $asked
-done
-cd ../python/tests
-export MANOPLUEA_INPUTS=$made/inputs MANOPLUEA_CATHEDRAL=$made/cathedral.plan MANOPLUEA_PRINT PYTHONPATH=..
-MANOPLUEA_PRINT=${program[*]@Q}
+compare() { cargo run --quiet --release --manifest-path rust/Cargo.toml -- "$@"; }
+compare inputs 1 3000 "$made/inputs"
+compare floor cathedral "$made/cathedral.plan" "$made/cathedral.csv"
+export MANOPLUEA_INPUTS=$made/inputs MANOPLUEA_CATHEDRAL=$made/cathedral.plan MANOPLUEA_PRINT=${program[*]@Q}
+export PYTHONPATH=..
 unset MANOPLUEA_LIBRARY
+cd python/tests
 for interpreter in "${@:-python3}"; do
     "$interpreter" -W error -m unittest --quiet
 done

@@ -4,14 +4,4 @@
 set -eu
 cd "$(dirname "$0")/.."
 . rust/proved.sh
-make_native >&2
-renew_for_cargo "$native_archive" rust/target/native
-# On x86-64 the archive that is shipped is linked, as for the comparison.
-linked=()
-if [ "$machine" != x86_64 ]; then
-    export MANOPLUEA_ARCHIVE=$PWD/$native_archive
-    linked=(--features native)
-fi
-cd rust
-# A folder of its own, so that the comparison's build is left as it is.
-cargo run --quiet --release --jobs 1 --target-dir target/native "${linked[@]}" -- bench "$@"
+run_native bench "$@"

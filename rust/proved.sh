@@ -73,6 +73,20 @@ renew_for_cargo() { # ARCHIVE FOLDER
     sha256sum "$1" >"$2/linked.of"
 }
 
+# The comparison program, linked to the archive for the machine at hand, in a folder of its own: what the comparison has
+# built is left as it is.
+run_native() { # WORDS..
+    make_native >&2 || return
+    renew_for_cargo "$native_archive" rust/target/native
+    local linked=()
+    if [ "$machine" != x86_64 ]; then
+        export MANOPLUEA_ARCHIVE=$PWD/$native_archive
+        linked=(--features native)
+    fi
+    cargo run --quiet --release --jobs 1 --manifest-path rust/Cargo.toml --target-dir rust/target/native \
+        "${linked[@]}" -- "$@"
+}
+
 # The kit's compiler makes one module of the proved library and has its clang compile it for x86-64. Here it is given a
 # clang that compiles the same module, with the same words otherwise, for the machine at hand.
 build_native() {
