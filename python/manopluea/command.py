@@ -3,6 +3,8 @@
 from __future__ import annotations
 
 import argparse
+import contextlib
+import io
 import os
 import re
 import sys
@@ -37,31 +39,44 @@ class _Failure(Exception):
 
 
 def main(argv: Optional[Sequence[str]] = None) -> int:
-    arguments = _parser().parse_args(argv)
+    if isinstance(sys.stdout, io.TextIOWrapper):
+        # A name that the terminal has no letters for is written in numbers.
+        sys.stdout.reconfigure(errors="backslashreplace")
     try:
-        status = arguments.run(arguments)
+        status = _run(argv)
         sys.stdout.flush()
         return status
-    except Refusal as refusal:
-        return _complain(refusal, _REFUSED)
-    except (_Failure, library.LibraryError) as failure:
-        return _complain(failure, _FAILED)
-    except KeyboardInterrupt:
-        return _complain("stopped", _FAILED)
     except OSError as fault:
-        # Each file that is opened here has a handler of its own, so this is standard output. What it still holds cannot
-        # be written, and Python would try once more.
+        # Every file has a handler of its own, so this is standard output. What it still holds cannot be written, and
+        # Python would try once more.
         os.dup2(os.open(os.devnull, os.O_WRONLY), sys.stdout.fileno())
-        return _complain(f"standard output: {fault.strerror}", _FAILED)
+        _complain(f"standard output: {fault.strerror}")
+        return _FAILED
 
 
-def _complain(what, status: int) -> int:
+def _run(argv: Optional[Sequence[str]]) -> int:
     try:
+        arguments = _parser().parse_args(argv)
+        return arguments.run(arguments)
+    except SystemExit as ended:  # argparse: usage, or help
+        return int(ended.code or 0)
+    except Refusal as refusal:
+        _complain(refusal)
+        return _REFUSED
+    except (_Failure, library.LibraryError) as failure:
+        _complain(failure)
+        return _FAILED
+    except KeyboardInterrupt:
+        _complain("stopped")
+        return _FAILED
+
+
+def _complain(what):
+    """Says it after what was printed before. That this could not be written is said at the end."""
+    with contextlib.suppress(OSError):
         sys.stdout.flush()
-    except OSError:
-        status = _FAILED
-    print(f"manopluea: {what}", file=sys.stderr)
-    return status
+    with contextlib.suppress(OSError):  # there is nowhere left to say it
+        print(f"manopluea: {what}", file=sys.stderr)
 
 
 def _parser() -> argparse.ArgumentParser:
@@ -121,8 +136,8 @@ def _parser() -> argparse.ArgumentParser:
 
 
 def _add_stand(parser):
-    parser.add_argument("x", metavar="X", type=_number, help="the stand, in whole millimetres")
-    parser.add_argument("y", metavar="Y", type=_number)
+    parser.add_argument("x", metavar="X", type=_typed(stands.number), help="the stand, in whole millimetres")
+    parser.add_argument("y", metavar="Y", type=_typed(stands.number))
     said = "X and Y are counted from this corner"
     parser.add_argument("--from-corner", metavar="N", type=_whole(65535), help=said)
 
@@ -169,13 +184,6 @@ def _whole(most: int):
 
 
 @_typed
-def _number(text: str):
-    value = stands.number(text)
-    library.double(value)
-    return value
-
-
-@_typed
 def _doors(text: str) -> FrozenSet[int]:
     return frozenset(stands.whole(door, 63) for door in text.split(","))
 
@@ -193,7 +201,12 @@ def _list(arguments) -> int:
         if arguments.rows:
             print(_printed(refusal), end="")
         raise
-    _show(arguments, plan, stand, shut, listing, f"from {stand}")
+    if arguments.rows:
+        print(listing, end="")
+    else:
+        print(f"from {stand}: {_counts(listing)}")
+        print(sheet.listing(plan, listing.rows, shut), end="")
+    _write_outputs(arguments, plan, stand, shut, listing)
     return _DONE
 
 
@@ -216,15 +229,8 @@ def _printed(refusal: Refusal) -> str:
     return f"refused {int(refusal.number)} {refusal.place}\n"
 
 
-def _show(arguments, plan: Plan, stand: Stand, shut, listing: Listing, head: str):
-    """Prints a list, and writes what else was asked for."""
-    if arguments.rows:
-        print(listing, end="")
-    else:
-        rows, crossings = words.count(len(listing.rows), "row"), words.count(listing.crossings, "crossing")
-        print(f"{head}: {rows}, {crossings}")
-        print(sheet.listing(plan, listing.rows, shut), end="")
-    _write_outputs(arguments, plan, stand, shut, listing)
+def _counts(listing: Listing) -> str:
+    return f"{words.count(len(listing.rows), 'row')}, {words.count(listing.crossings, 'crossing')}"
 
 
 def _write_outputs(arguments, plan: Plan, stand: Stand, shut, listing: Listing):
@@ -246,8 +252,7 @@ def _stands(arguments) -> int:
             print(f"{name} {stand}: refused {int(answer.number)}")
         else:
             views.append(picture.View(stand, answer, name))
-            rows, crossings = words.count(len(answer.rows), "row"), words.count(answer.crossings, "crossing")
-            print(f"{name} {stand}: {rows}, {crossings}")
+            print(f"{name} {stand}: {_counts(answer)}")
     lines = sheet.seen([(view.name, view.listing) for view in views])
     print(sheet.coverage(plan, lines, shut))
     print(sheet.stands(plan, lines, shut), end="")
@@ -256,7 +261,7 @@ def _stands(arguments) -> int:
     if arguments.svg is not None:
         _write(arguments.svg, picture.svg(plan, views, shut, arguments.reach))
     for said in refused:
-        _complain(said, _REFUSED)
+        _complain(said)
     return _REFUSED if refused else _DONE
 
 
@@ -281,29 +286,32 @@ def _named(paths: Sequence[str]) -> List[stands.Named]:
 def _change(arguments) -> int:
     plan, stand, before = Plan.read(_contents(arguments.plan)), _stand(arguments), arguments.shut
     if arguments.list is None:
-        given = list(plan.list(stand, before, arguments.reach).rows)
+        given: Sequence[Row] = plan.list(stand, before, arguments.reach).rows
     else:
         given = _given(arguments.list)
     door, to_shut = arguments.door, arguments.to_shut
     listing = plan.change(stand, given, door, to_shut, before, arguments.reach)
     after = before | {door} if to_shut else before - {door}
-    new = [row for row in listing.rows if row not in given]
-    gone = [row for row in given if row not in listing.rows]
-    state = "shut" if to_shut else "open"
-    head = f"from {stand} with door {door} {state}, {len(new)} new and {len(gone)} gone"
-    _show(arguments, plan, stand, after, listing, head)
-    if not arguments.rows:
+    if arguments.rows:
+        print(listing, end="")
+    else:
+        old, now = set(given), set(listing.rows)
+        new, gone = [row for row in listing.rows if row not in old], [row for row in given if row not in now]
+        state = f"{'shut' if to_shut else 'open'}, {len(new)} new and {len(gone)} gone"
+        print(f"from {stand} with door {door} {state}: {_counts(listing)}")
+        print(sheet.listing(plan, listing.rows, after), end="")
         for said, rows, shut in (("new", new, after), ("gone", gone, before)):
             if rows:
                 print(f"{said}:")
                 print(sheet.listing(plan, rows, shut), end="")
+    _write_outputs(arguments, plan, stand, after, listing)
     return _DONE
 
 
 def _given(path: str) -> List[Row]:
     """A list as --rows prints it."""
     first, *lines = _contents(path).decode("ascii", "replace").splitlines() or [""]
-    head = re.fullmatch(r"rows (\d+) crossings \d+", first)
+    head = re.fullmatch(r"rows (\d{1,9}) crossings \d+", first)
     if head is None:
         raise _Failure(f"{path}: line 1 is not the first of a list as --rows prints it")
     rows = []

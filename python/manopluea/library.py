@@ -12,7 +12,7 @@ import functools
 import math
 import os
 import pathlib
-from typing import Iterable, NamedTuple, Tuple
+from typing import Dict, Iterable, NamedTuple, Tuple
 
 I32, U16, U64, U8 = ctypes.c_int32, ctypes.c_uint16, ctypes.c_uint64, ctypes.c_uint8
 F64, F32, BOOL, SIZE = ctypes.c_double, ctypes.c_float, ctypes.c_bool, ctypes.c_size_t
@@ -41,12 +41,12 @@ def _list(number):
 
 
 _PLAN = [*_list(I32), *_list(U16), *_list(U16), U16]
-_STANDS = {"point": [F64, F64], "offset": [U16, F64, F64]}
+_STANDS: Dict[str, list] = {"point": [F64, F64], "offset": [U16, F64, F64]}
 _OPTION = [BOOL, U64]  # a reach or a ceiling: whether it is stated, and which
 _GIVEN = [*_list(U16), SIZE, BOOL]  # of a door change: the true list, the door, and whether it is to be shut
 
 #: What each function takes before its reply.
-_FUNCTIONS = {
+_FUNCTIONS: Dict[str, list] = {
     "check": _PLAN,
     "read": [*_list(U8), *_list(I32), *_list(U16), *_list(U16)],
     "write": [*_PLAN, *_list(U8)],

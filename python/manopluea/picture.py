@@ -23,7 +23,8 @@ _LONGER, _SHORTER, _MOST, _MARGIN = 1000, 60, 4000, 30
 #: In pixels: what lies below the plan has so much room, and is so wide.
 _LEGEND = 640, 70
 
-_BLUE, _GREEN, _RED, _GREY, _PALE, _FAINT = "#1f5fd0", "#14913a", "#d7191c", "#c4c4c4", "#d9e7fb", "#7fa9e6"
+_BLUE, _GREEN, _RED, _ORANGE = "#1f5fd0", "#14913a", "#d7191c", "#f08000"
+_GREY, _PALE, _FAINT = "#c4c4c4", "#d9e7fb", "#7fa9e6"
 
 Spot = Tuple[float, float]
 
@@ -172,17 +173,22 @@ class _Picture:
             ends = self._ends(face)
             line = _line(doors, *ends, {"stroke": colour, "class": state})
             _add(line, "title").text = f"door {door}, {state}: face {face}, {words.side(self.plan, face)}"
-            self._letter(str(door), [sum(pair) / 2 for pair in zip(*ends)], colour, 10)
+            # Beside the middle of its line, at a right angle to it.
+            (x1, y1), (x2, y2) = ends
+            away = 9 / math.dist(*ends)
+            beside = (y2 - y1) * away, (x1 - x2) * away + 3
+            style = {"fill": colour, "font-size": 10, "text-anchor": "middle"}
+            self._letter(str(door), ((x1 + x2) / 2, (y1 + y2) / 2), beside, style)
 
     def draw_stands(self):
         for view, spot in zip(self.views, self.spots):
             x, y = (at * self.scale for at in spot)
             dot = _add(
-                self.root, "circle", {"class": "stand", "cx": x, "cy": y, "r": 4, "fill": _RED, "stroke": "white"}
+                self.root, "circle", {"class": "stand", "cx": x, "cy": y, "r": 4, "fill": _ORANGE, "stroke": "white"}
             )
             _add(dot, "title").text = f"stand {view.name or view.stand}"
             if view.name:
-                self._letter(view.name, spot, "black", 12)
+                self._letter(view.name, spot, (6, -5), {})
 
     def draw_legend(self):
         """The scale, what the colours mean, and what is not proved."""
@@ -213,11 +219,11 @@ class _Picture:
             _text(legend, at + 30, top + 32, meaning)
         _text(legend, 0, top + 54, _NOT_PROVED)
 
-    def _letter(self, text: str, spot: Sequence[float], colour: str, pixels: int):
-        """A name beside a spot of the floor."""
-        x, y = (at * self.scale for at in spot)
+    def _letter(self, text: str, spot: Spot, beside: Spot, style: dict):
+        """A name, so many pixels beside a spot of the floor."""
+        x, y = (at * self.scale + pixels for at, pixels in zip(spot, beside))
         halo = {"stroke": "white", "stroke-width": 2, "paint-order": "stroke"}
-        _text(self.root, x + 5, y - 5, text, {"fill": colour, "font-size": pixels, **halo})
+        _text(self.root, x, y, text, {**style, **halo})
 
 
 def _cut(spot: Spot, limit: Spot, ends: Sequence[Spot]) -> Spot:

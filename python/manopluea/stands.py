@@ -7,6 +7,7 @@ import decimal
 import time
 from typing import Iterator, List, NamedTuple, Sequence, TextIO, Tuple, Union
 
+from . import library
 from .plan import MOST_STANDS, Listing, Plan, Stand
 from .refusal import Refusal
 
@@ -27,9 +28,10 @@ def number(text: str) -> Union[int, decimal.Decimal]:
     try:
         value = decimal.Decimal(text.strip())
     except decimal.InvalidOperation:
-        value = decimal.Decimal("sNaN")
-    if value.is_snan():
+        value = None
+    if value is None or value.is_snan():
         raise ValueError(f"{text!r} is no number")
+    library.double(value)
     return value
 
 
@@ -60,8 +62,10 @@ def read(path: str, before: int = 0) -> List[Named]:
     lines = [(at, [entry.strip() for entry in row]) for at, row in enumerate(rows, start=1)]
     lines = [(at, row) for at, row in lines if any(row)]
     columns: Sequence[str] = ("x", "y", "corner")
-    if lines and {"x", "y"} <= set(lines[0][1]):
-        columns = lines.pop(0)[1]
+    first = [entry.lower() for entry in lines[0][1]] if lines else []
+    if {"x", "y"} <= set(first):
+        columns = first
+        del lines[0]
         unknown = [column for column in columns if column not in _COLUMNS]
         if unknown or len(set(columns)) < len(columns):
             raise ValueError(f"{path}: the columns are x, y, name and corner, each once, not {', '.join(columns)}")
@@ -73,12 +77,14 @@ def read(path: str, before: int = 0) -> List[Named]:
         try:
             corner = whole(entries["corner"], 65535) if "corner" in entries else None
             stand = Stand(number(entries["x"]), number(entries["y"]), corner)
-            stand.doubles
         except KeyError as fault:
             raise ValueError(f"{path}, line {at}: {fault.args[0]} is missing") from None
         except ValueError as fault:
             raise ValueError(f"{path}, line {at}: {fault}") from None
-        stands.append(Named(entries.get("name", str(before + len(stands) + 1)), stand))
+        name = entries.get("name", str(before + len(stands) + 1))
+        if not name.isprintable():
+            raise ValueError(f"{path}, line {at}: the name {name!r} cannot be printed")
+        stands.append(Named(name, stand))
     return stands
 
 

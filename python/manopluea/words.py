@@ -6,7 +6,7 @@ library is asked about smaller plans.
 
 from __future__ import annotations
 
-from typing import Iterable, Optional
+from typing import Callable, Dict, Iterable, Optional
 
 from . import library, records
 from .records import WALL
@@ -228,7 +228,7 @@ def _ceiling(plan, _, stand, ceiling, **asked) -> str:
     return f"from the stand {_at(plan, stand)} more free lines are crossed than the ceiling of {ceiling}"
 
 
-_WORDS = {
+_WORDS: Dict[Number, Callable[..., str]] = {
     Number.FRAME: _frame,
     Number.SIZE: _size,
     Number.CORNER: _corner,

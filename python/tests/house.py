@@ -66,10 +66,7 @@ def run(*words) -> Ended:
     """The command, in this process."""
     out, err = io.StringIO(), io.StringIO()
     with contextlib.redirect_stdout(out), contextlib.redirect_stderr(err):
-        try:
-            status = main([str(word) for word in words])
-        except SystemExit as ended:  # argparse: usage, and help
-            status = ended.code
+        status = main([str(word) for word in words])
     return Ended(status, out.getvalue(), err.getvalue())
 
 

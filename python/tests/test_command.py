@@ -366,16 +366,34 @@ class Usage(Folder):
                     self.assertIn("4", ended.out)  # the list itself is not lost
 
     def test_standard_output_that_cannot_be_written(self):
-        for words in (["list", self.q, 6, 3], ["list", self.q, 6, 3, "--rows"], ["list", self.q, 11, 5, "--rows"]):
-            with open("/dev/full", "wb") as full:
-                ended = start(*words, stdout=full)
-            self.assertEqual(ended.returncode, 2)
-            self.assertIn(b"manopluea: standard output: No space left on device\n", ended.stderr)
-        reading, writing = os.pipe()
-        os.close(reading)
-        with open(writing, "wb") as closed:
-            ended = start("list", self.q, 6, 3, stdout=closed)
-        self.assertEqual((ended.returncode, ended.stderr), (2, b"manopluea: standard output: Broken pipe\n"))
+        """Whether Python writes it at once or keeps it until the end; nothing else is lost by it."""
+        outside = b"manopluea: the stand (11, 5) is in no cell"
+        for unbuffered in ("", "1"):
+            for words, said in (
+                (["list", self.q, 6, 3], b""),
+                (["list", self.q, 6, 3, "--rows"], b""),
+                (["list", self.q, 11, 5, "--rows"], b"" if unbuffered else outside),
+                (["info", self.q], b""),
+            ):
+                with self.subTest(words, unbuffered=unbuffered), open("/dev/full", "wb") as full:
+                    ended = start(*words, stdout=full, env={"PYTHONUNBUFFERED": unbuffered})
+                    self.assertEqual(ended.returncode, 2)
+                    self.assertTrue(ended.stderr.startswith(said))
+                    self.assertTrue(ended.stderr.endswith(b"manopluea: standard output: No space left on device\n"))
+            reading, writing = os.pipe()
+            os.close(reading)
+            with open(writing, "wb") as closed:
+                ended = start("list", self.q, 6, 3, stdout=closed, env={"PYTHONUNBUFFERED": unbuffered})
+            self.assertEqual((ended.returncode, ended.stderr), (2, b"manopluea: standard output: Broken pipe\n"))
+
+    def test_standard_error_that_cannot_be_written(self):
+        with open("/dev/full", "wb") as full:
+            ended = start("list", self.q, 11, 5, "--rows", stderr=full)
+        self.assertEqual((ended.returncode, ended.stdout), (1, b"refused 10 0\n"))
+
+    def test_help_that_cannot_be_written(self):
+        with open("/dev/full", "wb") as full:
+            self.assertEqual(start("--help", stdout=full, env={"PYTHONUNBUFFERED": ""}).returncode, 2)
 
 
 if __name__ == "__main__":

@@ -133,6 +133,12 @@ class Parts(unittest.TestCase):
         walls = [found.ends(wall) for wall in found.group("walls")]
         faces = [face for face in range(CATHEDRAL.face_count) if CATHEDRAL.neighbour(face) == 65535]
         self.assertEqual(walls, [[CATHEDRAL.corners[at] for at in CATHEDRAL.ends(face)] for face in faces])
+        seen = {row.face for row in CATHEDRAL.list(NAVE, shut).rows}
+        for face, wall in zip(faces, found.group("walls")):
+            title = wall.find(f"{SVG}title")
+            said = None if title is None else title.text
+            self.assertEqual(said is None, face in seen)
+            self.assertTrue(said is None or said.startswith(f"face {face}, side ") and said.endswith("; not seen"))
         for number, door in enumerate(found.group("doors")):
             self.assertEqual(
                 found.ends(door), [CATHEDRAL.corners[at] for at in CATHEDRAL.ends(CATHEDRAL.doors[number])]

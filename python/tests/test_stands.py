@@ -31,6 +31,7 @@ class Read(Files):
             "\ufeffx;y\n6;3\n3;6\n",
             "y,x\n3, 6\n6,3\n",
             "x,y,corner\n6,3,\n3,6\n",
+            "X,Y\n6,3\n3,6\n",
         ):
             self.assertEqual(stands.read(self.file(text)), plain, text)
         named = self.file("name,corner,x,y\ngate,2,-4,-7\n,,5,5\n")
@@ -44,6 +45,7 @@ class Read(Files):
             ("x,y\n6\n", "line 2: y is missing"),
             ("x,y\n6,3,4\n", "line 2: 3 values for the columns x, y"),
             ("6," + "3" * 200_000, "field larger than field limit"),
+            ("name,x,y\na\x07b,6,3\n", "line 2: the name 'a\\x07b' cannot be printed"),
             ("6,3,-1\n", "line 1: '-1' is no whole number from 0 to 65535"),
             ("6.00000000000000000001,3\n", "line 1: 6.00000000000000000001 is no double-precision number"),
         ):
