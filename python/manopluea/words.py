@@ -164,7 +164,7 @@ def _stand(plan, _, stand, **asked) -> str:
 
 def _line(plan, _, stand, shut=(), door: Optional[int] = None, **asked) -> str:
     at = _at(plan, stand)
-    if door is not None and plan.reply_from("find", stand, shut).number == 0:
+    if plan.reply_from("find", stand, shut).number == 0:  # so only a door change is refused
         return f"the stand {at} is in the doorway of door {door}, which cannot be changed from there"
     position = plan.position(stand)
     if position in plan.corners:

@@ -117,6 +117,13 @@ class Changes(Folder):
         self.assertEqual(head, "from (6, 3) with door 0 shut, 1 new and 2 gone: 3 rows, 0 crossings")
         faces = [line.split()[0] for line in rest]
         self.assertEqual(faces, ["face", "0", "1", "2", "new:", "face", "2", "gone:", "face", "4", "5"])
+        self.assertTrue(rest[3].endswith("  in reach  door 0"), rest[3])
+
+    def test_the_picture_is_of_the_new_state(self):
+        path = self.folder / "seen.svg"
+        for words, state in ((["--shut"], "shut"), (["--open", "--shut-before", 0], "open")):
+            self.assertEqual(run("change", self.q, 6, 3, "--door", 0, *words, "--svg", path).status, 0)
+            self.assertIn(f"<title>door 0, {state}: face 2, ", path.read_text(encoding="utf-8"))
 
     def test_opening_is_the_reverse(self):
         fresh = run("list", self.q, 6, 3, "--rows").out
