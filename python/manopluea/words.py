@@ -1,7 +1,8 @@
 """A refusal's number and place in words, with the place made concrete.
 
-Nothing of the plane is worked out here. Where words need it (which cells overlap, on whose line a stand lies), the
-library is asked about smaller plans.
+Coordinates are compared here (which corner a stand is on, which is too far away, how far the plan goes), and nothing
+else of the plane is worked out. Where words need more (which cells overlap, on whose line a stand lies), the library is
+asked about smaller plans.
 """
 
 from __future__ import annotations

@@ -51,6 +51,8 @@ class Answers(unittest.TestCase):
         self.assertEqual(Q.find(Stand(3, 6)), Footing(1))
         self.assertEqual(Q.find(Stand(5, 5)), Footing(0, 2))
         self.assertEqual(Q.find(Stand(-5, -5, corner=2)), Footing(0, 2))
+        turned = q_with(cells=[((2, 0, 1), (1, WALL, WALL)), Q.cells[1]], doors=[0])
+        self.assertEqual(turned.find(Stand(5, 5)), Footing(0, 0))
 
     def test_several_stands_in_one_call(self):
         stands = [Stand(6, 3), Stand(11, 5), Stand(6.5, 3), Stand(-4, -7, 2), Stand(5, 5)]

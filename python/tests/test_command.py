@@ -108,6 +108,8 @@ class Lists(Folder):
             **{"left x": "0", "left y": "10", "reach": "in reach", "line": "wall"},
         }
         self.assertEqual(rows[2], {"face": "4", **third})
+        run("list", self.q, 6, 3, "--shut", 0, "--csv", path)
+        self.assertTrue(path.read_text(encoding="ascii").endswith(",in reach,door 0\n"))
 
 
 class Changes(Folder):
@@ -129,6 +131,16 @@ class Changes(Folder):
         fresh = run("list", self.q, 6, 3, "--rows").out
         opened = run("change", self.q, 6, 3, "--door", 0, "--open", "--shut-before", 0, "--rows")
         self.assertEqual(opened, (0, fresh, ""))
+
+    def test_what_is_gone_is_said_as_it_was(self):
+        out = run("change", self.q, 6, 3, "--door", 0, "--open", "--shut-before", 0).out
+        self.assertRegex(out, r"\ngone:\nface .*\n   2  .*  in reach  door 0\n$")
+
+    def test_within_a_reach(self):
+        """The list from before, the change and the list after it have the same one."""
+        changed = run("change", self.q, 6, 3, "--door", 0, "--shut", "--reach", 3, "--rows")
+        self.assertEqual(changed, run("list", self.q, 6, 3, "--shut", 0, "--reach", 3, "--rows"))
+        self.assertEqual(changed, (0, "rows 3 crossings 0\n0 0 1 0\n1 1 2 1\n2 2 0 0\n", ""))
 
     def test_from_a_list_that_was_given(self):
         given = self.folder / "given"
@@ -293,7 +305,8 @@ class Refused(Folder):
 
     def test_line(self):
         said = "the stand (5, 5) lies on a line between cells 0 and 1, where door 0 is shut"
-        self.expect(f"{said} (refused 9)", "list", self.q, 5, 5, "--shut", 0)
+        for command in ("list", "find"):
+            self.expect(f"{said} (refused 9)", command, self.q, 5, 5, "--shut", 0)
         self.expect("the stand (6, 0) lies on a wall of cell 0 (refused 9)", "list", self.q, 6, 0)
         self.expect("the stand (10, 10) lies on corner 2 (refused 9)", "list", self.q, 10, 10)
         offset = "the stand (-5, 0) from corner 2, which is (5, 10), lies on a wall of cell 1"

@@ -85,7 +85,13 @@ class Sheet(Files):
             rows = list(csv.DictReader(file))
         found = [(row["face"], row["in reach from"], row["out of reach from"]) for row in rows]
         self.assertEqual(found, [("0", "A", "B"), ("1", "A", "B"), ("4", "", "A; B"), ("5", "", "A; B")])
-        self.assertIn(b"<svg", drawn.read_bytes())
+        self.assertIn(b'<clipPath id="reach1">', drawn.read_bytes())
+
+    def test_each_stand_has_the_ceiling_for_itself(self):
+        ended = run("stands", self.q, self.file("6,3\n5,5\n"), "--ceiling", 0)
+        self.assertEqual(ended.out.splitlines()[:2], ["1 (6, 3): refused 19", "2 (5, 5): 4 rows, 0 crossings"])
+        self.assertEqual(ended.status, 1)
+        self.assertIn("more free lines are crossed than the ceiling of 0 (refused 19)", ended.err)
 
     def test_both_sides_of_a_shut_door(self):
         ended = run("stands", self.q, self.file("6,3\n3,6\n"), "--shut", 0)
