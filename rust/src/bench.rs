@@ -668,8 +668,10 @@ fn numbers(stands: &[Stand]) -> Vec<f64> {
 }
 
 /// The median time of each call of each program. The programs take turns, so
-/// that a machine that gets slower or faster does so for all of them.
+/// that a machine that gets slower or faster does so for all of them. Each call checks its
+/// plan, also of the second program, which elsewhere remembers a few.
 fn medians<const CALLS: usize>(mut programs: [[Call<'_>; CALLS]; 3]) -> [[f64; CALLS]; 3] {
+    paper::remember_no_plan();
     let mut samples = [(); 3].map(|()| [(); CALLS].map(|()| Vec::new()));
     let begin = Instant::now();
     while samples[0][0].len() < FEWEST_ROUNDS || begin.elapsed() < TIME_EACH {

@@ -12,6 +12,7 @@
 
 mod drawing;
 mod file;
+mod memory;
 mod morning;
 mod overlap;
 mod plan;
@@ -23,6 +24,7 @@ mod stand;
 
 pub use drawing::{limits, Offset, MOST_OFFSET};
 pub use file::{decode, encode, take_record};
+pub use memory::remember_no_plan;
 pub use morning::stand_of;
 pub use plan::{cut_cells, Cell, Floor, Point, CELLS, COORDINATES, CORNERS, DOORS, SIDES};
 pub use printing::{print, query, MOST_INPUT};

@@ -12,6 +12,7 @@ use manopluea_compare::paper::{
     self, cut_cells, is_within, millimetres, Cell, Floor, Line, Offset, Paper, Place, Point, Row,
     View, CELLS, CORNERS, DOORS, MOST_OFFSET, REACHES,
 };
+use std::rc::Rc;
 
 /// The enum of the faults, the list of all of them, those in the expansion, those in
 /// where a stand is found, those in the boxes that it is found by, those in which cells
@@ -839,7 +840,7 @@ impl Calls for Faulty {
 
 /// What is drawn, of a query that is not refused before.
 struct Drawing {
-    floor: Floor,
+    floor: Rc<Floor>,
     q: Point,
     rows: Vec<Row>,
     crossings: u64,

@@ -12,7 +12,7 @@ pub const POLYGONS: u16 = 12;
 pub const WALL: u16 = u16::MAX;
 
 /// A plan as its three lists of numbers, in the order and width of the file.
-#[derive(Clone, Copy, Debug)]
+#[derive(Clone, Copy, Debug, PartialEq, Eq)]
 pub struct Lists<'a> {
     /// Two numbers a corner: x, y, in millimetres.
     pub corners: &'a [i32],

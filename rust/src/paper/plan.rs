@@ -1,10 +1,12 @@
 //! "Side value and plan check" for cells of 3 to 8 corners: the limits, the
 //! cells of a list, and the check, which turns the lists into a floor.
 
+use super::memory::remembered;
 use super::overlap::least_overlapping;
 use crate::calls::{Lists, Refusal, POLYGONS, TRIANGLES, WALL};
 use std::borrow::Cow;
 use std::ops::{Range, RangeInclusive};
+use std::rc::Rc;
 
 pub const CORNERS: RangeInclusive<usize> = 3..=2_048;
 pub const CELLS: RangeInclusive<usize> = 1..=3_000;
@@ -114,8 +116,13 @@ pub struct Floor {
 }
 
 impl Floor {
+    /// The plan check, whose last answers are remembered.
+    pub fn check(lists: Lists<'_>) -> Result<Rc<Floor>, Refusal> {
+        remembered(lists, Floor::check_anew)
+    }
+
     /// The plan check: last of all, no two cells overlap.
-    pub fn check(lists: Lists<'_>) -> Result<Floor, Refusal> {
+    pub fn check_anew(lists: Lists<'_>) -> Result<Floor, Refusal> {
         let floor = Floor::agreeing(lists)?;
         match least_overlapping(&floor) {
             Some(cell) => Err(Refusal::Overlap(cell)),
