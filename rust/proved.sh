@@ -62,6 +62,10 @@ make_archive() { # ARCHIVE COMMAND..
     ask_rt check exports || return
     sha256sum --check --status "$archive.of" 2>/dev/null && return
     "$@" || return
+    if ! [ -s "$archive" ]; then
+        echo "$0: $archive is not there, or empty, though it was just made" >&2
+        return 1
+    fi
     sha256sum target/stamp/exports "$archive" >"$archive.of" || rm "$archive.of"
 }
 
