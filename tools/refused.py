@@ -18,7 +18,8 @@ An edit is written as the kit's are, with one line more, the first:
 The unedited crate is checked first, over an empty folder in which the checker keeps what it has checked, and once more
 over what that has left: where it is not proved both times, nothing is concluded of its edits. Each edit is made in a
 copy of the crate, which is checked over a copy of that folder. It is refused where the checker says so and its first
-error stands in the file that the edit names.
+error stands in the file that the edit names. What the checker said is left in target/refused/NAME/EDIT.log: read there
+whether a fact no longer holds, or the edit only made a proof unfit for the code, which would show nothing.
 """
 import argparse
 import asyncio
@@ -207,11 +208,17 @@ class Trial:
             kept = shutil.copytree(self.kept(edit.crate), folder / "kept")
             verdict, said, took = await self.checker.check(edit.crate, folder, kept)
             shutil.rmtree(kept)
+        self.leave(edit, said.replace(f"{folder}/", ""))
         if verdict == "proved":
             raise Fault(f"{edit.name}: NOT REFUSED: the crate is still proved with this edit ({took} s)")
         if verdict is None:
             raise Fault(f"{edit.name}: NOT REFUSED:{beginning(said)}")
         return edit.line(first_error(said, folder), took)
+
+    def leave(self, edit, said):
+        log = self.checker.top / "target/refused" / f"{edit.name}.log"
+        log.parent.mkdir(parents=True, exist_ok=True)
+        log.write_text(said, encoding="utf-8")
 
     def kept(self, crate):
         return self.work / crate / "kept"
@@ -312,7 +319,7 @@ def try_from_nothing(top, crates):
 
 
 def main(argv, top=TOP):
-    parser = argparse.ArgumentParser(description="Tries the edits under crates/NAME/refused, each of which must be refused.")
+    parser = argparse.ArgumentParser(description="Tries the edits under crates/NAME/refused: each must be refused.")
     parser.add_argument("wanted", nargs="*", metavar="NAME | NAME/EDIT")
     parser.add_argument("--beside", type=pathlib.Path, metavar="FILE", help="rt is at work, and its words go to FILE")
     parser.add_argument("--from-nothing", action="store_true", help="the kit's own way, with nothing kept")

@@ -104,6 +104,14 @@ class Refused(unittest.TestCase):
         ])
         self.assertEqual(status, 0)
 
+    def test_what_the_checker_said_of_an_edit_is_left(self):
+        for number, said in [(2, "proofs/f/Proof.antt:3:5: error: it is not\n"), (3, "logic=proved"), (6, "no verdict")]:
+            with self.subTest(number):
+                self.edit(number)
+                self.tried()
+                log = (self.top / "target/refused/one/wrong.log").read_text(encoding="utf-8")
+                self.assertTrue(log.startswith(said), log)
+
     def test_a_note_tells_the_place_where_no_error_does(self):
         self.edit(8)
         self.assertEqual(self.tried()[1][1:], ["one/wrong: refused, first at proofs/f/Proof.antt:9:9",
