@@ -5,7 +5,7 @@ use mathlib.Core.Path.{◌≡◌, refl, sym, ◌∙◌, ap, subst}
 use mathlib.Core.List.{List, [], ◌∷◌, map}
 use mathlib.Core.Logic.{◌⊎◌, inl, inr}
 use Prim.Native.Nat.{ℕ, zero, suc}
-use lib.IntN.{ℤ, pos, negsuc, ◌+ℤ◌, ◌*ℤ◌, +ℤ_comm, +ℤ_idl, +ℤ_idr, zero-*ℤ, *ℤ_zero}
+use lib.IntN.{ℤ, pos, negsuc, ◌+ℤ◌, ◌*ℤ◌, +ℤ_comm, +ℤ_idl, +ℤ_idr, zero-*ℤ, *ℤ-zero}
 use lib.Signed.{◌<ℤ◌, ◌≤ℤ◌, lt_z_yes, <ℤ_irrefl}
 use lib.Dec.{lt→ltb}
 use native.Mathlib.Omega.{arith}
@@ -138,10 +138,10 @@ sum_is null null x y h k = rw (h, k)
 product_is : (s t : Sign) (x y : ℤ) → Is s x → Is t y → Is (product_sign s t) (x *ℤ y)
 product_is positive positive x y h k = positive_product h k
 product_is positive not_negative x y h k = not_negative_product (less_is_at_most h) k
-product_is positive null x y h k = rw k (*ℤ_zero x)
+product_is positive null x y h k = rw k (*ℤ-zero x)
 product_is not_negative positive x y h k = not_negative_product h (less_is_at_most k)
 product_is not_negative not_negative x y h k = not_negative_product h k
-product_is not_negative null x y h k = rw k (*ℤ_zero x)
+product_is not_negative null x y h k = rw k (*ℤ-zero x)
 product_is null t x y h k = rw h (zero-*ℤ y)
 
 abbrev AllSay : List ℤ → List Claim → Type 0
@@ -159,7 +159,7 @@ module _ (ρ : List ℤ) where
   says_multiple : (e : Expr) (c : Claim) → Says ρ c → Says ρ (multiple e c)
   says_multiple e (claim positive p) h = refl
   says_multiple e (claim not_negative p) h = refl
-  says_multiple e (claim null p) h = times_worth (normal e) p ρ ∙ ap (λ x. worth (normal e) ρ *ℤ x) h ∙ *ℤ_zero (worth (normal e) ρ)
+  says_multiple e (claim null p) h = times_worth (normal e) p ρ ∙ ap (λ x. worth (normal e) ρ *ℤ x) h ∙ *ℤ-zero (worth (normal e) ρ)
 
   says_lowered : (c : Claim) → Says ρ c → Says ρ (lowered c)
   says_lowered (claim positive p) h = rw (plus_worth p (con (negsuc zero)) ρ) (positive_is_at_least_one h)

@@ -7,7 +7,7 @@ use Prim.Native.Nat.{zero, suc, ◌+◌, ◌*◌, ◌<◌, ◌≤◌}
 use native.Mathlib.Nat.{mul-pos}
 use native.Mathlib.Omega.{arith}
 use lib.Dec.{T, ltb→lt, lt→ltb, leb→le, le→leb, nleb→lt}
-use lib.IntN.{ℤ, pos, negsuc, suc_ℤ, pred_ℤ, neg_ℤ, ◌+ℤ◌, ◌-ℤ◌, ◌*ℤ◌, +ℤ_suc_ℤ, +ℤ_pred_ℤ, +ℤ_invr, +ℤ_idl, +ℤ_idr, +ℤ_comm, +ℤ_neg_ℤ_cancel, -ℤ_one}
+use lib.IntN.{ℤ, pos, negsuc, suc_ℤ, pred_ℤ, neg_ℤ, ◌+ℤ◌, ◌-ℤ◌, ◌*ℤ◌, +ℤ-suc_ℤ, +ℤ-pred_ℤ, +ℤ_invr, +ℤ_idl, +ℤ_idr, +ℤ_comm, +ℤ-neg_ℤ_cancel, -ℤ_one}
 use lib.Signed.{lt_z, le_z, ◌<ℤ◌, ◌≤ℤ◌, lt_z_yes, le_z_yes, lt_z_no, clash_ℤ, <ℤ-≤ℤ_trans}
 use Rattle.exact.proofs.Ring.{by_steps}
 
@@ -124,15 +124,15 @@ pub less_shifts : {a b : ℤ} → a <ℤ b → (c : ℤ) → (a +ℤ c) <ℤ (b 
 less_shifts {a} {b} h c =
     by_steps (λ c. (a +ℤ c) <ℤ (b +ℤ c))
     (rw (+ℤ_idr a, +ℤ_idr b) h)
-    (λ k i. rw (+ℤ_suc_ℤ a k, +ℤ_suc_ℤ b k) (lt_z_yes (up (a +ℤ k) (b +ℤ k) i.lt)))
-    (λ k i. rw (+ℤ_pred_ℤ a k, +ℤ_pred_ℤ b k) (lt_z_yes (down (a +ℤ k) (b +ℤ k) i.lt)))
+    (λ k i. rw (+ℤ-suc_ℤ a k, +ℤ-suc_ℤ b k) (lt_z_yes (up (a +ℤ k) (b +ℤ k) i.lt)))
+    (λ k i. rw (+ℤ-pred_ℤ a k, +ℤ-pred_ℤ b k) (lt_z_yes (down (a +ℤ k) (b +ℤ k) i.lt)))
     c
 
 pub at_most_shifts : {a b : ℤ} → a ≤ℤ b → (c : ℤ) → (a +ℤ c) ≤ℤ (b +ℤ c)
 at_most_shifts {a} {b} h c = by_test (less_or_not (b +ℤ c) (a +ℤ c))
   where
     by_test : ((b +ℤ c) <ℤ (a +ℤ c)) ⊎ ((a +ℤ c) ≤ℤ (b +ℤ c)) → (a +ℤ c) ≤ℤ (b +ℤ c)
-    by_test (inl k) = clash_ℤ (rw (+ℤ_neg_ℤ_cancel b c, +ℤ_neg_ℤ_cancel a c) at (less_shifts k (neg_ℤ c))) h
+    by_test (inl k) = clash_ℤ (rw (+ℤ-neg_ℤ_cancel b c, +ℤ-neg_ℤ_cancel a c) at (less_shifts k (neg_ℤ c))) h
     by_test (inr k) = k
 
 -- ---- a fact about two numbers is one about their difference

@@ -5,7 +5,7 @@ use mathlib.Core.Bool.{Bool, true, false, ◌&&◌}
 use mathlib.Core.List.{List, [], ◌∷◌, ◌++◌, map}
 use Prim.Native.Nat.{ℕ, zero, suc}
 use lib.Dec.{T}
-use lib.IntN.{ℤ, pos, negsuc, neg_ℤ, ◌+ℤ◌, ◌-ℤ◌, ◌*ℤ◌, +ℤ_assoc, +ℤ_idl, +ℤ_idr, -ℤ-+ℤ_cancel, zero-*ℤ, *ℤ_zero, *ℤ_comm, *ℤ_one, one}
+use lib.IntN.{ℤ, pos, negsuc, neg_ℤ, ◌+ℤ◌, ◌-ℤ◌, ◌*ℤ◌, +ℤ_assoc, +ℤ_idl, +ℤ_idr, -ℤ-+ℤ_cancel, zero-*ℤ, *ℤ-zero, *ℤ_comm, *ℤ-one, one}
 use Rattle.exact.proofs.Ring.{distributive_left, distributive_right, product_associative, negation_out_left, swap_last}
 
 -- ---- quoted expressions
@@ -111,7 +111,7 @@ past : (h f q : ℤ) → h *ℤ (f *ℤ q) ≡ f *ℤ (h *ℤ q)
 past h f q = sym (product_associative h f q) ∙ ap (λ x. x *ℤ q) (*ℤ_comm h f) ∙ product_associative f h q
 
 nothing_more : (h a : ℤ) → a +ℤ h *ℤ pos zero ≡ a
-nothing_more h a = ap (λ x. a +ℤ x) (*ℤ_zero h) ∙ +ℤ_idr a
+nothing_more h a = ap (λ x. a +ℤ x) (*ℤ-zero h) ∙ +ℤ_idr a
 
 node_worth : (a p : Poly) (ρ : List ℤ) → worth (node a p) ρ ≡ worth a (tail ρ) +ℤ head ρ *ℤ worth p ρ
 node_worth (con c) (con (pos zero)) ρ = sym (nothing_more (head ρ) c)
@@ -148,7 +148,7 @@ spread_worth f k (hor b q) ρ h =
 
 one_times : (m : ℤ) → m ≡ pos (suc zero) *ℤ m
 unfolding one
-one_times m = sym (*ℤ_comm (pos (suc zero)) m ∙ *ℤ_one m)
+one_times m = sym (*ℤ_comm (pos (suc zero)) m ∙ *ℤ-one m)
 
 pub times_worth : (p q : Poly) (ρ : List ℤ) → worth (times p q) ρ ≡ worth p ρ *ℤ worth q ρ
 times_worth (con (pos zero)) q ρ = sym (zero-*ℤ (worth q ρ))
@@ -169,7 +169,7 @@ times_worth (hor a p) q ρ =
 
 variable_worth : (i : ℕ) (ρ : List ℤ) → worth (variable i) ρ ≡ look i ρ
 unfolding one
-variable_worth zero ρ = +ℤ_idl (head ρ *ℤ pos (suc zero)) ∙ *ℤ_one (head ρ)
+variable_worth zero ρ = +ℤ_idl (head ρ *ℤ pos (suc zero)) ∙ *ℤ-one (head ρ)
 variable_worth (suc i) ρ = nothing_more (head ρ) (worth (variable i) (tail ρ)) ∙ variable_worth i (tail ρ)
 
 minus_worth : (p : Poly) (ρ : List ℤ) → worth (scale minus_one p) ρ ≡ neg_ℤ (worth p ρ)
