@@ -1,4 +1,6 @@
 // The boxes of cells (document 02, A7 and A3): of each cell its corners' least and greatest x, least and greatest y.
+#![tactic(auto)]
+
 ghost use Rattle.std.specs.Prelude.{◌+◌, ◌*◌, ◌<◌, ◌≤◌, ◌≡◌, length, [], ◌∷◌, ◌≤ℤ◌};
 ghost use Rattle.std.proofs.lemmas.List.Edits.{sets};
 ghost use Rattle.plane.specs.Side.{point};

@@ -1,4 +1,6 @@
 // The plan check (document 01, "Side value and plan check"; document 02, A14 and A7), on lists and on the tables drawn from them.
+#![tactic(auto)]
+
 ghost use Rattle.std.specs.Prelude.{suc, ◌+◌, ◌*◌, ◌<◌, ◌≤◌, true, ◌≡◌, length};
 ghost use Rattle.limits.specs.Limits.{most_cells, sized};
 ghost use Rattle.cells.specs.Lists.{corner_count, cell_count, face_count};

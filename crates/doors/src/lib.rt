@@ -1,4 +1,6 @@
 // The door change (document 01, "Changing a door"), and what shutting and opening a door does to a list.
+#![tactic(auto)]
+
 ghost use Rattle.std.specs.Prelude.{suc, ◌*◌, ◌<◌, ◌≤◌, true, false, ◌≡◌, length, take};
 ghost use Rattle.plane.specs.Side.{point, Near};
 ghost use Rattle.limits.specs.Limits.{most_corners, most_cells, most_reach, sized};

@@ -1,5 +1,7 @@
 // A list of cells of either kind is cut into its cells, and its tables are drawn: of each face the corner at which it starts and the neighbour across
 // it, and of each cell its first face (document 01, "The plan file"; document 02, A14).
+#![tactic(auto)]
+
 ghost use Rattle.std.specs.Prelude.{suc, ◌+◌, ◌*◌, ◌^◌, ◌<◌, ◌≤◌, true, ◌≡◌, length, take, drop};
 ghost use Rattle.std.proofs.lemmas.List.Edits.{sets};
 ghost use Rattle.limits.specs.Limits.{triangles, polygons};

@@ -4,6 +4,8 @@
 // `seen` has two numbers a corner: x and y, less the stand's. `lines` has four numbers a face: the corner at which it ends; the face on its other side, or
 // wall; how many sides of its cell follow the next one before it comes round again; and the next side of its cell. `faces` has two numbers a face, first the
 // corner at which it starts. `reach` is in millimetres, 0 where it is unlimited.
+#![tactic(auto)]
+
 ghost use Rattle.std.specs.Prelude.{ℕ, ◌+◌, ◌*◌, ◌/◌, ◌<◌, ◌≤◌, ◌||◌, List, ◌≡◌, eqb, length, get_or};
 ghost use Rattle.plane.specs.Cone.{cross as Cone·cross};
 ghost use Rattle.limits.specs.Limits.{most_reach, wall};

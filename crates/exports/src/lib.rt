@@ -1,6 +1,8 @@
 // The public calls for C and Rust: each slice passes as a pointer and a length, each reply is seven numbers (document 01, "Reply numbers"):
 // number, place, and up to five values. A reply with room for fewer is left alone, and so is all other lent memory.
 // include/manopluea.h has the promise of each function in words, specs/Reply.antt what each leaves as a function of the input.
+#![tactic(auto)]
+
 ghost use Rattle.std.specs.Prelude.{◌≡◌};
 ghost use Rattle.stand.specs.declared.spot.Stand.TheVariants.{Point, Offset};
 ghost use Rattle.exports.specs.Reply.{reach_of, ceiling_of, check_left, read_left, write_left, find_left, list_left, draw_left, change_left, list_stands_left, print_left};

@@ -1,4 +1,6 @@
 // The tables of faces: two numbers a face, the corner at which it starts and the neighbour across it; of each cell its first face.
+#![tactic(auto)]
+
 ghost use Rattle.std.specs.Prelude.{ℕ, suc, ◌-◌, ◌/◌, ◌<◌, List, ◌≡◌, length, get_or};
 ghost use Rattle.cells.specs.Lists.{start as Lists·start, neighbour as Lists·neighbour};
 ghost use Rattle.cells.specs.Lists.{tabled};

@@ -1,4 +1,6 @@
 // Finding (document 01, "The stand"; document 02, A4): the plan and the setting are checked, the stand read, and its place sought.
+#![tactic(auto)]
+
 ghost use Rattle.std.specs.Prelude.{suc, ◌*◌, ◌<◌, ◌≤◌, true, ◌≡◌, length};
 ghost use Rattle.limits.specs.Limits.{most_cells, sized};
 ghost use Rattle.cells.specs.Lists.{tabled, corner_count, cell_count, face_count};

@@ -1,4 +1,6 @@
 // Whether a call of several stands is granted (document 02, A1): what refuses the whole of it, before any stand is looked at.
+#![tactic(auto)]
+
 ghost use Rattle.std.specs.Prelude.{suc, ◌*◌, ◌≤◌, true, ◌≡◌, length};
 ghost use Rattle.limits.specs.Limits.{most_stands, sized};
 ghost use Rattle.cells.specs.Lists.{corner_count, cell_count, face_count};

@@ -1,4 +1,6 @@
 // What every crate may know of a plan: its limits (document 01, "The plan file"), and the refusals with their numbers ("Reply numbers").
+#![tactic(auto)]
+
 ghost use Rattle.std.specs.Prelude.{◌≡◌};
 ghost use Rattle.limits.specs.Limits.{sized};
 

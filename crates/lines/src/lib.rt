@@ -1,5 +1,7 @@
 // The table of lines: four numbers a face. The corner at which the face ends; the face on its other side, or wall where sight ends; how many sides of its
 // cell follow the next one before it comes round again; and the next side of its cell.
+#![tactic(auto)]
+
 ghost use Rattle.std.specs.Prelude.{suc, ◌+◌, ◌*◌, ◌<◌, ◌≤◌, [], ◌≡◌, length, get_or};
 ghost use Rattle.limits.specs.Limits.{most_cells, most_sides, wall};
 ghost use Rattle.cells.specs.Lists.{tabled, cell_count, face_count, first, neighbour, back};

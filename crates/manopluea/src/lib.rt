@@ -11,6 +11,8 @@
 // `found_reply`, `listed_reply` give them for each case of an answer). Where a call is refused, every lent table, list and file keeps its contents; on
 // 0, what lies beyond what was written does. The lowest number that applies is the reply, where REACH goes after STAND and before LINE. docs/PROMISES.md says
 // what determines each part, docs/THEOREMS.md what is proved of the definitions, the three demands first (proofs/Demands.antt).
+#![tactic(auto)]
+
 ghost use Rattle.std.specs.Prelude.{◌≡◌};
 ghost use Rattle.cells.specs.Check.{checked};
 ghost use Rattle.planfile.specs.Calls.{written, read as Calls·read};

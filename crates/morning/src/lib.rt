@@ -1,4 +1,6 @@
 // A morning's stands together (document 02, A1): the plan is checked once and its lines are drawn once; then each stand is found and its walls are listed.
+#![tactic(auto)]
+
 ghost use Rattle.std.specs.Prelude.{suc, ◌+◌, ◌*◌, ◌<◌, ◌≤◌, true, [], ◌∷◌, ◌≡◌, length, take};
 ghost use Rattle.std.proofs.lemmas.List.Edits.{sets};
 ghost use Rattle.limits.specs.Limits.{most_corners, most_cells, most_stands, sized};

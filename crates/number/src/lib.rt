@@ -1,4 +1,6 @@
 // Whole millimetres from doubles (document 01, "The stand").
+#![tactic(auto)]
+
 ghost use Rattle.std.specs.Prelude.{◌≡◌, true};
 ghost use Rattle.number.specs.Whole.{is_finite, is_whole, is_within, whole};
 

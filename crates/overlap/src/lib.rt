@@ -1,5 +1,7 @@
 // Cells that lie on top of each other (document 02, A7): the least cell of any pair. Every call checks its plan anew, so not all pairs are looked at: a
 // list of cells is taken apart by a line as long as that leaves fewer pairs, and the cells that reach to one side of it are compared with each other.
+#![tactic(auto)]
+
 ghost use Rattle.std.specs.Prelude.{ℕ, ◌*◌, ◌<◌, ◌≤◌, ◌≡◌, length, get_or};
 ghost use Rattle.limits.specs.Limits.{most_cells};
 ghost use Rattle.cells.specs.Lists.{cell_count, tabled};

@@ -1,3 +1,5 @@
+#![tactic(auto)]
+
 ghost use Rattle.std.specs.Prelude.{◌≡◌};
 ghost use Rattle.plane.specs.Side.{corner, side_of, AllNear};
 ghost use Rattle.plane.specs.Cone.{minus, dot};

@@ -1,4 +1,6 @@
 // Runs the tests of `plane` and prints what they answer; the file stdout beside src/ has what an independent program says (tools/plane_expected.py).
+#![tactic(auto)]
+
 ghost use Rattle.std.specs.Prelude.{◌<◌};
 ghost use Rattle.plane.specs.Side.{point, Near, AllNear};
 

@@ -1,4 +1,6 @@
 // Plan files: the writer and the reader (document 01, "The plan file"; document 02, A14).
+#![tactic(auto)]
+
 ghost use Rattle.std.specs.Prelude.{true, ◌≡◌, ◌+◌, ◌*◌, ◌≤◌, length};
 ghost use Rattle.limits.specs.Limits.{most_corners, most_cells, most_doors, polygons};
 ghost use Rattle.records.specs.Bytes.{numbers_at};

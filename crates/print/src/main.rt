@@ -1,4 +1,6 @@
 // The printing program (document 01, "Printing program"): `printing::print` decides all; this reads and writes.
+#![tactic(auto)]
+
 use libc::{STDERR_FILENO, STDIN_FILENO, STDOUT_FILENO};
 use printing::Printed;
 

@@ -1,4 +1,6 @@
 // The printing program's answer (document 01, "Printing program"): a query record, then a plan; the lines are written into a lent text.
+#![tactic(auto)]
+
 ghost use Rattle.std.specs.Prelude.{true, ◌≡◌, ◌*◌, ◌≤◌, length};
 ghost use Rattle.limits.specs.Limits.{most_corners, most_cells, most_doors};
 ghost use Rattle.printing.specs.Print.{most_text, begins as Print·begins, file_listed, lines, blank_table, printed, answered, Within};

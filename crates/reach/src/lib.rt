@@ -1,4 +1,6 @@
 // The reach of the scanner (document 02, A5): what may be stated, and which lines are in reach.
+#![tactic(auto)]
+
 ghost use Rattle.std.specs.Prelude.{◌≤◌, ◌≡◌, nat_abs};
 ghost use Rattle.limits.specs.Limits.{most_reach};
 ghost use Rattle.plane.specs.Side.{corner};

@@ -1,4 +1,6 @@
 // The door setting: bit i is one while door i is shut (document 01, "Side value and plan check").
+#![tactic(auto)]
+
 ghost use Rattle.std.specs.Prelude.{◌<◌, ◌≤◌, not, ◌≡◌, ltb, length};
 ghost use Rattle.cells.specs.Least.{least};
 ghost use Rattle.cells.specs.Lists.{tabled, face_count};

@@ -1,4 +1,6 @@
 // Stands for a caller that has no enums (document 02, A1): three doubles each, the corner, x and y.
+#![tactic(auto)]
+
 ghost use Rattle.std.specs.Prelude.{◌/◌, ◌≤◌, ◌≡◌, length, take};
 ghost use Rattle.limits.specs.Limits.{most_stands};
 ghost use Rattle.stands.specs.Numbered.{stand_of, stands_of};

@@ -1,4 +1,6 @@
 // Text as it is written into lent bytes: each function writes from `at` on and answers where what it wrote ends.
+#![tactic(auto)]
+
 ghost use Rattle.std.specs.Prelude.{◌++◌, ◌≡◌, ◌+◌, ◌*◌, ◌<◌, ◌≤◌, length};
 ghost use Rattle.std.proofs.lemmas.List.Edits.{sets};
 ghost use Rattle.text.specs.Text.{decimal, number_then, refusal_line, count_line, row_line, row_lines};

@@ -1,4 +1,6 @@
 // A product of two words as two words: squares of side values pass 64 bits (document 02, A5 and A8).
+#![tactic(auto)]
+
 ghost use Rattle.std.specs.Prelude.{◌*◌, ◌≡◌, leb};
 ghost use Rattle.wide.specs.Wide.{value};
 
