@@ -5,23 +5,16 @@ use native.Mathlib.Nat.{le_of_lt}
 use native.Mathlib.Omega.{arith}
 use borrow.Author.Tests.{le-leb, lt-leb}
 use Rattle.wide.proofs.Words.{the_high_words_decide, the_low_words_decide}
-use Rattle.wide.proofs.is_at_most.Statement.{statement}
-use Rattle.wide.proofs.is_at_most.Tie as tie
+use Rattle.wide.proofs.is_at_most.Goals as goal
 
-returns : tie.Need-returns
-returns c =
-    let known = c.before.before.struct_known.given in
+pub returns-then-x-y : goal.returns-then-x-y
+returns-then-x-y c = let known = c.struct_known-1.given in
     sym (le-leb _ _ (le_of_lt (the_high_words_decide (2 ^ 64) _ _ _ _ known.1.0.fits (omega arith))))
 
-returns-2 : tie.Need-returns-2
-returns-2 c =
-    let known = c.before.before.struct-known3.given in
+pub returns-then-y-x : goal.returns-then-y-x
+returns-then-y-x c = let known = c.struct_known-3-1.given in
     sym (lt-leb _ _ (the_high_words_decide (2 ^ 64) _ _ _ _ known.1.0.fits (omega arith)))
 
-returns-3 : tie.Need-returns-3
-returns-3 c =
-    let s = c.before.before.before.before.before.before.before.before.args in
+pub returns : goal.returns
+returns c = let s = c.args in
     the_low_words_decide (2 ^ 64) s.x.high s.x.low s.y.high s.y.low (omega arith)
-
-pub is-at-most-spec : {M : Type 1} → statement M
-is-at-most-spec = tie.close (tie.spec returns returns-2 returns-3)
