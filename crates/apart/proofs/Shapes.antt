@@ -74,7 +74,7 @@ left_of_the_middle a b p q r =
 
 module _ (cs : List ℤ) {T : Cells} (N : Numbered T) {c : ℕ} (h : c < cell_count T) where
   all_sides : first T c + side_count T c ≡ first T (suc c)
-  all_sides = omega (arith, N.at_least_lem c h)
+  all_sides = omega (arith, N.at_least c h)
 
   pub side_at : {i : ℕ} → i < side_count T c → SideOf T c (first T c + i)
   side_at l = record { not_before = omega arith; not_after = omega (arith, all_sides) }
@@ -98,7 +98,7 @@ module _ (cs : List ℤ) {T : Cells} (N : Numbered T) {c : ℕ} (h : c < cell_co
       subst (λ (g : ℕ). P (at cs T g) (at cs T (next T g))) (sym (face_before_the_end T c l)) (each _ (side_at l))
 
   pub three_sides : 2 < side_count T c
-  three_sides = omega (arith, N.at_least_lem c h)
+  three_sides = omega (arith, N.at_least c h)
 
   pub goes_round : Round (shape cs T c)
   unfolding shape

@@ -27,7 +27,7 @@ wider_holds w h =
 
 module _ {T : Cells} (N : Numbered T) {c : ℕ} (h : c < cell_count T) where
   pub first_side : {f : ℕ} → f ≡ first T c → SideOf T c f
-  first_side e = record { not_before = omega (arith, e); not_after = omega (arith, e, N.at_least_lem c h) }
+  first_side e = record { not_before = omega (arith, e); not_after = omega (arith, e, N.at_least c h) }
 
   pub corner_there : {cs : List ℤ} → CornersExist cs T → {f i : ℕ} → SideOf T c f → i ≡ start T f → i < corner_count cs
   corner_there {cs} C {f} s e = subst (λ (i : ℕ). i < corner_count cs) (sym e) (C.exists f (side_exists N h s))

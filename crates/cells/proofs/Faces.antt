@@ -23,7 +23,7 @@ module _ {T : Cells} (N : Numbered T) where
   -- ---- the first faces
 
   grows : (c : ℕ) → c < cell_count T → first T c ≤ first T (suc c)
-  grows c h = omega (arith, N.at_least_lem c h)
+  grows c h = omega (arith, N.at_least c h)
 
   firsts_grow_by : (n c : ℕ) → c + n ≤ cell_count T → first T c ≤ first T (c + n)
   firsts_grow_by zero c h = let same : c + zero ≡ c = omega arith in rw same (omega arith)
@@ -108,7 +108,7 @@ module _ {T : Cells} (N : Numbered T) where
         by_place (yes k) = rw (next_goes_on k) (record { not_before = omega (arith, s.not_before); not_after = k })
         by_place (no k) =
             rw (next_comes_round (omega (arith, s.not_after)))
-            (record { not_before = omega arith; not_after = omega (arith, N.at_least_lem c h) })
+            (record { not_before = omega arith; not_after = omega (arith, N.at_least c h) })
 
   -- a cell has more than two sides
   pub next_of_next_differs : {c f : ℕ} → c < cell_count T → SideOf T c f → next T (next T f) ≡ f → ⊥
@@ -118,7 +118,7 @@ module _ {T : Cells} (N : Numbered T) where
       then n = ap (next T) (sym n) ∙ e
 
       wide : first T c + 3 ≤ first T (suc c)
-      wide = N.at_least_lem c h
+      wide = N.at_least c h
 
       by_place : Dec (suc f < first T (suc c)) → Dec (suc (suc f) < first T (suc c)) → ⊥
       by_place (yes k) (yes l) =
@@ -141,7 +141,7 @@ module _ {T : Cells} (N : Numbered T) where
 
   module _ {c : ℕ} (h : c < cell_count T) (t : ℕ → Bool) where
     all_sides : first T c + side_count T c ≡ first T (suc c)
-    all_sides = omega (arith, N.at_least_lem c h)
+    all_sides = omega (arith, N.at_least c h)
 
     pub no_face : some_face T c t ≡ false → {f : ℕ} → SideOf T c f → t f ≡ false
     unfolding some_face
@@ -192,7 +192,7 @@ bounds {T} N {c} h {end} is_end =
     record {
       begin_stands = omega (arith, N.firsts_stand);
       end_stands = omega (arith, N.firsts_stand);
-      three_sides = omega (arith, N.at_least_lem c h, ends_there);
+      three_sides = omega (arith, N.at_least c h, ends_there);
       eight_sides = omega (arith, N.at_most c h, ends_there);
       within = omega (arith, firsts_grow N (suc c) (cell_count T) h (omega arith), N.ends, ends_there);
     }

@@ -55,7 +55,7 @@ pub record Answer (T : Cells) (f : ℕ) : Type 0 where
 
 module _ {T : Cells} (N : Numbered T) (f : ℕ) (exists : neighbour T f < cell_count T) where
   all_sides : first T (neighbour T f) + side_count T (neighbour T f) ≡ first T (suc (neighbour T f))
-  all_sides = omega (arith, N.at_least_lem (neighbour T f) exists)
+  all_sides = omega (arith, N.at_least (neighbour T f) exists)
 
   pub answered : Answered T f → Answer T f
   unfolding answers back

@@ -64,7 +64,7 @@ module _ {T : Cells} (N : Numbered T) {bs : List ℕ} where
     -- r is the least wrong face of cell c, or last, the face after those of c
     module _ (h : c < cell_count T) {r last : ℕ} (is_r : r ≡ least (wrong_neighbour T) (side_count T c) (first T c)) (is_last : last ≡ first T (suc c)) where
       width : first T c + side_count T c ≡ first T (suc c)
-      width = omega (arith, N.at_least_lem c h)
+      width = omega (arith, N.at_least c h)
 
       bounds : (first T c ≤ r) × (r ≤ first T (suc c))
       bounds = let b = least_bounds (wrong_neighbour T) (side_count T c) (first T c) in (omega arith, omega (arith, width))

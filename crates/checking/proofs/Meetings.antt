@@ -104,7 +104,7 @@ module _ {T : Cells} (N : Numbered T) (once : MeetOnce T) {c d f : ℕ} (h : c <
   unfolding back
   unanswered none =
       let upto = (least_bounds (answers T f) (side_count T (neighbour T f)) (first T (neighbour T f))).1 in
-      ap (λ (e : ℕ). first T (suc e)) is_d ∙ omega (arith, N.at_least_lem (neighbour T f) exists)
+      ap (λ (e : ℕ). first T (suc e)) is_d ∙ omega (arith, N.at_least (neighbour T f) exists)
 
   -- the meeting is at face g of cell c
   module _ {g : ℕ} (m : g < face_count T) (at_home : home T g ≡ c) (n : neighbour T g ≡ d) (a : Answered T g) where

@@ -57,7 +57,7 @@ pub record Looks (T : Cells) (c : ℕ) (t : ℕ → Bool) (to f : ℕ) : Type 0 
 module _ {T : Cells} {c : ℕ} {t : ℕ → Bool} {to f : ℕ} where
   pub looks_first : Numbered T → c < cell_count T → to ≡ first T (suc c) → f ≡ first T c → Looks T c t to f
   looks_first N h e b =
-      record { numbered = N; exists = h; ends = e; seeks = begins_from b (omega (arith, N.at_least_lem c h)) }
+      record { numbered = N; exists = h; ends = e; seeks = begins_from b (omega (arith, N.at_least c h)) }
 
   module _ (l : Looks T c t to f) where
     before_the_end : f < to → f < first T (suc c)

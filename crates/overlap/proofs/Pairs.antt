@@ -86,7 +86,7 @@ module _ (cs : List ℤ) (T : Cells) (c e : ℕ) {f to : ℕ} (is_f : f ≡ leas
 
 -- a cell's first face is a side of it
 pub is_first_side : {T : Cells} → Numbered T → {c f : ℕ} → c < cell_count T → f ≡ first T c → SideOf T c f
-is_first_side N {c} h is_f = record { not_before = omega arith; not_after = omega (arith, N.at_least_lem c h) }
+is_first_side N {c} h is_f = record { not_before = omega arith; not_after = omega (arith, N.at_least c h) }
 
 -- ---- two cells that overlap, or do not
 

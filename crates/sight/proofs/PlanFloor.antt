@@ -110,7 +110,7 @@ module _ {cs : List ℤ} {T : Cells} {ds : List ℕ} (sound : Sound cs T ds) (w 
         cell_exists = λ g h. home_exists N g h;
         next_in_the_cell = λ g h. next_stays_in_the_cell N g h;
         next_starts = λ g h. refl;
-        three_sides = λ g h. omega (arith, N.at_least_lem (home T g) (home_exists N g h));
+        three_sides = λ g h. omega (arith, N.at_least (home T g) (home_exists N g h));
         as_many_sides = λ g h. ap (λ (c : ℕ). side_count T c - 2) (next_stays_in_the_cell N g h);
         never_itself = λ g h. Round.never_itself N (plan_floor cs T ds w R q) (λ f. refl) (λ f. refl) g h;
         comes_round = λ g h. Round.comes_round N (plan_floor cs T ds w R q) (λ f. refl) (λ f. refl) g h;
@@ -132,7 +132,7 @@ module _ {cs : List ℤ} {T : Cells} {ds : List ℕ} (sound : Sound cs T ds) (w 
   start_in_the_cell : (c : ℕ) → InCell cs T q c → Start F (face_count T) (seen cs q) (first T c)
   start_in_the_cell c stands =
       let h = stands.cell_exists in
-      let here : SideOf T c (first T c) = record { not_before = omega arith; not_after = omega (arith, N.at_least_lem c h) } in
+      let here : SideOf T c (first T c) = record { not_before = omega arith; not_after = omega (arith, N.at_least c h) } in
       record {
         is_a_face = side_exists N h here;
         turns = λ e i. the_cell_goes_around_the_stand cs T q c stands.strictly_inside e (Round.among_is_a_side N F (λ f. refl) h here i);

@@ -42,7 +42,7 @@ module _ {T : Cells} (N : Numbered T) (F : Floor) (same : (f : ℕ) → F.next f
     end = first T (suc c)
 
     wide : begin + 3 ≤ end
-    wide = N.at_least_lem c h
+    wide = N.at_least c h
 
     at_begin : SideOf T c begin
     at_begin = record { not_before = omega arith; not_after = omega (arith, wide) }
@@ -96,7 +96,7 @@ module _ {T : Cells} (N : Numbered T) (F : Floor) (same : (f : ℕ) → F.next f
 
   module _ (more : (f : ℕ) → F.more f ≡ side_count T (home T f) - 2) (g : ℕ) (h : g < face_count T) where
     three : 3 ≤ side_count T (home T g)
-    three = omega (arith, N.at_least_lem (home T g) (home_exists N g h))
+    three = omega (arith, N.at_least (home T g) (home_exists N g h))
 
     pub never_itself : Other F g g → ⊥
     unfolding around

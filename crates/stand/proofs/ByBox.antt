@@ -45,10 +45,10 @@ module _ {cs : List ℤ} {T : Cells} (N : Numbered T) (right : CellsRight cs T) 
     pub past_has_no_doorway : (ds : List ℕ) (w : ℕ) {n : ℕ} → n ≡ first T (suc c) → n ≡ least (within_free cs T ds w q) (side_count T c) (first T c)
     past_has_no_doorway ds w e =
         let none = least_is_none (within_free cs T ds w q) (side_count T c) (first T c) (λ f l m. by_test f l m (within_free cs T ds w q f) refl) in
-        omega (arith, e, none, N.at_least_lem c h)
+        omega (arith, e, none, N.at_least c h)
       where
         by_test : (f : ℕ) → first T c ≤ f → f < first T c + side_count T c → (b : Bool) → within_free cs T ds w q f ≡ b → within_free cs T ds w q f ≡ false
         by_test f l m false t = t
         by_test f l m true t =
-            let on_it = a_side_is_on_the_border N right q h (record { not_before = l; not_after = omega (arith, N.at_least_lem c h) }) (is_within_and_free cs T q f ds w t).0 in
+            let on_it = a_side_is_on_the_border N right q h (record { not_before = l; not_after = omega (arith, N.at_least c h) }) (is_within_and_free cs T q f ds w t).0 in
             absurd (not_both p (held_is_not_past (held_by_its_box (inr (on_a_line_is_border cs N q h on_it)))))

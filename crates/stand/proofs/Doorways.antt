@@ -113,14 +113,14 @@ module _ {T : Cells} (N : Numbered T) where
 
     pub cells_go_on : first T (suc c) ≤ f → SoughtCells t T (c + 1)
     cells_go_on k =
-        let all : first T c + side_count T c ≡ first T (suc c) = omega (arith, N.at_least_lem c h) in
+        let all : first T c + side_count T c ≡ first T (suc c) = omega (arith, N.at_least c h) in
         let after : first T c + side_count T c ≡ first T (c + 1) = all ∙ ap (first T) (sym (add-one c)) in
         record { within = omega arith; so_far = subst (Seeks t (face_count T)) after (passed (side_count T c) (omega arith) (omega arith)) }
 
     pub side_found : f < first T (suc c) → f ≡ least t (face_count T) 0
     side_found k =
         let same : first T c + (f - first T c) ≡ f = omega (arith, not_before_the_first) in
-        let holds : t f ≡ true = subst (λ (g : ℕ). t g ≡ true) (sym is_f) (holds_at_least t (side_count T c) (first T c) (omega (arith, is_f, N.at_least_lem c h))) in
+        let holds : t f ≡ true = subst (λ (g : ℕ). t g ≡ true) (sym is_f) (holds_at_least t (side_count T c) (first T c) (omega (arith, is_f, N.at_least c h))) in
         let exists : f < face_count T = omega (arith, firsts_grow N (suc c) (cell_count T) h (omega arith), N.ends) in
         seek_found (subst (Seeks t (face_count T)) same (passed (f - first T c) (omega arith) (omega arith))) exists holds
 

@@ -94,13 +94,13 @@ module _ (fs ns : List ℕ) (c : ℕ) where
 
 module _ {T : Cells} (N : Numbered T) {c : ℕ} (h : c < cell_count T) where
   pub first_is_a_side : SideOf T c (first T c)
-  first_is_a_side = record { not_before = omega arith; not_after = omega (arith, N.at_least_lem c h) }
+  first_is_a_side = record { not_before = omega arith; not_after = omega (arith, N.at_least c h) }
 
   pub second_is_a_side : SideOf T c (first T c + 1)
-  second_is_a_side = record { not_before = omega arith; not_after = omega (arith, N.at_least_lem c h) }
+  second_is_a_side = record { not_before = omega arith; not_after = omega (arith, N.at_least c h) }
 
   pub third_is_a_side : SideOf T c (first T c + 2)
-  third_is_a_side = record { not_before = omega arith; not_after = omega (arith, N.at_least_lem c h) }
+  third_is_a_side = record { not_before = omega arith; not_after = omega (arith, N.at_least c h) }
 
 pub next_is_one : {T : Cells} {c f : ℕ} → SideOf T c f → f + 1 < first T (suc c) → SideOf T c (f + 1)
 next_is_one s k = record { not_before = omega (arith, s.not_before); not_after = k }

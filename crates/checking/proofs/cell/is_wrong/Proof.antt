@@ -37,7 +37,7 @@ end-requires : tie.Need-end-requires
 end-requires c κs = search rules
 
 add-if2 : tie.Need-overflow-add-if2
-add-if2 c = let s = c.before.before.before.before.before.before in omega (arith, s.requires.1.0.at_least_lem s.args.c s.requires.1.1, c.end.ensures, c.before.first.ensures)
+add-if2 c = let s = c.before.before.before.before.before.before in omega (arith, s.requires.1.0.at_least s.args.c s.requires.1.1, c.end.ensures, c.before.first.ensures)
 
 start-requires : tie.Need-start-requires
 start-requires c κs = let s = c.before.before.before.before.before.before.before in side_exists s.requires.1.0 s.requires.1.1 (three_sides s.args.corners.now s.requires.1.0 s.requires.1.1 (just_three c) c.before.before.first.ensures).0

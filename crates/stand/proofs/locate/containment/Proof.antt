@@ -45,7 +45,7 @@ sub-last : tie.Need-overflow-sub-last invariant-loop decreases-loop
 sub-last c =
     let a = c.before.before.before.before.args in
     let p = c.before.before.before.before.requires in
-    omega (arith, end_read a.faces.now a.firsts.now a.c, p.0.2.at_least_lem a.c p.1.1)
+    omega (arith, end_read a.faces.now a.firsts.now a.c, p.0.2.at_least a.c p.1.1)
 
 start-requires : tie.Need-start-requires invariant-loop decreases-loop
 start-requires c κs =
