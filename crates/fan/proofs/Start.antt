@@ -40,7 +40,7 @@ module _ (F : Floor) where
   unfolding sides
   at_is_among {m = zero} {e = e} p = subst (Among F zero e) (sym (at_the_only_place p)) this
   at_is_among {m = suc m} first = this
-  at_is_among {m = suc m} (later p) = after (at_is_among p)
+  at_is_among {m = suc m} {e = e} (later p) = after (at_is_among {m = m} {e = F.next e} p)
 
   pub among_is_at : {m e x : ℕ} → Among F m e x → (i : ℕ) × At x (sides F.next m e) i
   unfolding sides

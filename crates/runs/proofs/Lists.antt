@@ -11,8 +11,11 @@ module _ {A B : Type 0} where
   -- an element of a mapped list is one of the list, mapped
   pub at_mapped : {h : A → B} {y : B} (xs : List A) {i : ℕ} → At y (map h xs) i → (x : A) × (At x xs i) × (y ≡ h x)
   at_mapped [] p = elim p [ ]
-  at_mapped {h} (x ∷ xs) first = (x, first, refl)
-  at_mapped (x ∷ xs) (later p) = let (z, q, e) = at_mapped xs p in (z, later q, e)
+  at_mapped {h = h} {y = y'} (x ∷ xs) {i = i} p = found (λ y j. at_mapped {h = h} {y = y} xs {i = j}) x y' p
+    where
+      found : ((y : B) (j : ℕ) → At y (map h xs) j → (z : A) × (At z xs j) × (y ≡ h z)) → (x : A) (y : B) {i : ℕ} → At y (h x ∷ map h xs) i → (z : A) × (At z (x ∷ xs) i) × (y ≡ h z)
+      found below x y first = (x, first, refl)
+      found below x y (later p) = let (z, q, e) = below y _ p in (z, later q, e)
 
   pub mapped_at : {x : A} {xs : List A} {i : ℕ} (h : A → B) → At x xs i → At (h x) (map h xs) i
   mapped_at h first = first

@@ -152,6 +152,7 @@ module _ {N : ℕ} {F : Floor} (A : Faces N F) where
       (n : ℕ) (es : List ℕ) {r l : ℕ} → ((e i : ℕ) → At e es i → e < N) → ((e i j : ℕ) → At e es i → At e es j → i ≡ j) → Linked F es r l →
       Whole (lines_seen F n es) → Through F.ends es r l (lines_seen F n es)
   unfolding lines_seen
+  lines_go_through n [] faces once p w = elim p [ ]
   lines_go_through n (e ∷ []) faces once alone w = follow_goes_through n e _ _ (faces e 0 first) w
   lines_go_through n (e ∷ []) faces once (in_front p) w = elim p [ ]
   lines_go_through n (e ∷ x ∷ es) faces once (in_front p) (whole_both w₁ w₂) =

@@ -46,6 +46,7 @@ own_ways_of_those t (one_more {x = x} {xs = xs} n u) = by_test (own_ways_of_thos
 
 -- so a way tells the place
 pub way_tells_the_place : {xs : List Routed} {x y : Routed} {i j : ℕ} → OwnWays xs → At x xs i → At y xs j → way x ≡ way y → i ≡ j
+way_tells_the_place none p _ e = elim p [ ]
 way_tells_the_place (one_more n u) first first e = refl
 way_tells_the_place (one_more n u) first (later q) e = absurd (n _ _ q e)
 way_tells_the_place (one_more n u) (later p) first e = absurd (n _ _ p (sym e))
