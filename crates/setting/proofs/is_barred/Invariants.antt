@@ -1,0 +1,16 @@
+use mathlib.Core.Path.{sym}
+use Prim.Native.Nat.{◌-◌}
+use native.Mathlib.Omega.{arith}
+use borrow.Author.Rules.{rules}
+use borrow.Author.Tests.{le-ltb}
+use lib.ListN.{length}
+use Rattle.cells.proofs.Least.{Seeks, seek_begins, seek_ends}
+use Rattle.setting.specs.Setting.{bars}
+use Rattle.setting.proofs.Settings.{a_door_is_met, a_door_is_passed}
+use Rattle.setting.proofs.is_barred.Given as goal
+
+abbrev pub invariant-loop-e : goal.invariant-loop-e
+invariant-loop-e l = Seeks (bars l.doors l.setting l.f l.g) (length l.doors) l.e
+
+abbrev pub decreases-loop-e : goal.decreases-loop-e
+decreases-loop-e l = l.k - l.e
