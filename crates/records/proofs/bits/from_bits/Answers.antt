@@ -7,8 +7,7 @@ use lib.Ieee.{Float, nan, inf, fin, binary64, is_nan, of_bits, div}
 use lib.Ieee.Bits.{nan_bits_above, nan_bits_is}
 use borrow.Author.Rules.{rules}
 use borrow.Author.Tests.{lt-ltb, le-ltb}
-use Rattle.records.proofs.bits.from_bits.Statement.{statement}
-use Rattle.records.proofs.bits.from_bits.Tie as tie
+use Rattle.records.proofs.bits.from_bits.Goals as goal
 
 only_nan : (x : Float) → is_nan x ≡ true → nan ≡ x
 unfolding is_nan
@@ -20,17 +19,10 @@ only_nan (fin s m e) h = absurd (false≢true h)
 abbrev infinity : ℕ
 infinity = 0x7ff0_0000_0000_0000
 
-float-from-bits-result : tie.Need-float-from-bits-result
-float-from-bits-result c = rw (nan_bits_above, le-ltb infinity (c.before.args.b % 2 ^ 63) (omega arith)) tt
+pub float_from_bits-result : goal.float_from_bits-result
+float_from_bits-result c = rw (nan_bits_above, le-ltb infinity (c.args.b % 2 ^ 63) (omega arith)) tt
 
-returns : tie.Need-returns
+pub returns-then-b-gt9218868437227405312 : goal.returns-then-b-gt9218868437227405312
 unfolding div of_bits
-returns c =
-    only_nan (of_bits binary64 c.before.args.b)
-    (sym (nan_bits_is binary64 c.before.args.b) ∙ nan_bits_above binary64 c.before.args.b ∙ lt-ltb infinity (c.before.args.b % 2 ^ 63) (omega arith))
-
-returns-2 : tie.Need-returns-2
-returns-2 c = search rules
-
-pub from-bits-spec : {M : Type 1} → statement M
-from-bits-spec = tie.close (tie.spec float-from-bits-result returns returns-2)
+returns-then-b-gt9218868437227405312 c = only_nan (of_bits binary64 c.args.b)
+    (sym (nan_bits_is binary64 c.args.b) ∙ nan_bits_above binary64 c.args.b ∙ lt-ltb infinity (c.args.b % 2 ^ 63) (omega arith))

@@ -1,0 +1,7 @@
+-- `records::bytes::four` meets its contract.
+use borrow.Author.Rules.{rules}
+use Rattle.records.proofs.Spelled.{four_at}
+use Rattle.records.proofs.bytes.four.Goals as goal
+
+pub returns : goal.returns
+returns c = four_at _ c.args.at c.two.ensures c.two-2.ensures

@@ -1,0 +1,20 @@
+-- `records::list::copy_numbers` meets its contract.
+use mathlib.Core.Path.{refl}
+use Prim.Native.Nat.{◌-◌}
+use native.Mathlib.Omega.{arith}
+use borrow.Author.Rules.{rules}
+use lib.ListN.{length}
+use Rattle.records.proofs.Stores.{Fills, fills_begin, fills_go_on, fills_end}
+use Rattle.records.proofs.list.copy_numbers.Goals as goal
+
+pub loop-i-init : goal.loop-i-init
+loop-i-init c = fills_begin _ 0
+
+pub loop-i-preserved : goal.loop-i-preserved
+loop-i-preserved c = fills_go_on c.loop-i.invariant c.loop-i-test.true (omega arith) 0 refl
+
+pub shape_of-to : goal.shape_of-to
+shape_of-to c = c.loop-i.invariant.same_length
+
+pub returns : goal.returns
+returns c = fills_end c.loop-i.invariant c.loop-i-test.false
