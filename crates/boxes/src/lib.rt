@@ -10,7 +10,7 @@ ghost use Rattle.boxes.specs.Boxes.{Holds, Wider, HoldsCell, box_at, BoxedBelow,
 
 pub mod part;
 
-#[derive(Drop)]
+#[derive(Clone, Copy)]
 pub struct Bounds {
     pub left: i32,
     pub right: i32,
@@ -19,7 +19,7 @@ pub struct Bounds {
 }
 
 // Two numbers.
-#[derive(Drop)]
+#[derive(Clone, Copy)]
 struct Two {
     a: i32,
     b: i32,

@@ -5,7 +5,7 @@ ghost use Rattle.boxes.specs.Parts.{reaching, Listed, Picked};
 use crate::{Bounds, joined, read};
 
 // An upright line at the x that is half of `twice`, or a level one at such a y; and a side of it: beyond it, or before it.
-#[derive(Drop)]
+#[derive(Clone, Copy)]
 pub struct Line {
     pub upright: bool,
     pub twice: i64,
@@ -130,7 +130,7 @@ fn is_helpful(list: &[u16], boxes: &[i32], m: usize, line: Line) -> bool
     before + beyond <= 5 * n
 }
 
-#[derive(Drop)]
+#[derive(Clone, Copy)]
 pub enum Choice {
     By(Line),
     None,

@@ -68,7 +68,7 @@ pub fn check_tables(
 }
 
 // The counts of cells and of faces, which say how much room the tables need; or FRAME, or SIZE.
-#[derive(Drop)]
+#[derive(Clone, Copy)]
 pub enum Sizes {
     Of(usize, usize),
     Refused(Refusal),

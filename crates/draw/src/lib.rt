@@ -12,7 +12,7 @@ ghost use Rattle.draw.specs.Counted.{counted};
 use limits::Plan;
 
 // The counts of cells and of faces.
-#[derive(Drop)]
+#[derive(Clone, Copy)]
 pub enum Counted {
     Whole(usize, usize),
     Broken,

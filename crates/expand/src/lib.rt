@@ -20,7 +20,7 @@ use limits::Plan;
 use reach::is_in_reach;
 
 // How many rows were written, and how many passages are left; where none is, following has ended before the last row.
-#[derive(Drop)]
+#[derive(Clone, Copy)]
 pub struct Followed {
     pub rows: usize,
     pub left: usize,
@@ -44,7 +44,7 @@ fn turn(seen: &[i32], a: u16, b: u16) -> i64
 }
 
 // A side of an entered cell, and how many sides after it are still to be handed on.
-#[derive(Drop)]
+#[derive(Clone, Copy)]
 struct Sides {
     side: usize,
     more: usize,
@@ -167,7 +167,7 @@ pub fn cross(
 
 // What was handed on of a cell but for its last line: how many rows were written and how many passages are left; the last line, and the right limit that is
 // left for it.
-#[derive(Drop)]
+#[derive(Clone, Copy)]
 struct Handed {
     rows: usize,
     left: usize,

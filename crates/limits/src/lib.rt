@@ -7,7 +7,7 @@ ghost use Rattle.limits.specs.Limits.{sized};
 pub mod reply;
 
 // The counts of an accepted plan; its constants are the limits of every plan.
-#[derive(Drop)]
+#[derive(Clone, Copy)]
 pub struct Plan {
     pub corners: usize,
     pub cells: usize,
@@ -66,7 +66,7 @@ impl Plan {
 }
 
 // Every refusal, with its place where it has one; specs/Reply.antt gives document 01's numbers.
-#[derive(Drop)]
+#[derive(Clone, Copy)]
 pub enum Refusal {
     Frame,
     Size,
@@ -87,7 +87,7 @@ pub enum Refusal {
     Ceiling,
 }
 
-#[derive(Drop)]
+#[derive(Clone, Copy)]
 pub enum Checked {
     Accepted(Plan),
     Refused(Refusal),

@@ -38,13 +38,13 @@ pub use stand::locate::{Footing, Found};
 pub use stand::spot::Stand;
 
 // What a call is told of its lists: which kind the list of cells is in, 2 or 12; every other number is FRAME.
-#[derive(Drop)]
+#[derive(Clone, Copy)]
 pub struct Terms {
     pub kind: u16,
 }
 
 // What the listing is asked: a query, and a ceiling of crossings, which is stated or not.
-#[derive(Drop)]
+#[derive(Clone, Copy)]
 pub struct Listing {
     pub query: Query,
     pub ceiling: Ceiling,

@@ -28,7 +28,7 @@ use sight::view::{View, view_of_stand};
 use stand::spot::Stand;
 
 // What the stands of a morning share: the door setting, how many of the stands are asked for, the reach, and the ceiling, which each of them has for itself.
-#[derive(Drop)]
+#[derive(Clone, Copy)]
 pub struct Morning {
     pub setting: u64,
     pub count: usize,

@@ -7,7 +7,7 @@ ghost use Rattle.number.specs.Whole.{is_finite, is_whole, is_within, whole};
 use limits::Plan;
 
 // What a double reads as: a whole number of millimetres, or nothing that is accepted.
-#[derive(Drop)]
+#[derive(Clone, Copy)]
 pub enum Millimetres {
     Whole(i64),
     Refused,

@@ -32,7 +32,7 @@ pub fn is_right(cell: [[i64; 2]; 3]) -> bool
 }
 
 // Where a point lies against a side, or against a right cell.
-#[derive(Drop)]
+#[derive(Clone, Copy)]
 pub enum Containment {
     Inside,
     Border,

@@ -14,7 +14,7 @@ use limits::{Checked, Plan, Refusal};
 use records::{bytes, list, record};
 
 // The counts of the plan that was read, the kind of its list of cells, and how many numbers that list has.
-#[derive(Drop)]
+#[derive(Clone, Copy)]
 pub enum ReadPlan {
     Accepted(Plan, u16, usize),
     Refused(Refusal),

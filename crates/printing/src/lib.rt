@@ -11,7 +11,7 @@ use manopluea::{Ceiling, Listed, Listing, Plan, Query, Reach, ReadPlan, Refusal,
 use records::{bits, bytes};
 
 // How many bytes the lines take, or ROOM where the text could not hold every answer.
-#[derive(Drop)]
+#[derive(Clone, Copy)]
 pub enum Printed {
     Text(usize),
     Refused(Refusal),

@@ -11,7 +11,7 @@ use limits::Plan;
 use wide::{is_at_most, product};
 
 // A reach in millimetres, or none stated.
-#[derive(Drop)]
+#[derive(Clone, Copy)]
 pub enum Reach {
     NotStated,
     Stated(u64),

@@ -3,7 +3,7 @@ ghost use Rattle.std.specs.Prelude.{◌≡◌};
 ghost use Rattle.sight.specs.Ceiling.{allowance as Ceiling·allowance};
 
 // How many crossings a listing may have, or none stated.
-#[derive(Drop)]
+#[derive(Clone, Copy)]
 pub enum Ceiling {
     NotStated,
     Stated(u64),

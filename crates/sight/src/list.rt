@@ -30,7 +30,7 @@ use lines::lines_of;
 use records::list::copy_numbers;
 use stand::locate::Footing;
 
-#[derive(Drop)]
+#[derive(Clone, Copy)]
 pub enum Listed {
     Rows(usize, usize),
     Refused(Refusal),
@@ -213,7 +213,7 @@ fn list_over(
 }
 
 // How many rows were written and how many free lines were passed.
-#[derive(Drop)]
+#[derive(Clone, Copy)]
 pub struct Counts {
     pub rows: usize,
     pub crossings: usize,

@@ -17,14 +17,14 @@ use stand::locate::{Footing, Found, locate};
 use stand::spot::{Spot, Stand, stand_spot};
 
 // What is asked of a plan: from where, under which door setting, and how far.
-#[derive(Drop)]
+#[derive(Clone, Copy)]
 pub struct Query {
     pub setting: u64,
     pub stand: Stand,
     pub reach: Reach,
 }
 
-#[derive(Drop)]
+#[derive(Clone, Copy)]
 pub enum View {
     From(i64, i64, Footing),
     Refused(Refusal),

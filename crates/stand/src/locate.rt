@@ -13,13 +13,13 @@ use limits::Refusal;
 use plane::Containment;
 
 // Strictly inside a cell; strictly within a free side: its cell, and the side's number in it.
-#[derive(Drop)]
+#[derive(Clone, Copy)]
 pub enum Footing {
     Inside(usize),
     Side(usize, usize),
 }
 
-#[derive(Drop)]
+#[derive(Clone, Copy)]
 pub enum Found {
     At(Footing),
     Refused(Refusal),

@@ -9,14 +9,14 @@ use limits::Plan;
 use number::{Millimetres, whole_millimetres};
 
 // A stand is a point, or an offset from a corner, each with two doubles in millimetres.
-#[derive(Drop)]
+#[derive(Clone, Copy)]
 pub enum Stand {
     Point(f64, f64),
     Offset(u16, f64, f64),
 }
 
 // Where a stand is, or nothing that is accepted.
-#[derive(Drop)]
+#[derive(Clone, Copy)]
 pub enum Spot {
     At(i64, i64),
     Refused,

@@ -10,7 +10,7 @@ use limits::Plan;
 use sight::seen::difference;
 
 // Two whole numbers of millimetres, as the screen library takes them.
-#[derive(Drop)]
+#[derive(Clone, Copy)]
 pub struct Offset {
     pub x: f32,
     pub y: f32,
