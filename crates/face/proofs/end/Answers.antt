@@ -3,7 +3,6 @@ use mathlib.Core.Path.{ap, ◌∙◌}
 use Prim.Native.Nat.{ℕ}
 use native.Mathlib.Numerals.{add-one}
 use lib.ListN.{get_or}
-use borrow.Author.Rules.{rules}
 use Rattle.face.proofs.end.Goals as goal
 
 pub returns : goal.returns

@@ -1,5 +1,4 @@
 -- `face::first` meets its contract.
-use borrow.Author.Rules.{rules}
 use native.Mathlib.Omega.{arith}
 use Rattle.face.proofs.first.Goals as goal
 

@@ -1,7 +1,6 @@
 -- `face::next` meets its contract.
 use mathlib.Core.Path.{sym, ◌∙◌}
 use Rattle.face.proofs.Tables.{comes_round, goes_on}
-use borrow.Author.Rules.{rules}
 use Rattle.face.proofs.next.Goals as goal
 
 pub returns-then-after-to : goal.returns-then-after-to

@@ -1,8 +1,6 @@
 -- `setting::bars` meets its contract.
 use mathlib.Core.Path.{sym, ◌∙◌}
 use native.Mathlib.Omega.{arith}
-use borrow.Author.Rules.{rules}
-use borrow.Author.Tests.{not-true, not-false}
 use Rattle.cells.proofs.Doors.{names_the_face, names_by_the_back}
 use Rattle.setting.proofs.Settings.{an_open_door_bars_nothing, a_shut_door_bars_what_it_names}
 use Rattle.setting.proofs.bars.Goals as goal

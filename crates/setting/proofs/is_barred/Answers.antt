@@ -1,12 +1,7 @@
 -- `setting::is_barred` meets its contract.
 use mathlib.Core.Path.{sym}
-use Prim.Native.Nat.{◌-◌}
-use native.Mathlib.Omega.{arith}
-use borrow.Author.Rules.{rules}
 use borrow.Author.Tests.{le-ltb}
-use lib.ListN.{length}
-use Rattle.cells.proofs.Least.{Seeks, seek_begins, seek_ends}
-use Rattle.setting.specs.Setting.{bars}
+use Rattle.cells.proofs.Least.{seek_begins, seek_ends}
 use Rattle.setting.proofs.Settings.{a_door_is_met, a_door_is_passed}
 use Rattle.setting.proofs.is_barred.Goals as goal
 

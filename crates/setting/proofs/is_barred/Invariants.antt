@@ -1,12 +1,7 @@
-use mathlib.Core.Path.{sym}
 use Prim.Native.Nat.{◌-◌}
-use native.Mathlib.Omega.{arith}
-use borrow.Author.Rules.{rules}
-use borrow.Author.Tests.{le-ltb}
 use lib.ListN.{length}
-use Rattle.cells.proofs.Least.{Seeks, seek_begins, seek_ends}
+use Rattle.cells.proofs.Least.{Seeks}
 use Rattle.setting.specs.Setting.{bars}
-use Rattle.setting.proofs.Settings.{a_door_is_met, a_door_is_passed}
 use Rattle.setting.proofs.is_barred.Given as goal
 
 abbrev pub invariant-loop-e : goal.invariant-loop-e

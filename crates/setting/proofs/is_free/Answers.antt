@@ -2,7 +2,6 @@
 use mathlib.Core.Bool.{not}
 use mathlib.Core.Path.{ap, sym}
 use native.Mathlib.Omega.{arith}
-use borrow.Author.Rules.{rules}
 use Rattle.cells.specs.Lists.{tabled, neighbour}
 use Rattle.setting.proofs.Settings.{sight_ends_at_a_wall, the_doors_decide}
 use Rattle.setting.proofs.is_free.Goals as goal

@@ -1,6 +1,5 @@
 -- `setting::is_shut` meets its contract.
 use Rattle.setting.proofs.Settings.{and_tests}
-use borrow.Author.Rules.{rules}
 use Rattle.setting.proofs.is_shut.Goals as goal
 
 pub returns : goal.returns

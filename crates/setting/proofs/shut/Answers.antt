@@ -1,6 +1,5 @@
 -- `setting::shut` meets its contract.
 use Rattle.setting.proofs.Settings.{or_shuts}
-use borrow.Author.Rules.{rules}
 use Rattle.setting.proofs.shut.Goals as goal
 
 pub returns : goal.returns
