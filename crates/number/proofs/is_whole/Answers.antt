@@ -7,7 +7,6 @@ use Rattle.number.proofs.Back.{decided_by_coming_back, small_in_float, small_in_
 use Rattle.number.proofs.is_whole.Goals as goal
 use Rattle.number.proofs.is_whole.Goals.{Then-x-gapless}
 
--- Up to 2^53 the double that comes back decides, and beyond every double is whole.
 -- ---- up to 2^53
 near : (c : Then-x-gapless) → small 53 c.args.x ≡ true
 unfolding neg of_bits

@@ -9,7 +9,6 @@ use Rattle.number.proofs.Back.{truncated_is_its_integer, small_in_range}
 use Rattle.number.proofs.whole_millimetres.Goals as goal
 use Rattle.number.proofs.whole_millimetres.Goals.{Else-not-is_finite, Else-not-is_whole, Else-not-is_within}
 
--- Each test that fails refuses. A double that passed all three is within the machine's integers, and truncation leaves its integer.
 -- ---- the tests
 finite : (c : Else-not-is_finite) → is_finite c.args.x ≡ true
 finite c = sym c.is_finite.ensures ∙ c.if-not-is_finite.false
