@@ -1,5 +1,5 @@
 -- The limits are 2^29 and −2^29, and both comparisons hold of a double that is within them alone.
-use Rattle.std.proofs.Common.{sym, ◌∙◌, rules}
+use Rattle.std.proofs.Common.{sym, ◌∙◌}
 use lib.Ieee.{neg, of_int}
 use Rattle.number.proofs.Limits.{decided_by_highest, below_lowest, within_is_small}
 use Rattle.number.proofs.is_within.Goals as goal
