@@ -1,11 +1,10 @@
 // Runs the tests of `plane` and prints what they answer; the file stdout beside src/ has what an independent program says (tools/plane_expected.py).
 #![tactic(auto)]
 
-ghost use Rattle.std.specs.Prelude.{◌<◌};
 ghost use Rattle.plane.specs.Side.{point, Near, AllNear};
 
-use libc::STDOUT_FILENO;
 use plane::Containment;
+use std::io;
 
 // A point at the coordinate limits: both bits of n are signs, of x then of y.
 fn far_point(n: u64) -> [i64; 2]
@@ -32,58 +31,52 @@ fn small_point(n: u64) -> [i64; 2]
     [x as i64 - 2, y as i64 - 2]
 }
 
-fn print_signed(v: i64) {
-    if v < 0 {
-        io::write_all(STDOUT_FILENO, b"-");
-        let below = -1 - v;
-        io::print_decimal(STDOUT_FILENO, below as u64 + 1);
-    } else {
-        io::print_decimal(STDOUT_FILENO, v as u64);
-    }
-}
-
-fn print_beside(p: [[i64; 2]; 3])
+fn print_beside(rt: &impl Print, p: [[i64; 2]; 3]) -> io::Result<()>
     requires { AllNear p }
 {
     match plane::beside(p) {
-        Containment::Inside => io::write_all(STDOUT_FILENO, b" inside\n"),
-        Containment::Border => io::write_all(STDOUT_FILENO, b" border\n"),
-        Containment::Outside => io::write_all(STDOUT_FILENO, b" outside\n"),
-    };
+        Containment::Inside => rt.print(" inside\n"),
+        Containment::Border => rt.print(" border\n"),
+        Containment::Outside => rt.print(" outside\n"),
+    }
 }
 
-fn print_side(p: [[i64; 2]; 3])
+fn print_side(rt: &impl Print, p: [[i64; 2]; 3]) -> io::Result<()>
     requires { AllNear p }
 {
-    print_signed(plane::side_value(p));
+    rt.print(plane::side_value(p))?;
     if plane::is_right(p) {
-        io::write_all(STDOUT_FILENO, b" right");
+        rt.print(" right")?;
     } else {
-        io::write_all(STDOUT_FILENO, b" wrong");
+        rt.print(" wrong")?;
     }
-    print_beside(p);
+    print_beside(rt, p)
 }
 
 // Arrangement n of the largest coordinates of three points: the six signs are the bits of n.
-fn far_side(n: u64) {
-    print_side([
-        far_point(n % 4),
-        far_point(n / 4 % 4),
-        far_point(n / 16 % 4),
-    ]);
+fn far_side(rt: &impl Print, n: u64) -> io::Result<()> {
+    print_side(
+        rt,
+        [
+            far_point(n % 4),
+            far_point(n / 4 % 4),
+            far_point(n / 16 % 4),
+        ],
+    )
 }
 
 // A small side, in each of its directions, against point n of the grid.
-fn small_side(n: u64) {
-    print_side([small_point(0), small_point(18), small_point(n)]);
-    print_side([small_point(18), small_point(0), small_point(n)]);
+fn small_side(rt: &impl Print, n: u64) -> io::Result<()> {
+    print_side(rt, [small_point(0), small_point(18), small_point(n)])?;
+    print_side(rt, [small_point(18), small_point(0), small_point(n)])
 }
 
-fn main() {
+fn main(rt: HostRuntime) -> io::Result<()> {
     for n in 0..64 {
-        far_side(n);
+        far_side(&rt, n)?;
     }
     for n in 0..25 {
-        small_side(n);
+        small_side(&rt, n)?;
     }
+    Ok(())
 }

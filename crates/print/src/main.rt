@@ -1,18 +1,35 @@
 // The printing program (document 01, "Printing program"): `printing::print` decides all; this reads and writes.
 #![tactic(auto)]
 
-use libc::{STDERR_FILENO, STDIN_FILENO, STDOUT_FILENO};
-use printing::Printed;
+ghost use Rattle.std.specs.Prelude.{◌≤◌, length};
 
-fn main() {
+use printing::Printed;
+use std::io::{Read, Stdin};
+
+// Reads until the buffer is full, the input ends or a read fails; the answer is how many bytes there are.
+fn read_full(from: &mut Stdin, buffer: &mut [u8]) -> usize
+    ensures { result ≤ length buffer.new }
+{
+    let mut done = 0;
+    while done < buffer.len() {
+        match from.read(&mut buffer[done..]) {
+            Ok(0) | Err(_) => break,
+            Ok(n) => done += n,
+        }
+    }
+    done
+}
+
+fn main(rt: HostRuntime) {
     // one byte more than an input may have, so that a longer one is known
     let mut input = [0u8; Printed::MOST_INPUT + 1];
-    let n = io::read_full(STDIN_FILENO, &mut input);
+    let n = read_full(&mut rt.stdin(), &mut input);
     let mut text = [0u8; Printed::MOST_TEXT];
     match printing::print(&input[..n], &mut text) {
         Printed::Text(m) => {
-            if !io::write_all(STDOUT_FILENO, &text[..m]) {
-                io::write_all(STDERR_FILENO, b"print: the answer could not be written\n");
+            if rt.write_all(&text[..m]).is_err() {
+                // where this cannot be said either, nothing is left to do
+                let _ = eprintln!(rt; "print: the answer could not be written");
             }
         }
         Printed::Refused(_) => {}
