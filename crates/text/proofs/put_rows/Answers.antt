@@ -8,46 +8,46 @@ pub loop-i-init : goal.loop-i-init
 loop-i-init c = lines_begin _ _ _ _ (omega (arith, c.requires.n_in_bounds))
 
 pub overflow_mul-i : goal.overflow_mul-i
-overflow_mul-i c = omega (arith, c.well_formed.1.1.0.0, c.requires.n_in_bounds_2)
+overflow_mul-i c = omega (arith, c.requires.n_in_bounds_2)
 
 pub offset_bounds-table-i : goal.offset_bounds-table-i
-offset_bounds-table-i c = omega (arith, c.well_formed.1.1.0.0, c.requires.n_in_bounds_2)
+offset_bounds-table-i c = omega (arith, c.requires.n_in_bounds_2)
 
 pub bounds-table-i : goal.bounds-table-i
 bounds-table-i c = omega (arith, c.requires.n_in_bounds_2)
 
 pub overflow_mul-i-in-loop-i : goal.overflow_mul-i-in-loop-i
-overflow_mul-i-in-loop-i c = omega (arith, c.well_formed.1.1.0.0, c.requires.n_in_bounds_2)
+overflow_mul-i-in-loop-i c = omega (arith, c.requires.n_in_bounds_2)
 
 pub overflow_add-i : goal.overflow_add-i
-overflow_add-i c = omega (arith, c.well_formed.1.1.0.0, c.requires.n_in_bounds_2)
+overflow_add-i c = omega (arith, c.requires.n_in_bounds_2)
 
 pub offset_bounds-table-i-in-loop-i : goal.offset_bounds-table-i-in-loop-i
-offset_bounds-table-i-in-loop-i c = omega (arith, c.well_formed.1.1.0.0, c.requires.n_in_bounds_2)
+offset_bounds-table-i-in-loop-i c = omega (arith, c.requires.n_in_bounds_2)
 
 pub bounds-table-i-in-loop-i : goal.bounds-table-i-in-loop-i
 bounds-table-i-in-loop-i c = omega (arith, c.requires.n_in_bounds_2)
 
 pub overflow_mul-i-in-loop-i-2 : goal.overflow_mul-i-in-loop-i-2
-overflow_mul-i-in-loop-i-2 c = omega (arith, c.well_formed.1.1.0.0, c.requires.n_in_bounds_2)
+overflow_mul-i-in-loop-i-2 c = omega (arith, c.requires.n_in_bounds_2)
 
 pub overflow_add-i-in-loop-i : goal.overflow_add-i-in-loop-i
-overflow_add-i-in-loop-i c = omega (arith, c.well_formed.1.1.0.0, c.requires.n_in_bounds_2)
+overflow_add-i-in-loop-i c = omega (arith, c.requires.n_in_bounds_2)
 
 pub offset_bounds-table-i-in-loop-i-2 : goal.offset_bounds-table-i-in-loop-i-2
-offset_bounds-table-i-in-loop-i-2 c = omega (arith, c.well_formed.1.1.0.0, c.requires.n_in_bounds_2)
+offset_bounds-table-i-in-loop-i-2 c = omega (arith, c.requires.n_in_bounds_2)
 
 pub bounds-table-i-in-loop-i-2 : goal.bounds-table-i-in-loop-i-2
 bounds-table-i-in-loop-i-2 c = omega (arith, c.requires.n_in_bounds_2)
 
 pub overflow_mul-i-in-loop-i-3 : goal.overflow_mul-i-in-loop-i-3
-overflow_mul-i-in-loop-i-3 c = omega (arith, c.well_formed.1.1.0.0, c.requires.n_in_bounds_2)
+overflow_mul-i-in-loop-i-3 c = omega (arith, c.requires.n_in_bounds_2)
 
 pub overflow_add-i-in-loop-i-2 : goal.overflow_add-i-in-loop-i-2
-overflow_add-i-in-loop-i-2 c = omega (arith, c.well_formed.1.1.0.0, c.requires.n_in_bounds_2)
+overflow_add-i-in-loop-i-2 c = omega (arith, c.requires.n_in_bounds_2)
 
 pub offset_bounds-table-i-in-loop-i-3 : goal.offset_bounds-table-i-in-loop-i-3
-offset_bounds-table-i-in-loop-i-3 c = omega (arith, c.well_formed.1.1.0.0, c.requires.n_in_bounds_2)
+offset_bounds-table-i-in-loop-i-3 c = omega (arith, c.requires.n_in_bounds_2)
 
 pub bounds-table-i-in-loop-i-3 : goal.bounds-table-i-in-loop-i-3
 bounds-table-i-in-loop-i-3 c = omega (arith, c.requires.n_in_bounds_2)
