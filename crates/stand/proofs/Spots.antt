@@ -14,7 +14,7 @@ use mir.Val.{to_z, of_z}
 use Rattle.exact.specs.Within.{Within}
 use Rattle.exact.proofs.Bounds.{coordinate}
 use Rattle.exact.proofs.Truth.{neither_true}
-use Rattle.plane.specs.Side.{Point, limit, Near}
+use Rattle.plane.specs.Side.{limit, Near}
 use Rattle.cells.specs.Lists.{corner_count, corner_at}
 use Rattle.cells.specs.Check.{outside}
 use Rattle.cells.proofs.Checks.{not_outside}

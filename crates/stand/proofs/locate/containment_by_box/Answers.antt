@@ -1,0 +1,12 @@
+-- `stand::locate::containment_by_box` meets its contract.
+use Rattle.plane.specs.Side.{point}
+use Rattle.cells.proofs.Plans.{corners_exist}
+use Rattle.stand.proofs.ByBox.{tested_past, past_is_outside}
+use Rattle.stand.proofs.locate.containment_by_box.Goals as goal
+
+pub returns-then-is_past : goal.returns-then-is_past
+returns-then-is_past c = let q = point c.args.q in
+    past_is_outside c.requires.corners_near.2 c.requires.corners_near.1 c.requires.boxed q c.requires.c_bound (tested_past q c.read-b.ensures c.is_past.ensures c.if-is_past.true)
+
+pub containment-requires : goal.containment-requires
+containment-requires c = record { corners_near = (c.requires.corners_near.0, corners_exist c.requires.corners_near.2 c.requires.corners_near.1, c.requires.corners_near.2); near = c.requires.near; c_bound = c.requires.c_bound }
