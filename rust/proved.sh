@@ -36,6 +36,7 @@ ask_rt() { # WORD CRATE
 }
 
 # The printing program. rt knows by content whether it is made, and runs it, here on no input.
+# shellcheck disable=SC2034 # the scripts read it
 program=$PWD/crates/print/out/print
 make_program() { ask_rt run print; }
 
