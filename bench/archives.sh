@@ -10,13 +10,13 @@ fi
 . rust/proved.sh
 made=target/bench
 mkdir -p "$made"
-[ $# -eq 2 ] || make_native
+[ $# -eq 2 ] || make_archive
 shared() { cc -shared -Wl,--whole-archive "$1" -Wl,--no-whole-archive -o "$2"; }
 shared "$1" "$made/before.so"
-shared "${2:-$native_archive}" "$made/after.so"
+shared "${2:-$archive}" "$made/after.so"
 floors=()
 for floor in cathedral corridor largest splitting; do
-    run_native floor "$floor" "$made/$floor.plan" "$made/$floor.csv"
+    run_comparison floor "$floor" "$made/$floor.plan" "$made/$floor.csv"
     floors+=("$floor" "$made/$floor.plan" "$made/$floor.csv")
 done
 cc -std=c11 -O2 -Wall -Wextra -D_POSIX_C_SOURCE=200809L bench/archives.c -ldl -o "$made/archives"

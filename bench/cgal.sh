@@ -27,8 +27,8 @@ fi
 . rust/proved.sh
 floors=()
 for floor in cathedral corridor largest splitting; do
-    run_native floor "$floor" "$made/$floor.plan" "$made/$floor.csv"
+    run_comparison floor "$floor" "$made/$floor.plan" "$made/$floor.csv"
     floors+=("$floor" "$made/$floor.plan" "$made/$floor.csv")
 done
-"${compiler[@]}" -Iinclude bench/cgal.cpp "$native_archive" "${linked[@]}" -o "$made/cgal"
+"${compiler[@]}" -Iinclude bench/cgal.cpp "$archive" "${linked[@]}" -o "$made/cgal"
 "$made/cgal" "${floors[@]}"

@@ -1,10 +1,10 @@
 #!/usr/bin/env bash
-# Compiles the examples with the header, and runs them where the archive does: each prints what the printing program
-# prints for the same plan and stands.
+# Compiles the examples with the header, and runs them: each prints what the printing program prints for the same plan
+# and stands.
 set -eu -o pipefail
 cd "$(dirname "$0")/.."
 . rust/proved.sh
-make_shipped
+make_archive
 made=target/examples
 mkdir -p "$made"
 strict=(-Wall -Wextra -pedantic -Werror -Iinclude)
@@ -12,10 +12,6 @@ for example in client morning; do
     cc -std=c99 "${strict[@]}" -c "examples/$example.c" -o "$made/$example-c99.o"
     c++ -std=c++17 "${strict[@]}" -x c++ -c "examples/$example.c" -o "$made/$example-c++17.o"
 done
-if [ "$machine" != x86_64 ]; then
-    echo "examples: compiled, and not run: the archive is for x86-64"
-    exit 0
-fi
 prints() { # FILE COMMAND..
     expected=$1
     shift
@@ -26,8 +22,8 @@ cp "$printed" "$made/client.out"
 # The stand of the stored query, one outside, and that of the stored query as an offset.
 { cat "$printed"; echo refused 10 0; cat "$printed"; } >"$made/morning.out"
 for example in client morning; do
-    cc "$made/$example-c99.o" "$shipped_archive" -o "$made/$example-c99"
-    c++ "$made/$example-c++17.o" "$shipped_archive" -o "$made/$example-c++17"
+    cc "$made/$example-c99.o" "$archive" -o "$made/$example-c99"
+    c++ "$made/$example-c++17.o" "$archive" -o "$made/$example-c++17"
     prints "$made/$example.out" "$made/$example-c99"
     prints "$made/$example.out" "$made/$example-c++17"
 done

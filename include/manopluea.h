@@ -1,7 +1,7 @@
 /* The proved library: the public calls of documents 01 and 02 for C and every language that speaks its calling
  * convention.
  *
- * `rt staticlib exports` writes target/staticlib/libexports.a, for x86-64 Linux. It needs memcpy and memset, and
+ * `rt lib` in crates/exports writes crates/exports/out/libexports.a, for x86-64 Linux. It needs memcpy and memset, and
  * nothing else. Its code is position-independent: a shared object can be linked from it. examples/ has clients in C and
  * Python.
  *

@@ -8,9 +8,9 @@ if ! command -v cc >/dev/null; then
     echo "$0: cc is not there: a C compiler links the shared object" >&2
     exit 2
 fi
-make_native
+make_archive
 made=python/manopluea/libmanopluea.so
 # Linked under another name and moved: a program that has the old one loaded keeps it whole.
-cc -shared -Wl,--whole-archive "$native_archive" -Wl,--no-whole-archive -o "$made.new"
+cc -shared -Wl,--whole-archive "$archive" -Wl,--no-whole-archive -o "$made.new"
 mv "$made.new" "$made"
 echo "$made"

@@ -7,13 +7,11 @@ cd "$(dirname "$0")/.."
 . rust/proved.sh
 bash python/build.sh
 make_program
-make_shipped # the comparison program is not built without it
 made=$PWD/target/python
 mkdir -p "$made"
-compare() { cargo run --quiet --release --manifest-path rust/Cargo.toml -- "$@"; }
-compare inputs 1 3000 "$made/inputs"
-compare floor cathedral "$made/cathedral.plan" "$made/cathedral.csv"
-export MANOPLUEA_INPUTS=$made/inputs MANOPLUEA_CATHEDRAL=$made/cathedral.plan MANOPLUEA_PRINT=${program[*]@Q}
+run_comparison inputs 1 3000 "$made/inputs"
+run_comparison floor cathedral "$made/cathedral.plan" "$made/cathedral.csv"
+export MANOPLUEA_INPUTS=$made/inputs MANOPLUEA_CATHEDRAL=$made/cathedral.plan MANOPLUEA_PRINT=${program@Q}
 export PYTHONPATH=..
 unset MANOPLUEA_LIBRARY
 cd python/tests

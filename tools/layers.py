@@ -21,6 +21,13 @@ COLOURS = {"laws": "#f3ecd8", "code": "#d9e7fb", "program": "#dcefdc"}
 WORDS = {"laws": "definitions and laws, no code", "code": "code, proved", "program": "a program, proved"}
 
 
+def kept_heads(top):
+    """Of each crate what stands before the colon in crates.txt: its name, and that it is a static library if it is."""
+    lines = (top / "crates.txt").read_text(encoding="utf-8").split("\n")
+    heads = [line.partition("#")[0].partition(":")[0].split() for line in lines]
+    return {words[0]: " ".join(words) for words in heads if words}
+
+
 def without_comments(text):
     return re.sub(r"//.*", "", text)
 
@@ -37,7 +44,7 @@ def named(top, crate, known):
     text = "".join(path.read_text(encoding="utf-8") for path in proofs)
     own = set(re.findall(r"\bmod (\w+)", code)) | set(re.findall(r"\buse \w+(?:::\w+)*::(\w+)", code))
     names = set(re.findall(r"(?<![\w:])(\w+)::", code)) - own
-    names |= set(re.findall(r"Rattle·(\w+)", code + text))
+    names |= set(re.findall(r"\bRattle\.(\w+)", code + text))
     return (names & known) - {crate}
 
 
@@ -180,7 +187,8 @@ def main(argv, top=TOP):
     order = in_order({crate: near & crates for crate, near in uses.items()})
     ours = {crate: [other for other in order if other in uses[crate]] for crate in order}
     kits = {crate: [kit for kit in KIT if kit in uses[crate] - crates] for crate in order}
-    listed = "".join(" ".join([f"{crate}:", *ours[crate], *kits[crate]]) + "\n" for crate in order)
+    heads = kept_heads(top)
+    listed = "".join(" ".join([f"{heads[crate]}:", *ours[crate], *kits[crate]]) + "\n" for crate in order)
     stale = False
     for path, text in ((top / "crates.txt", listed), (top / "docs/layers.svg", picture(top, ours))):
         if not path.is_file() or path.read_text(encoding="utf-8") != text:

@@ -6,4 +6,4 @@ cd "$(dirname "$0")/.."
 . rust/proved.sh
 make_program
 exec 9<&- # the program may wait for its input as long as it likes, and the lock is for what is made
-exec "${program[@]}"
+exec "$program"

@@ -90,7 +90,7 @@ def needs(top):
     """Each crate of crates.txt, in its order, with what it may name."""
     lines = (top / "crates.txt").read_text(encoding="utf-8").split("\n")
     pairs = [line.partition("#")[0].split(":") for line in lines]
-    return {pair[0].strip(): pair[1].split() for pair in pairs if len(pair) == 2}
+    return {pair[0].split()[0]: pair[1].split() for pair in pairs if len(pair) == 2}
 
 
 def edits_of(top, wanted):

@@ -20,7 +20,7 @@ class Layers(unittest.TestCase):
         (self.top / "docs").mkdir()
         self.write("low/src/lib.rt", "// The lowest.\n// It has no code.\n//\n// More.\n")
         self.write("middle/src/lib.rt", "// The middle.\nfn one() { low::two(1) }\n")
-        self.write("side/src/lib.rt", "// The side.\nghost use Rattle·low.specs.Two.{two};\n")
+        self.write("side/src/lib.rt", "// The side.\nghost use Rattle.low.specs.Two.{two};\n")
         self.write("high/src/main.rt", "// The highest.\nuse middle::one;\nfn main() { one(); io::put(1); low::two(2) }\n")
         (self.top / "crates.txt").write_text("high: middle side\nmiddle: low\nside: low\nlow:\n", encoding="utf-8")
 
@@ -43,13 +43,18 @@ class Layers(unittest.TestCase):
 
     def test_a_name_in_a_proof_counts_and_one_in_a_comment_does_not(self):
         self.write("middle/src/lib.rt", "// low::two is not called.\nfn one() {}\n")
-        self.write("middle/proofs/one/Proof.antt", "use Rattle·side.specs.Three.{three}\n")
+        self.write("middle/proofs/one/Proof.antt", "use Rattle.side.specs.Three.{three}\n")
         self.assertEqual(self.listed(), "low:\nside: low\nmiddle: side\nhigh: low middle io\n")
 
     def test_a_module_that_is_called_as_a_crate_is_does_not_count(self):
         self.write("side/src/lib.rt", "mod low;\nfn one() { low::two(1) }\n")
         self.write("middle/src/lib.rt", "use side::low;\nfn one() { low::two(1) }\n")
         self.assertEqual(self.listed(), "side:\nmiddle: side\nlow:\nhigh: middle low io\n")
+
+    def test_a_static_library_stays_one(self):
+        text = (self.top / "crates.txt").read_text(encoding="utf-8").replace("high:", "high staticlib:")
+        (self.top / "crates.txt").write_text(text, encoding="utf-8")
+        self.assertEqual(self.listed(), "low:\nmiddle: low\nhigh staticlib: low middle io\nside: low\n")
 
     def test_a_circle_is_told(self):
         self.write("low/src/lib.rt", "fn two() { middle::one() }\n")

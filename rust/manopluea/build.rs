@@ -6,8 +6,7 @@ use std::env;
 use std::path::{Path, PathBuf};
 
 /// What can be done where there is no archive.
-const REMEDY: &str =
-    "In the top folder of the repository `rt staticlib exports` makes the one for \
+const REMEDY: &str = "In the folder crates/exports of the repository `rt lib` makes the one for \
     x86-64 Linux, and so does `bash rust/compare.sh`; MANOPLUEA_ARCHIVE names any other by its \
     whole path.";
 
@@ -41,7 +40,7 @@ fn archive() -> Result<PathBuf, String> {
             "no archive is named that is made for {machine} {system}"
         ));
     }
-    Ok(Path::new(env!("CARGO_MANIFEST_DIR")).join("../../target/staticlib/libexports.a"))
+    Ok(Path::new(env!("CARGO_MANIFEST_DIR")).join("../../crates/exports/out/libexports.a"))
 }
 
 fn link(archive: &Path) -> Result<(), String> {

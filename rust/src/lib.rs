@@ -13,7 +13,6 @@ pub mod calls;
 pub mod compare;
 pub mod examples;
 pub mod generate;
-mod kit;
 pub mod paper;
 pub mod plain;
 pub mod program;

@@ -6,7 +6,7 @@
 use manopluea_compare::calls::Calls;
 use manopluea_compare::paper::Paper;
 use manopluea_compare::program::Program;
-use manopluea_compare::proved::{self, Proved};
+use manopluea_compare::proved::Proved;
 use manopluea_compare::{bench, compare, examples, generate, stack};
 use std::fs::{self, File};
 use std::io::{self, BufWriter, Write};
@@ -69,12 +69,8 @@ fn compare_with_proved(seed: u64, count: u64) -> Result<(), String> {
     Ok(())
 }
 
-/// Times the proved library, where it is part of this program.
+/// Times the proved library.
 fn bench_proved(report: fn(&dyn Calls) -> String) -> Result<(), String> {
-    if !proved::IS_LINKED {
-        let why = "this build has no proved library for the machine at hand: run bench.sh";
-        return Err(why.to_string());
-    }
     print!("{}", report(&Proved));
     Ok(())
 }

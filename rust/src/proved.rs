@@ -1,23 +1,25 @@
 //! The proved library behind its C interface, `include/manopluea.h`, as an
 //! implementor of the public calls.
 
-// Where the archive is not made for the machine at hand, its functions run in a
-// process of their own, under an emulator. Both modules have the same functions.
-#[cfg(any(target_arch = "x86_64", feature = "native"))]
-#[path = "proved/linked.rs"]
-mod c;
-#[cfg(not(any(target_arch = "x86_64", feature = "native")))]
-#[path = "proved/piped.rs"]
-mod c;
-
-pub use c::{on_stack, IS_LINKED};
-
 use crate::calls::{
     Calls, DoorChange, Listing, Lists, Morning, Query, Reply, Stand, MOST_TEXT, REPLY,
 };
+use manopluea::raw as c;
 
 /// The proved library.
 pub struct Proved;
+
+/// Asks on a stack of so many bytes.
+pub fn on_stack<T: Send>(bytes: usize, ask: impl FnOnce() -> T + Send) -> T {
+    std::thread::scope(|scope| {
+        std::thread::Builder::new()
+            .stack_size(bytes)
+            .spawn_scoped(scope, ask)
+            .expect("a thread starts")
+            .join()
+            .expect("a call does not panic")
+    })
+}
 
 /// What a text holds before a call: no byte that is ever printed.
 const UNPRINTED: u8 = 0xa5;

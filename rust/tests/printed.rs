@@ -24,7 +24,7 @@ fn stored(input: &Path, output: &Path) -> Run {
     }
 }
 
-/// The run of `rt check`, and those of the folder `runs`.
+/// The run of `rt ci`, and those of the folder `runs`.
 fn runs() -> Vec<Run> {
     let folder = Path::new(env!("CARGO_MANIFEST_DIR")).join("../crates/print");
     let mut inputs: Vec<PathBuf> = fs::read_dir(folder.join("runs"))

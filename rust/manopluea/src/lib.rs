@@ -50,7 +50,7 @@
 //! ```
 //!
 //! The archive of the library is linked by the feature `calls`, which is on where nothing else
-//! is said: `target/staticlib/libexports.a` of the repository, made for x86-64 Linux, or the one
+//! is said: `crates/exports/out/libexports.a` of the repository, made for x86-64 Linux, or the one
 //! that the environment variable MANOPLUEA_ARCHIVE names by its whole path. Without the feature
 //! there are the types alone.
 

@@ -41,11 +41,7 @@ fn build(
 /// What is said where nothing is built, which has to be what to do, too.
 fn fault(built: Result<String, String>) -> String {
     let said = built.expect_err("there is no archive");
-    for part in [
-        "rt staticlib exports",
-        "bash rust/compare.sh",
-        "MANOPLUEA_ARCHIVE",
-    ] {
+    for part in ["rt lib", "bash rust/compare.sh", "MANOPLUEA_ARCHIVE"] {
         assert!(said.contains(part), "{part}: {said}");
     }
     said
@@ -86,7 +82,7 @@ fn the_archive_that_is_shipped_has_to_be_made() {
     // A workspace of its own: the folder lies in another.
     fs::write(package.join("Cargo.toml"), manifest + "\n[workspace]\n").expect("it is written");
     let said = fault(build(&package, &top.join("target"), None, &[]));
-    let archive = package.join("../../target/staticlib/libexports.a");
+    let archive = package.join("../../crates/exports/out/libexports.a");
     let missing = format!("{} is not there", archive.display());
     assert!(said.contains(&missing), "{said}");
 }
