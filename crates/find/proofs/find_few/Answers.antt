@@ -1,0 +1,11 @@
+-- `find::find_few` meets its contract.
+use mathlib.Core.Path.{refl, sym}
+use native.Mathlib.Omega.{arith}
+use Rattle.cells.proofs.Plans.{counts}
+use Rattle.checking.proofs.Measures.{counted_fit}
+use Rattle.find.proofs.find_few.Goals as goal
+
+pub find_cut-requires : goal.find_cut-requires
+find_cut-requires c = let fit = counted_fit c.args.kind c.args.corners.now c.args.cells.now c.args.doors.now (sym c.requires.doors_value) refl in
+    let size = counts _ _ _ fit.in_size in
+    record { doors_value = c.requires.doors_value; n_in_bounds = (omega (arith, fit.faces, size.cells_at_most, c.requires.n_bound), omega (arith, fit.cells, size.cells_at_most), omega (arith, fit.faces, size.cells_at_most, c.requires.n_bound)) }

@@ -1,0 +1,29 @@
+-- `find::find_in` meets its contract.
+use native.Mathlib.Omega.{arith}
+use Rattle.cells.proofs.Plans.{counts}
+use Rattle.checking.proofs.Rooms.{drawn_cells}
+use Rattle.find.proofs.Finding.{doors_read, plan_read, plan_refused, setting_refused, setting_accepted}
+use Rattle.find.proofs.find_in.Goals as goal
+
+pub check_into-requires : goal.check_into-requires
+check_into-requires c = record { cells_value = c.requires.cells_value.0; doors_value = c.requires.cells_value.1; faces_len = c.requires.faces_len; firsts_len = c.requires.firsts_len; backs_len = c.requires.backs_len; cells_in_bounds = omega (arith, (counts _ _ _ c.requires.cells_value.1).cells_at_most) }
+
+pub is_wrong-requires : goal.is_wrong-requires
+is_wrong-requires c = let a = c.args in
+    doors_read a.kind a.corners.now a.cells.now a.doors.now c.check_into.ensures.value c.in-Accepted.is
+
+pub returns-then-is_wrong : goal.returns-then-is_wrong
+returns-then-is_wrong c = let a = c.args in
+    setting_refused a.kind a.corners.now a.cells.now a.doors.now a.setting a.stand c.check_into.ensures.value c.in-Accepted.is c.is_wrong.ensures c.if-is_wrong.true
+
+pub find_stand-requires : goal.find_stand-requires
+find_stand-requires c = let a = c.args in
+    plan_read a.kind a.corners.now a.cells.now a.doors.now c.check_into.ensures.value c.in-Accepted.is (drawn_cells a.kind a.cells.now c.check_into.ensures.faces_after c.check_into.ensures.firsts_after) _ _ c.check_into.ensures.backed
+
+pub returns-in-Refused : goal.returns-in-Refused
+returns-in-Refused c = let a = c.args in
+    plan_refused a.kind a.corners.now a.cells.now a.doors.now a.setting a.stand c.check_into.ensures.value c.in-Refused.is
+
+pub returns-else-is_wrong : goal.returns-else-is_wrong
+returns-else-is_wrong c = let a = c.args in
+    setting_accepted a.kind a.corners.now a.cells.now a.doors.now a.setting a.stand c.check_into.ensures.value c.in-Accepted.is c.is_wrong.ensures c.if-is_wrong.false (drawn_cells a.kind a.cells.now c.check_into.ensures.faces_after c.check_into.ensures.firsts_after) c.find_stand.ensures
