@@ -130,14 +130,14 @@ class Reader:
         if t == "-":
             e = self.atom()
             text, quoted = e.within(APPLIED + 1)
-            return Expr({m: -c for m, c in e.poly.items()}, f"negℤ {text}", f"neg {quoted}", APPLIED)
+            return Expr({m: -c for m, c in e.poly.items()}, f"neg_ℤ {text}", f"neg {quoted}", APPLIED)
         if t == "0":
             return Expr({}, "𝟘", "𝟘ᵉ", APPLIED + 1)
         if t.isdigit():
             return Expr({(): int(t)}, f"pos {t}", f"lit (pos {t})", APPLIED)
         if t in ("x", "y"):
             u, text, quoted = self.vector()
-            return Expr(u["xy".index(t)], f"{text} .{t}", f"{quoted} .{t}", APPLIED)
+            return Expr(u["xy".index(t)], f"{text}.{t}", f"{quoted}.{t}", APPLIED + 1)
         if t not in ("cross", "dot", "side"):
             raise SyntaxError(f"no expression begins with {t}")
         self.used.add(t)
@@ -369,7 +369,7 @@ def expand(line, records, vectors, name):
         raise SyntaxError(f"{head} takes {len(params)} vectors")
     put = dict(zip(params, args))
     facts = [Fact(" ".join(put.get(w, w) for w in words(text)), vectors) for _, text in fields]
-    return line, [(f"({name} .{field})", f) for (field, _), f in zip(fields, facts)], [field for field, _ in fields]
+    return line, [(f"{name}.{field}", f) for (field, _), f in zip(fields, facts)], [field for field, _ in fields]
 
 
 def subscript(i):
@@ -403,7 +403,7 @@ def show(law, records):
     def one(goal):
         same = [t for t, f in known if f.text == goal.text]
         if same:
-            return same[0].strip("()")
+            return same[0]
         used.update(goal.used)
         if goal.rel == "=" and not goal.poly:
             (_, a), (_, b) = goal.left.within(APPLIED + 1), goal.right.within(APPLIED + 1)

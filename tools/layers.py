@@ -15,7 +15,7 @@ import xml.etree.ElementTree as Xml
 from refused import needs
 
 TOP = pathlib.Path(__file__).resolve().parent.parent
-KIT = ("check", "libc", "io", "os", "bytes")
+KIT = ("check", "io", "bytes")
 WIDE, HIGH, APART, ABOVE, EDGE = 92, 26, 18, 46, 16
 COLOURS = {"laws": "#f3ecd8", "code": "#d9e7fb", "program": "#dcefdc"}
 WORDS = {"laws": "definitions and laws, no code", "code": "code, proved", "program": "a program, proved"}
@@ -42,7 +42,9 @@ def named(top, crate, known):
     code = "\n".join(without_comments(path.read_text(encoding="utf-8")) for path in sources(top, crate))
     proofs = [path for part in ("specs", "proofs") for path in folder.glob(f"{part}/**/*.antt")]
     text = "".join(path.read_text(encoding="utf-8") for path in proofs)
-    own = set(re.findall(r"\bmod (\w+)", code)) | set(re.findall(r"\buse \w+(?:::\w+)*::(\w+)", code))
+    own = set(re.findall(r"\bmod (\w+)", code))
+    for brought in re.findall(r"\buse \w+::([^;]*)", code):
+        own |= set(re.findall(r"\w+", brought))
     names = set(re.findall(r"(?<![\w:])(\w+)::", code)) - own
     names |= set(re.findall(r"\bRattle\.(\w+)", code + text))
     return (names & known) - {crate}

@@ -16,7 +16,7 @@ import textwrap
 
 TOP = pathlib.Path(__file__).resolve().parent.parent
 PAGE = "docs/READING.md"
-NAMED = re.compile(r"Rattle·(\w+?)(?:·specs)?\.specs\.((?:\w+\.)*\w+)")
+NAMED = re.compile(r"\bRattle\.(\w+)\.specs\.((?:\w+\.)*\w+)")
 BLOCK = re.compile(r"(<!-- reading(?:: ([^>]*?)| in all) -->)\n.*?(<!-- end -->)", re.DOTALL)
 
 
@@ -48,6 +48,8 @@ class Tree:
         """The files of specs/ that it names, in its order, and the types of the code with their files."""
         files, types = [], []
         for crate, path in NAMED.findall(re.sub(r"(--|//).*", "", text_of(self.top, file))):
+            if not (self.top / "crates" / crate).is_dir():
+                continue  # the library's
             parts = path.split(".")
             if parts[0] == "declared":
                 at = next(i for i, part in enumerate(parts) if part[0].isupper())

@@ -10,14 +10,19 @@ import unittest
 
 TOP = pathlib.Path(__file__).resolve().parent.parent
 
+# The words of `rt ci` where all is well.
+OK = """\
+rt: one proved
+rt: one: trying its must-fail edits (3)
+rt: must-fail one/wrong.edit: refused, as it must be: ./proofs/f/Answers.antt:3:5: error: `returns`: it is not
+rt: ok; handles allowed: none; must-fail edits: 3 refused; every proof and must-fail edit was done in this run
+12 passed, 0 failed"""
+
 # What each tool does where nothing is wrong, by the place of its script.
 TOOLS = {
-    "bin/rt": """
-        case $1 in
-        ci) echo 'rt: one proved (1 s)'; echo 'rt: ok, 1 crates proved'; echo '12 passed, 0 failed' ;;
-        fmt) ;;
-        *) exit 2 ;;
-        esac""",
+    "bin/rt": f"""
+        [ "$*" = ci ] || exit 2
+        cat <<'END'\n{textwrap.indent(OK, " " * 8)}\n        END""",
     "bin/cargo": "",
     "bin/cc": "",
     "bin/c++": "",
@@ -25,16 +30,16 @@ TOOLS = {
     "examples/run.sh": "echo examples",
     "python/test.sh": "echo tested",
 }
-REFUSED = "print('one/wrong: refused')\nprint('30 refused, 0 not')\n"
+
+# It is given the words of rt.
+REFUSED = """\
+import sys
+if "rt: must-fail one/wrong.edit: refused" not in sys.stdin.read():
+    sys.exit(1)
+print("3 refused, 0 not")
+"""
 
 RIGHT = "import unittest\nclass A(unittest.TestCase):\n def test(self): pass\n"
-
-# Waits until the other lane is at work.
-BESIDE_THE_OTHER = """\
-import os, sys, time
-while not os.path.exists("alone") or not os.path.getsize("alone"):
-    time.sleep(0.1)
-"""
 
 
 class Gate(unittest.TestCase):
@@ -67,7 +72,7 @@ class Gate(unittest.TestCase):
         with subprocess.Popen(["bash", self.top / ".ci/run"], env=place, stdin=subprocess.DEVNULL, text=True,
                               stdout=subprocess.PIPE, stderr=subprocess.PIPE) as gate:
             meanwhile(gate)
-            # A lane that was not ended would hold the pipe open, and so fail by its time.
+            # A part that was not ended would hold the pipe open, and so fail by its time.
             said = gate.communicate(timeout=20)[0]
         self.assertEqual(list((self.top / "tmp").iterdir()), [], "nothing is left behind")
         return gate.returncode, said.split("\n")[:-1]
@@ -91,8 +96,8 @@ class Gate(unittest.TestCase):
     def test_green(self):
         status, lines = self.run_gate()
         self.assertEqual(status, 0)
-        self.assertEqual(lines[-1], "42 passed, 0 failed")
-        for line in ["rt ci: 12 passed, 0 failed", "compared", "examples", "tested", "one/wrong: refused"]:
+        self.assertEqual(lines[-1], "12 passed, 0 failed")
+        for line in ["rt ci: 12 passed, 0 failed", "3 refused, 0 not", "compared", "examples", "tested"]:
             self.assertEqual(lines.count(line), 1)
 
     def test_a_step_that_fails(self):
@@ -111,16 +116,34 @@ class Gate(unittest.TestCase):
                     self.assert_red()
                     self.tool(name, script)
 
+    def say(self, words, end=""):
+        self.tool("bin/rt", f"cat <<'END'\n{words}\nEND\n{end}")
+
     def test_rt(self):
-        for words in ["echo '12 passed, 0 failed'; exit 1", "echo '12 passed, 1 failed'", "echo 'rt: ok'", "kill -9 $$",
-                      "echo 'rt: one NOT PROVED (exit 1, 3 s)'; sleep 60"]:
-            with self.subTest(words):
-                self.tool("bin/rt", f"case $1 in ci) {words} ;; esac")
+        failed = "rt: FAILED: one\n11 passed, 1 failed"
+        for words, end in [(OK, "exit 1"), (OK, "kill -9 $$"), ("rt: one proved", "kill -9 $$"),
+                           (f"rt: run rt fmt in the crate's folder\nrt: one NOT PROVED\n{failed}", "exit 1"),
+                           (f"rt: one NOT PROVED\n{failed}", ""),
+                           (f"rt: must-fail one/wrong.edit: NOT REFUSED: the crate is still proved\n{failed}", "exit 1"),
+                           (OK.replace("12 passed, 0 failed", "11 passed, 1 failed"), ""),
+                           (OK.replace("12 passed, 0 failed", ""), ""),
+                           (OK.replace("rt: ok; ", "rt: one passed; "), ""),
+                           (OK.replace("0 failed", "0 failed (one and the crates below alone: not the gate)"), "")]:
+            with self.subTest(words=words, end=end):
+                self.say(words, end)
                 self.assert_red()
 
-    def test_the_layout(self):
-        self.tool("bin/rt", TOOLS["bin/rt"].replace("fmt) ;;", "fmt) exit 1 ;;"))
-        self.assert_red()
+    def test_an_edit_that_could_not_be_tried(self):
+        bad = "rt: must-fail one/gone.edit: BAD EDIT: an 'old:' text is in src/lib.rt 0 times, and not once\n"
+        for told in ["3 refused, 1 bad;", "3 refused, 12 bad;", "0 refused, 3 bad;", "3 refused, 1 of them only by a limit, 1 bad;"]:
+            with self.subTest(told):
+                self.say(bad + OK.replace("3 refused;", told))
+                self.assert_red()
+
+    def test_rt_is_asked_for_all_of_it(self):
+        self.tool("bin/rt", f"echo \"$PWD:$*\" >>asked\n{textwrap.dedent(TOOLS['bin/rt'])}")
+        self.assertEqual(self.run_gate()[0], 0)
+        self.assertEqual((self.top / "asked").read_text(encoding="utf-8"), f"{self.top.resolve()}:ci\n")
 
     def test_a_tool_that_is_not_there(self):
         (self.top / "rust/compare.sh").unlink()
@@ -128,6 +151,10 @@ class Gate(unittest.TestCase):
 
     def test_the_tools_own_tests(self):
         self.write("tools/test_wrong.py", RIGHT.replace("pass", "self.fail()"))
+        self.assert_red()
+
+    def test_tidy(self):
+        self.write("tools/tidy.py", "raise SystemExit(1)")
         self.assert_red()
 
     def test_a_tool_that_finds_a_fault(self):
@@ -138,35 +165,33 @@ class Gate(unittest.TestCase):
                 self.write(name, "")
 
     def test_edits(self):
-        for said, end in [("29 refused, 1 not", "sys.exit(1)"), ("29 refused, 1 not", ""), ("", ""),
-                          ("30 refused, 0 not", "sys.exit(1)"), ("so far", "import os; os.kill(os.getpid(), 9)")]:
+        for said, end in [("2 refused, 1 not", "sys.exit(1)"), ("2 refused, 1 not", ""), ("", ""),
+                          ("3 refused, 0 not", "sys.exit(1)"), ("so far", "import os; os.kill(os.getpid(), 9)")]:
             with self.subTest((said, end)):
                 self.write("tools/refused.py", f"import sys\nprint({said!r}, flush=True)\n{end}\n")
                 self.assert_red()
 
-    def test_an_edit_that_is_not_refused_ends_the_other_lane_and_its_log_stands_last(self):
-        self.tool("rust/compare.sh", "echo $$ >alone; sleep 60; echo compared")
-        self.write("tools/refused.py", f"{BESIDE_THE_OTHER}print('one/wrong: NOT REFUSED')\nsys.exit(1)\n")
-        self.assert_red(last="one/wrong: NOT REFUSED")
-        self.assert_ended()
+    def test_an_edit_that_is_refused_elsewhere_ends_it_and_stands_last(self):
+        self.write("tools/refused.py", "print('one/wrong: REFUSED ELSEWHERE')\nraise SystemExit(1)\n")
+        self.tool("rust/compare.sh", "echo $$ >alone")
+        self.assert_red(last="one/wrong: REFUSED ELSEWHERE")
+        self.assertFalse((self.top / "alone").exists())
 
-    def test_a_test_that_fails_ends_the_edits(self):
-        self.tool("rust/compare.sh", "until [ -s alone ]; do sleep 0.1; done; echo broken; exit 1")
-        self.write("tools/refused.py", "import os, time\nopen('alone', 'w').write(str(os.getpid()))\ntime.sleep(60)\n")
-        self.assert_red(last="broken")
-        self.assert_ended()
+    def test_a_gate_that_is_ended_ends_what_it_runs(self):
+        for name in ("bin/rt", "rust/compare.sh"):
+            with self.subTest(name):
+                self.tool(name, "echo $$ >alone; sleep 60")
 
-    def test_a_gate_that_is_ended_ends_both_lanes(self):
-        self.tool("rust/compare.sh", "echo $$ >alone; sleep 60")
-        self.write("tools/refused.py", f"{BESIDE_THE_OTHER}open('both', 'w')\ntime.sleep(60)\n")
+                def end(gate):
+                    alone = self.top / "alone"
+                    while gate.poll() is None and not (alone.exists() and alone.stat().st_size):
+                        time.sleep(0.1)
+                    gate.terminate()
 
-        def end(gate):
-            while gate.poll() is None and not (self.top / "both").exists():
-                time.sleep(0.1)
-            gate.terminate()
-
-        self.assert_red(meanwhile=end)
-        self.assert_ended()
+                self.assert_red(meanwhile=end)
+                self.assert_ended()
+                (self.top / "alone").unlink()
+                self.tool(name, TOOLS[name])
 
 
 if __name__ == "__main__":

@@ -50,6 +50,8 @@ class Layers(unittest.TestCase):
         self.write("side/src/lib.rt", "mod low;\nfn one() { low::two(1) }\n")
         self.write("middle/src/lib.rt", "use side::low;\nfn one() { low::two(1) }\n")
         self.assertEqual(self.listed(), "side:\nmiddle: side\nlow:\nhigh: middle low io\n")
+        self.write("middle/src/lib.rt", "use side::{low, up as io};\nfn one() { low::two(io::put(1)) }\n")
+        self.assertEqual(self.listed(), "side:\nmiddle: side\nlow:\nhigh: middle low io\n")
 
     def test_a_static_library_stays_one(self):
         text = (self.top / "crates.txt").read_text(encoding="utf-8").replace("high:", "high staticlib:")

@@ -74,13 +74,13 @@ Types, declared in the code: `Stand` (`crates/ground/src/spot.rt`), `Plan` (`cra
 
 FILES = {
     "docs/READING.md": PAGE,
-    "crates/house/src/lib.rt": "// The call.\npub struct Plan {}\n// Rattle·house·specs.specs.Unread\n"
-                               "ghost use Rattle·house·specs.specs.Call.{called};\n",
-    "crates/house/specs/Call.antt": "use Rattle·ground.specs.Deep as D\n"
-                                    "use Rattle·ground.specs.declared.spot.Stand.the-variants.{At}\n"
-                                    "use Rattle·house.specs.declared.Plan.{Plan} -- Rattle·house.specs.Unread\n",
-    "crates/house/specs/Claim.antt": "use Rattle·house·specs.specs.Call.{called}\n",
-    "crates/house/specs/Other.antt": "use mathlib.Core.List.{List}\n",
+    "crates/house/src/lib.rt": "// The call.\npub struct Plan {}\n// Rattle.house.specs.Unread\n"
+                               "ghost use Rattle.house.specs.Call.{called};\n",
+    "crates/house/specs/Call.antt": "use Rattle.ground.specs.Deep as D\n"
+                                    "use Rattle.ground.specs.declared.spot.Stand.TheVariants.{At}\n"
+                                    "use Rattle.house.specs.declared.Plan.{Plan} -- Rattle.house.specs.Unread\n",
+    "crates/house/specs/Claim.antt": "use Rattle.house.specs.Call.{called}\n",
+    "crates/house/specs/Other.antt": "use Rattle.std.specs.Prelude.{List}\n",
     "crates/house/specs/Unread.antt": "one\n",
     "crates/house/specs/Lib.antt": "-- what is called\npub mod Call\n-- what is claimed\npub mod Claim\n"
                                    "-- another claim\npub mod Other\n",
@@ -130,7 +130,7 @@ class Written(unittest.TestCase):
         self.assertEqual(self.page(), WRITTEN)
 
     def test_a_file_that_is_not_there(self):
-        self.write("crates/house/specs/Other.antt", "use Rattle·ground.specs.Gone.{gone}\n")
+        self.write("crates/house/specs/Other.antt", "use Rattle.ground.specs.Gone.{gone}\n")
         self.assert_fault("crates/ground/specs/Gone.antt is not there")
 
     def test_a_file_of_which_nothing_is_said(self):

@@ -1,251 +1,172 @@
-"""tools/refused.py counts an edit as refused only where the checker refused just that, and says what else is wrong. The
-checker here is a few lines that go by the number in the source."""
+"""tools/refused.py counts an edit as refused only where rt says that it was, and that its check failed first where the
+edit says, and it tells what else is wrong."""
 import contextlib
 import io
-import os
 import pathlib
-import platform
-import re
 import tempfile
 import unittest
-from unittest import mock
 
 import refused
 
-# What is said of each number, and the exit status: 1 is proved, 2 and 8 are refused as they should be, and the others are
-# not. Of 6 the checker is killed. What it keeps is the numbers that it has seen: over a folder with others than that of
-# the unedited crate it has no verdict.
-CHECKER = """\
-#!/usr/bin/env python3
-import os, pathlib, sys
-words = sys.argv[1:]
-root, kept = pathlib.Path(words[3]), pathlib.Path(words[words.index("--incremental") + 1])
-number, folder = root.read_text(), root.parent.parent
-seen = [path.name for path in kept.iterdir()] if kept.is_dir() else []
-kept.mkdir(exist_ok=True)
-(kept / number).write_text("")
-if number == "6":
-    os.kill(os.getpid(), 9)
-if number != "1" and seen not in ([], ["1"]) or seen and os.environ.get("FORGETFUL"):
-    sys.exit(3)
-there, elsewhere = f"{folder}/proofs/f/Proof.antt:3:5: error", f"{folder}/proofs/g/Proof.antt:1:1: error"
-said, status = {
-    "1": ("logic=proved functions=1", 0),
-    "2": (f"{there}: it is not\\n{elsewhere}\\nlogic=not-proved", 1),
-    "3": ("logic=proved functions=1", 0),
-    "4": (f"{elsewhere}\\n{there}\\nlogic=not-proved", 1),
-    "5": (f"{folder}/src/lib.rt:1:1: error: no such word", 1),
-    "7": (f"{there}\\nlogic=not-proved", 3),
-    "8": (f"note: {folder}/proofs/f/Proof.antt:9:9: it has no proof\\nlogic=not-proved", 1),
-    "9": ("logic=not-proved", 1),
-}[number]
-print(said)
-sys.exit(status)
+CODE = """\
+//! A crate.
+
+fn f(n: usize) -> usize
+    ensures { result ≡ n }
+{
+    n
+}
+
+#[cycle(both)]
+#[tactic(
+    auto,
+)]
+pub fn g(n: usize) -> usize {
+    h(n)
+}
+
+impl Two {
+    // how many
+    pub(crate) fn many(self) -> usize {
+        2
+    }
+}
+
+pub fn again(n: usize) -> usize {
+    if n == 0 { 0 } else { again(n - 1) }
+}
 """
 
-# It proves what is asked for but for a crate called `unproved`, and refuses the edits of a copy by their numbers.
-RT = """\
-#!/usr/bin/env python3
-import pathlib, sys
-verb, *crates = sys.argv[1:]
-for crate in crates:
-    print(f"rt: {crate} NOT PROVED (exit 1, 1 s)" if crate == "unproved" else f"rt: {crate} proved (1 s)")
-if verb == "must-fail":
-    assert not pathlib.Path("target").exists()
-    for edit in sorted(pathlib.Path("crates").glob("*/must-fail/*.edit")):
-        name = f"{edit.parent.parent.name}/{edit.stem}"
-        place = {"2": "f", "4": "g"}.get(edit.read_text().split("new: ")[1].strip())
-        if place:
-            print(f"rt: must-fail {name}: refused, as it must be (first at proofs/{place}/Proof.antt:3:5; 7 s)")
-        else:
-            print(f"rt: must-fail {name}: NOT REFUSED: the crate is still proved with this edit (7 s)")
-"""
+EDIT = "# first: {}\nfile: src/lib.rt\nold: 1\nnew: 2\n"
 
 
 class Refused(unittest.TestCase):
     def setUp(self):
         folder = tempfile.TemporaryDirectory()
         self.addCleanup(folder.cleanup)
-        self.top = pathlib.Path(folder.name).resolve() / "house"
-        self.kit = pathlib.Path(folder.name).resolve() / "kit"
-        self.write(self.kit / "on" / platform.machine() / "bin/rattle", CHECKER, 0o755)
-        self.write(self.kit / "bin/rt", RT, 0o755)
-        self.write(self.top / "crates.txt", "one:\ntwo: one # and no more\nunproved:\n")
-        for crate in ("one", "two", "unproved"):
-            self.write(self.top / f"crates/{crate}/src/lib.rt", "1")
-        place = {"PATH": f"{self.kit / 'bin'}:{os.environ['PATH']}", "RATTLE_HOME": "", "RT_JOBS": "2"}
-        patched = mock.patch.dict(os.environ, place)
-        patched.start()
-        self.addCleanup(patched.stop)
+        self.top = pathlib.Path(folder.name)
+        self.write("crates.txt", "# all of them\none:\ntwo staticlib: one # and no more\nthree:\n")
+        for file in ("one/src/lib.rt", "one/src/more.rt", "two/src/lib.rt"):
+            self.write(f"crates/{file}", CODE)
+        self.write("crates/one/proofs/+again/Invariants.antt", "")
 
-    def write(self, path, text, mode=0o644):
+    def write(self, name, text):
+        path = self.top / name
         path.parent.mkdir(parents=True, exist_ok=True)
         path.write_text(text, encoding="utf-8")
-        path.chmod(mode)
+        return path
 
-    def edit(self, number, name="wrong", crate="one"):
-        text = f"first: proofs/f/Proof.antt\nfile: src/lib.rt\nold: 1\nnew: {number}\n"
-        self.write(self.top / f"crates/{crate}/refused/{name}.edit", text)
+    def edit(self, first="proofs/f", name="one/wrong", text=EDIT):
+        crate, _, name = name.partition("/")
+        return self.write(f"crates/{crate}/must-fail/{name}.edit", text.format(first))
 
-    def tried(self, *words):
-        """The exit status, and the lines printed, less how long it took."""
+    def told(self, place="./proofs/f/Answers.antt:3:5: error: `returns`: it is not", name="one/wrong"):
+        """What rt says of an edit that is refused there."""
+        return f"rt: must-fail {name}.edit: refused, as it must be: {place}\n"
+
+    def read(self, words, *wanted):
+        """The exit status, and the lines printed."""
         out = io.StringIO()
         with contextlib.redirect_stdout(out):
-            status = refused.main(["refused.py", *words], self.top)
-        return status, re.sub(r" \(\d+ s\)", "", out.getvalue()).split("\n")[:-1]
+            status = refused.main(["refused.py", *wanted], words, self.top)
+        return status, out.getvalue().split("\n")[:-1]
 
-    def test_refused(self):
-        self.edit(2)
-        status, lines = self.tried()
-        self.assertEqual(lines, [
-            "one: proved unedited, and over what was kept of that",
-            "one/wrong: refused, first at proofs/f/Proof.antt:3:5",
-            "1 refused, 0 not",
-        ])
-        self.assertEqual(status, 0)
-
-    def test_what_the_checker_said_of_an_edit_is_left(self):
-        for number, said in [(2, "proofs/f/Proof.antt:3:5: error: it is not\n"), (3, "logic=proved"), (6, "no verdict")]:
-            with self.subTest(number):
-                self.edit(number)
-                self.tried()
-                log = (self.top / "target/refused/one/wrong.log").read_text(encoding="utf-8")
-                self.assertTrue(log.startswith(said), log)
-
-    def test_a_note_tells_the_place_where_no_error_does(self):
-        self.edit(8)
-        self.assertEqual(self.tried()[1][1:], ["one/wrong: refused, first at proofs/f/Proof.antt:9:9",
-                                               "1 refused, 0 not"])
-
-    def assert_not(self, word, *words):
-        """It fails, and a line says so in this word."""
-        status, lines = self.tried(*words)
+    def assert_not(self, fault, words, *wanted):
+        status, lines = self.read(words, *wanted)
         self.assertEqual(status, 1)
-        self.assertTrue([line for line in lines if word in line], lines)
+        self.assertTrue(lines[0].startswith(fault), lines)
         self.assertFalse([line for line in lines if line.endswith(" refused, 0 not")])
         return lines
 
-    def test_what_does_not_count(self):
-        for number, word in [(3, "NOT REFUSED: the crate is still proved"), (4, "REFUSED ELSEWHERE: first at proofs/g/"),
-                             (5, "exit status 1"), (6, "exit status -9"), (7, "exit status 3"),
-                             (9, "REFUSED ELSEWHERE: first at no place")]:
-            with self.subTest(number):
-                self.edit(number)
-                self.assertEqual(self.assert_not(word)[-1], "0 refused, 1 not")
+    def test_refused(self):
+        self.edit()
+        words = f"== one\nrt: one proved\n{self.told()}rt: ok; handles allowed: none\n2 passed, 0 failed\n"
+        self.assertEqual(self.read(words), (0, ["1 refused, 0 not"]))
 
-    def test_each_edit_is_told_by_itself_and_in_order(self):
-        for number, name in [(2, "d"), (3, "a"), (2, "c"), (4, "b")]:
-            self.edit(number, name)
-        self.edit(2, "e", "two")
-        status, lines = self.tried()
-        self.assertEqual([line.split(":")[0] for line in lines],
-                         ["one", "one/a", "one/b", "one/c", "one/d", "two", "two/e", "3 refused, 2 not"])
-        self.assertEqual(status, 1)
+    def test_places(self):
+        for first, place in [
+            ("proofs/Laws.antt", "./proofs/Laws.antt:9:9: error: `law`: no"),
+            ("specs/Laws.antt", "specs/Laws.antt:9:9: error: `law`: no"),
+            ("proofs/f", "proofs/f/Proof.antt:9:9: error: `returns`: no"),
+            ("proofs/+both", "./proofs/+both/Answers.antt:9:9: error: `returns`: no"),
+            ("proofs/more/f", "note: ./proofs/more/f/Invariants.antt:9:9: no"),
+            ("proofs/f", "note: src/lib.rt:3:1: it is not proved that .."),
+            ("proofs/f", "note: src/lib.rt:6:5: it is not proved that .."),
+            ("proofs/+both", "note: src/lib.rt:9:1: it is not proved that .."),
+            ("proofs/+both", "note: src/lib.rt:14:5: it is not proved that .."),
+            ("proofs/Two/many", "note: src/lib.rt:20:9: it is not proved that .."),
+            ("proofs/+again", "note: src/lib.rt:25:5: it is not proved that .."),
+            ("proofs/more/again", "note: src/more.rt:25:5: it is not proved that .."),
+            ("src/lib.rt:1", "src/lib.rt:1:1: error: before every function"),
+        ]:
+            with self.subTest(place):
+                self.edit(first)
+                self.assertEqual(self.read(self.told(place)), (0, ["1 refused, 0 not"]))
 
-    def test_those_that_are_named(self):
-        for name in "abc":
-            self.edit(2, name)
-            self.edit(3, name, "two")
-        self.assertEqual(self.tried("one")[1][-1], "3 refused, 0 not")
-        self.assertEqual(self.tried("one/b")[1][-1], "1 refused, 0 not")
-        self.assert_not("there is no such edit", "one/d")
+    def test_refused_elsewhere(self):
+        self.edit("proofs/g")
+        lines = self.assert_not("one/wrong: REFUSED ELSEWHERE: first in proofs/f, and not in proofs/g: ", self.told())
+        self.assertEqual(lines[1:], ["0 refused, 1 not"])
 
-    def test_a_text_that_is_not_there_once(self):
-        for text, word in [("2", "0 times"), ("1 1", "2 times")]:
-            with self.subTest(text):
-                self.write(self.top / "crates/one/src/lib.rt", text)
-                edit = refused.Edit(self.given("first: f\nfile: src/lib.rt\nold: 1\nnew: 2\n"))
-                with self.assertRaisesRegex(refused.Fault, f"BAD EDIT.* {word}"):
-                    edit.make(self.top / "crates/one")
+    def test_an_edit_that_does_not_say_where(self):
+        self.edit(text="file: src/lib.rt\nold: 1\nnew: 2\n")
+        self.assert_not("one/wrong: REFUSED ELSEWHERE: first in proofs/f, and it has no line '# first:': ", self.told())
 
-    def given(self, text):
-        path = self.top / "crates/one/refused/wrong.edit"
-        self.write(path, text)
-        return path
+    def test_what_rt_says_of_what_does_not_count(self):
+        self.edit()
+        for said in [
+            "NOT REFUSED: the crate is still proved with this edit (one that ..)",
+            "BAD EDIT: an 'old:' text is in src/lib.rt 0 times, and not once",
+            "NOT TRIED: its check ended with status 3, so nothing is known of it: run this again",
+            "refused, as it must be (only because a proof file names what the edit took away, so ..): proofs/f/Answers.antt:3:5: no",
+            "refused, as it must be (only by a limit of the prover, which gave no verdict, ..): proofs/f/Answers.antt:3:5: no",
+            "refused, as it must be",
+        ]:
+            with self.subTest(said):
+                self.assert_not(f"one/wrong: NOT REFUSED for what is wrong in it: {said}",
+                                f"rt: must-fail one/wrong.edit: {said}\n")
 
-    def test_a_text_that_is_gone(self):
-        self.given("first: proofs/f/Proof.antt\nfile: src/lib.rt\nold: 7\nnew: 2\n")
-        self.assert_not("BAD EDIT: src/lib.rt has 0 times, and not once: 7")
-
-    def test_a_file_that_is_not_the_crates(self):
-        for file in ["src/main.rt", "must-fail/a.edit", "src/../../kept/1", str(self.top / "crates/two/src/lib.rt")]:
-            with self.subTest(file):
-                self.given(f"first: proofs/f/Proof.antt\nfile: {file}\nold: 1\nnew: 2\n")
-                self.assert_not("BAD EDIT: no file of the crate")
+    def test_an_edit_of_which_rt_says_nothing(self):
+        self.edit()
+        for words in ["", "rt: one proved\n2 passed, 0 failed\n", self.told(name="two/wrong"), self.told(name="one/wrongs"),
+                      f"it said '{self.told()}'"]:
+            with self.subTest(words):
+                self.assert_not("one/wrong: NOT TRIED: rt says nothing of it", words)
 
     def test_an_edit_that_is_not_whole(self):
-        first, file, old, new = "first: f\n", "file: src/lib.rt\n", "old: 1\n", "new: 2\n"
-        for text in ["", first, file + old + new, first + file + old, first + file + new, first + old + new,
-                     first + file + old + old + new, first + file + old + new + old, first + first + file + old + new, first + file + old + "New: 2\n"]:
+        first, file, old, new = "# first: proofs/f\n", "file: src/lib.rt\n", "old: 1\n", "new: 2\n"
+        for text in ["", first, file + old + new + old, file + old, file + new, old + new, file + old + old + new, file,
+                     file + old + new + "New: 2\n", "first: proofs/f\n" + file + old + new, file + old + new[:-1]]:
             with self.subTest(text):
-                self.given(text)
-                self.assert_not("BAD EDIT")
+                self.edit(text=text)
+                self.assert_not("one/wrong: BAD EDIT", self.told())
 
-    def test_a_text_may_be_empty_only_where_it_is_put(self):
-        edit = refused.Edit(self.given("first: f\nfile: src/lib.rt\nold:  1: \nnew:\nold: 3\nnew: 4\n"))
-        self.assertEqual(edit.changes, [("src/lib.rt", " 1: ", ""), ("src/lib.rt", "3", "4")])
+    def test_an_edit_of_more_than_one_file(self):
+        self.edit(text=EDIT + "# what is put may be empty\nold: 3\nnew:\n\nfile: specs/Laws.antt\nold: 1\nnew: 2\n")
+        self.assertEqual(self.read(self.told()), (0, ["1 refused, 0 not"]))
 
-    def test_nothing_is_concluded_where_the_unedited_crate_is_not_proved(self):
-        self.edit(2)
-        self.write(self.top / "crates/one/src/lib.rt", "9")
-        lines = self.assert_not("one: NOT PROVED unedited, so nothing is concluded")
-        self.assertFalse([line for line in lines if line.startswith("one/wrong")])
-        self.assertEqual(lines[-1], "0 refused, 1 not")
-
-    def test_nor_where_it_is_not_over_what_was_kept(self):
-        self.edit(2)
-        with mock.patch.dict(os.environ, FORGETFUL="1"):
-            self.assert_not("one: NOT PROVED unedited, so nothing is concluded")
-
-    def test_nor_where_rt_does_not_prove_it(self):
-        self.edit(2, crate="unproved")
-        self.assert_not("NOT PROVED, so no edit is tried: unproved")
+    def test_each_edit_is_told_by_itself_and_in_order(self):
+        for name in ["one/b", "two/a", "one/a", "one/c"]:
+            self.edit(name=name)
+        words = self.told(name="two/a") + self.told("src/more.rt:3:1: error: no", "one/c") + self.told(name="one/b")
+        status, lines = self.read(words)
+        self.assertEqual([line.partition(": ")[0] for line in lines], ["one/a", "one/c", "2 refused, 2 not"])
+        self.assertEqual(status, 1)
+        self.assertEqual(self.read(words, "two"), (0, ["1 refused, 0 not"]))
+        self.assert_not("there is no such crate: four", words, "four")
+        self.assert_not("there is no edit", words, "three")
 
     def test_no_edits_at_all(self):
-        self.assert_not("there is no edit")
+        self.assert_not("there is no edit", "")
 
-    def test_what_would_never_be_tried(self):
-        for path in ["crates/three/refused/wrong.edit", "crates/one/refused/wrong.edti"]:
-            with self.subTest(path):
-                self.edit(2)
-                self.write(self.top / path, "first: f\n")
-                self.assert_not("no edit of a crate in crates.txt")
-                (self.top / path).unlink()
-
-    def test_where_the_checker_finds_what_a_crate_leans_on(self):
-        self.write(self.top / "crates.txt", "one:\ntwo: one io\n")
-        words = [str(word) for word in refused.Checker(self.top).words("two", self.top / "crates/two", "kept")]
-        made, own = self.top / "target/rlib", self.kit / "on" / platform.machine() / "rlib"
-        self.assertEqual([word for at, word in enumerate(words) if words[at - 1] in ("--extern", "-L")],
-                         [f"std={own}/std.rlib", f"one={made}/one.rlib", f"io={own}/io.rlib", f"dependency={made}",
-                          f"dependency={own}"])
-
-    def beside(self, words):
-        self.write(self.top / "words", words)
-        return "--beside", str(self.top / "words")
-
-    def test_beside_rt(self):
-        self.edit(2)
-        self.assertEqual(self.tried(*self.beside("rt: one proved (3 s)\n"))[1][-1], "1 refused, 0 not")
-
-    def test_beside_rt_that_has_ended_without_the_crate(self):
-        self.edit(2)
-        self.assert_not("one: NOT PROVED: rt has ended", *self.beside("rt: two proved (3 s)\nrt ci: 1 passed, 1 failed\n"))
-
-    def test_beside_rt_the_first_failure_ends_it(self):
-        self.edit(2, crate="one")
-        self.edit(3, crate="two")
-        # Of the first crate rt never says a word.
-        lines = self.assert_not("two/wrong: NOT REFUSED", *self.beside("rt: two proved (3 s)\n"))
-        self.assertEqual(len(lines), 1)
-
-    def test_from_nothing(self):
-        self.write(self.top / "crates/one/must-fail/for_rt.edit", "file: src/lib.rt\nold: 1\nnew: 2\n")
-        for number, last in [(2, "1 refused, 0 not"), (3, "0 refused, 1 not"), (4, "0 refused, 1 not")]:
-            with self.subTest(number):
-                self.edit(number)
-                status, lines = self.tried("--from-nothing")
-                self.assertEqual((status, lines[-1]), (last[0] == "0", last))
+    def test_what_rt_would_never_try(self):
+        for name in ["four/must-fail/wrong.edit", "one/must-fail/wrong.edti", "one/must-fail/wrong.md",
+                     "one/refused/wrong.edit"]:
+            with self.subTest(name):
+                self.edit()
+                other = self.write(f"crates/{name}", EDIT)
+                self.assert_not(f"no edit that rt tries: crates/{name}", self.told())
+                other.unlink()
 
 
 if __name__ == "__main__":

@@ -1,9 +1,11 @@
 #!/usr/bin/env python3
-"""Drops what a proof file no longer needs: names on `use` lines that it does not mention, the printed lines that end
-`as reads`, `as lts` or `-reads`, and the comments that name a place of the source.
+"""Drops what a file of specs/ or proofs/ no longer needs: names on `use` lines that it does not mention, and the comments
+that name a place of the source, as rt prints them above an answer to be written.
 
-    python3 tools/tidy.py [--check]     every .antt file under crates/; --check only says which files would change,
-                                        and exits 1 if any would
+    python3 tools/tidy.py [--check]     every .antt file of the crates; --check only says which files would change, and
+                                        exits 1 if any would
+
+`rt tidy` drops unused imports too, where a crate is proved; `rt ci` notes them and passes, so --check is the gate's.
 """
 import pathlib
 import re
@@ -14,8 +16,8 @@ WORD = r"[^\s(){}.;,@\"]+"
 
 
 def parts(name):
-    """The pieces by which an operator such as _+_ is written, or the name itself."""
-    return [p for p in name.split("_") if p] if "_" in name else [name]
+    """The pieces by which an operator such as ◌+◌ is written, or the name itself."""
+    return [p for p in name.split("◌") if p] if "◌" in name else [name]
 
 
 def tidied(text):
@@ -44,7 +46,7 @@ def tidied(text):
 
 def main(argv, crates=CRATES):
     check, changed = "--check" in argv[1:], 0
-    paths = sorted(crates.rglob("*.antt"))
+    paths = sorted(path for part in ("specs", "proofs") for path in crates.glob(f"*/{part}/**/*.antt"))
     if not paths:
         sys.exit(f"tidy.py: there is no .antt file under {crates}")
     for path in paths:

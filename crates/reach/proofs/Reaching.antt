@@ -8,39 +8,28 @@ use lib.Dec.{leb, eqb}
 use lib.IntN.{ℤ, pos, negsuc, nat_abs, ◌+ℤ◌, ◌-ℤ◌, ◌*ℤ◌}
 use lib.Signed.{le_z, ◌<ℤ◌, ◌≤ℤ◌}
 use borrow.Author.Tests.{leb-true, not-true, not-false}
-use Rattle.exact.proofs.Order.{leZ_true, le_leZ, lt_leZ, less_or_not}
+use Rattle.exact.proofs.Order.{leZ_true, le_leZ, less_or_not}
 use Rattle.exact.proofs.Truth.{both_true}
 use Rattle.plane.specs.Side.{Point}
-use Rattle.plane.specs.Cone.{minus, cross, dot, Opposite}
+use Rattle.plane.specs.Cone.{cross, dot, Opposite}
 use Rattle.limits.specs.Limits.{least_reach, most_reach}
 use Rattle.reach.specs.declared.Reach.{Reach}
 use Rattle.reach.specs.declared.Reach.TheVariants.{NotStated, Stated}
 use Rattle.reach.specs.Reach.{squared, InReach, in_reach, out_of_reach, Reaches, far, Longer, range, wrong_reach}
 use Rattle.reach.specs.Reach.Longer.{unlimited, at_least}
+use Rattle.reach.proofs.Deciding.{the_first_end_decides, the_second_end_decides, the_foot_decides}
 use Rattle.reach.proofs.Nearest.{length_by_the_ends, in_reach_turned, in_longer_reach, the_first_end, the_second_end, the_foot, the_stand_itself, none_nearer_than_the_first_end, none_nearer_than_the_second_end, none_nearer_than_the_foot}
 
 -- ---- which point decides
 
 module _ (R : ℕ) (a b : Point) where
-  pub the_first_end_decides : dot a a ≤ℤ dot a b → in_reach R a b ≡ le_z (dot a a) (squared R)
-  unfolding in_reach
-  the_first_end_decides h = rw (le_leZ h, in_reach)
-
-  pub the_second_end_decides : dot a b <ℤ dot a a → dot b b ≤ℤ dot a b → in_reach R a b ≡ le_z (dot b b) (squared R)
-  unfolding in_reach
-  the_second_end_decides h k = rw (lt_leZ h, le_leZ k, in_reach)
-
-  pub the_foot_decides : dot a b <ℤ dot a a → dot a b <ℤ dot b b → in_reach R a b ≡ le_z (cross a b *ℤ cross a b) (squared R *ℤ dot (minus b a) (minus b a))
-  unfolding in_reach
-  the_foot_decides h k = rw (lt_leZ h, lt_leZ k, in_reach)
-
   -- by the size of the cross product, and the square of the length in its two parts
   pub the_foot_decides_by_sizes : {c m n : ℕ} → c ≡ nat_abs (cross a b) → pos m ≡ dot a a -ℤ dot a b → pos n ≡ dot b b -ℤ dot a b → dot a b <ℤ dot a a → dot a b <ℤ dot b b → leb (c * c) (R * R * (m + n)) ≡ in_reach R a b
   the_foot_decides_by_sizes {c} {m} {n} e f g h k =
       ap (λ (s : ℕ). leb (s * s) (R * R * (m + n))) e
       ∙ squares (cross a b)
       ∙ ap (λ (u : ℤ). le_z (cross a b *ℤ cross a b) (squared R *ℤ u)) (ap₂ (λ (u v : ℤ). u +ℤ v) f g ∙ length_by_the_ends a b)
-      ∙ sym (the_foot_decides h k)
+      ∙ sym (the_foot_decides R a b h k)
     where
       squares : (z : ℤ) → leb (nat_abs z * nat_abs z) (R * R * (m + n)) ≡ le_z (z *ℤ z) (squared R *ℤ pos (m + n))
       squares (pos s) = refl
@@ -51,9 +40,9 @@ module _ (R : ℕ) (a b : Point) where
   found_in_reach e = by_ends (less_or_not (dot a b) (dot a a)) (less_or_not (dot a b) (dot b b))
     where
       by_ends : (dot a b <ℤ dot a a) ⊎ (dot a a ≤ℤ dot a b) → (dot a b <ℤ dot b b) ⊎ (dot b b ≤ℤ dot a b) → InReach R a b
-      by_ends (inl h) (inl k) = the_foot R a b h k (leZ_true _ _ (sym (the_foot_decides h k) ∙ e))
-      by_ends (inl h) (inr k) = the_second_end R a b (leZ_true _ _ (sym (the_second_end_decides h k) ∙ e))
-      by_ends (inr h) k = the_first_end R a b (leZ_true _ _ (sym (the_first_end_decides h) ∙ e))
+      by_ends (inl h) (inl k) = the_foot R a b h k (leZ_true _ _ (sym (the_foot_decides R a b h k) ∙ e))
+      by_ends (inl h) (inr k) = the_second_end R a b (leZ_true _ _ (sym (the_second_end_decides R a b h k) ∙ e))
+      by_ends (inr h) k = the_first_end R a b (leZ_true _ _ (sym (the_first_end_decides R a b h) ∙ e))
 
 pub in_reach_is_found : {R : ℕ} {a b : Point} → InReach R a b → in_reach R a b ≡ true
 in_reach_is_found {R} {a} {b} w = by_ends (less_or_not (dot a b) (dot a a)) (less_or_not (dot a b) (dot b b))

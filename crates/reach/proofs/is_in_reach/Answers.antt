@@ -10,7 +10,8 @@ use Rattle.exact.proofs.Bounds.{Exactly, fits, minus}
 use Rattle.plane.specs.Side.{corner}
 use Rattle.plane.specs.Cone.{dot}
 use Rattle.reach.proofs.Nearest.{the_first_end, the_second_end}
-use Rattle.reach.proofs.Reaching.{in_reach_is_found, the_first_end_decides, the_second_end_decides, the_foot_decides_by_sizes}
+use Rattle.reach.proofs.Deciding.{the_first_end_decides, the_second_end_decides}
+use Rattle.reach.proofs.Reaching.{in_reach_is_found, the_foot_decides_by_sizes}
 use Rattle.reach.proofs.Sizes.{back, most_product, dot_handed, square_read, found_at_most, found_less, gap_size, gap_unsigned, gap_cast}
 use Rattle.reach.proofs.is_in_reach.Goals as goal
 use Rattle.reach.proofs.is_in_reach.Goals.{After-dot_of-both, After-dot_of-far_a, After-dot_of-far_b, Else-far_a-both, Else-far_b-both}
