@@ -13,7 +13,6 @@ use Rattle.cells.specs.Sound.{Sound}
 use Rattle.setting.specs.Setting.{ends}
 use Rattle.stand.specs.declared.spot.Stand.{Stand}
 use Rattle.stand.specs.declared.locate.Footing.{Footing}
-use Rattle.stand.specs.declared.locate.Found.TheVariants as F
 use Rattle.stand.proofs.Located.{Stands}
 use Rattle.stand.proofs.Unique.{a_stand_is_one_point, a_stand_has_one_place}
 use Rattle.reach.specs.Reach.{out_of_reach, far, range, Longer}

@@ -1,0 +1,7 @@
+-- `manopluea::check` meets its contract.
+use Rattle.limits.specs.Reply.{checked_reply}
+use Rattle.manopluea.proofs.Numbered.{said_twice}
+use Rattle.manopluea.proofs.check.Goals as goal
+
+pub returns : goal.returns
+returns c = record { answer = (said_twice checked_reply c.check.ensures).0; numbers = (said_twice checked_reply c.check.ensures).1 }

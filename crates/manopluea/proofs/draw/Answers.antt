@@ -1,0 +1,8 @@
+-- `manopluea::draw` meets its contract.
+use Rattle.sight.specs.Reply.{listed_reply}
+use Rattle.manopluea.specs.Calls.{in_numbers}
+use Rattle.manopluea.proofs.Numbered.{said_twice}
+use Rattle.manopluea.proofs.draw.Goals as goal
+
+pub returns : goal.returns
+returns c = record { answer = (said_twice (in_numbers listed_reply) c.draw.ensures).0; numbers = (said_twice (in_numbers listed_reply) c.draw.ensures).1 }

@@ -1,0 +1,8 @@
+-- `manopluea::write` meets its contract.
+use Rattle.limits.specs.Reply.{checked_reply}
+use Rattle.manopluea.specs.Calls.{in_numbers}
+use Rattle.manopluea.proofs.Numbered.{said_twice}
+use Rattle.manopluea.proofs.write.Goals as goal
+
+pub returns : goal.returns
+returns c = record { answer = (said_twice (in_numbers checked_reply) c.write.ensures).0; numbers = (said_twice (in_numbers checked_reply) c.write.ensures).1 }

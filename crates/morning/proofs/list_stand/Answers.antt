@@ -1,0 +1,22 @@
+-- `morning::list_stand` meets its contract.
+use Rattle.morning.proofs.OverLines.{refusal_left, rows_left}
+use Rattle.morning.proofs.list_stand.Goals as goal
+
+pub list_one-requires : goal.list_one-requires
+list_one-requires c = record { sound = c.requires.sound; lined = c.requires.lined; corners_in_bounds = c.requires.corners_in_bounds.0; seen_len = c.requires.seen_len }
+
+pub put-requires : goal.put-requires
+put-requires c = c.requires.corners_in_bounds.1
+
+pub put-requires-in-Rows : goal.put-requires-in-Rows
+put-requires-in-Rows c = c.requires.corners_in_bounds.1
+
+pub returns-in-Refused : goal.returns-in-Refused
+returns-in-Refused c =
+    let left = refusal_left c.args.at c.args.replies.now c.list_one.ensures c.in-Refused.is c.number.ensures c.put.ensures in
+    record { rows_value = left.0; crossings_value = left.1.0; table_after = left.1.1.0; replies_after = left.1.1.1 }
+
+pub returns-in-Rows : goal.returns-in-Rows
+returns-in-Rows c =
+    let left = rows_left c.args.at c.args.replies.now c.list_one.ensures c.in-Rows.is c.put-in-Rows.ensures in
+    record { rows_value = left.0; crossings_value = left.1.0; table_after = left.1.1.0; replies_after = left.1.1.1 }
