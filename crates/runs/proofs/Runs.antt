@@ -4,7 +4,7 @@ use mathlib.Core.List.{List, [], ◌∷◌, ◌++◌, map, head-eq_of_cons-eq}
 use mathlib.Core.Path.{◌≡◌, refl, sym, ◌∙◌, ap}
 use Prim.Native.Nat.{ℕ}
 use Rattle.fan.specs.Sight.{Sight}
-use Rattle.fan.specs.Sight.Sight.{row, pass, both}
+use Rattle.fan.specs.Sight.Sight.{pass, both}
 use Rattle.runs.specs.Route.{via, routed, way}
 use Rattle.runs.specs.Door.{is_door, crosses, same_to_door}
 use Rattle.runs.specs.Shutting.{joined, pieces, is_run, shut_piece, shut_rows, prune}

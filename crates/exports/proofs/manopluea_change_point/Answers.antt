@@ -5,7 +5,6 @@ use Rattle.stand.specs.declared.spot.Stand.TheVariants.{Point}
 use Rattle.manopluea.specs.Calls.{change_replies}
 use Rattle.exports.specs.Reply.{query, change_left}
 use Rattle.exports.proofs.Replies.{none_left, all_left}
-use borrow.Author.Rules.{rules}
 use Rattle.exports.proofs.manopluea_change_point.Goals as goal
 
 pub returns-then-reply-lt7 : goal.returns-then-reply-lt7

@@ -2,7 +2,6 @@
 use Rattle.manopluea.specs.Calls.{check_replies}
 use Rattle.exports.specs.Reply.{check_left}
 use Rattle.exports.proofs.Replies.{none_replied, all_replied}
-use borrow.Author.Rules.{rules}
 use Rattle.exports.proofs.manopluea_check.Goals as goal
 
 pub returns-then-reply-lt7 : goal.returns-then-reply-lt7

@@ -3,7 +3,6 @@ use Rattle.manopluea.specs.Calls.{find_replies}
 use Rattle.stand.specs.declared.spot.Stand.TheVariants.{Offset}
 use Rattle.exports.specs.Reply.{find_left}
 use Rattle.exports.proofs.Replies.{none_replied, all_replied}
-use borrow.Author.Rules.{rules}
 use Rattle.exports.proofs.manopluea_find_offset.Goals as goal
 
 pub returns-then-reply-lt7 : goal.returns-then-reply-lt7

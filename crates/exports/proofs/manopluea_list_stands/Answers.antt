@@ -3,7 +3,6 @@ use mathlib.Core.Path.{◌∙◌}
 use Rattle.exports.specs.Reply.{reach_of, ceiling_of, list_stands_left}
 use Rattle.exports.proofs.Numbered.{said, not_of_three, of_three}
 use Rattle.exports.proofs.Replies.{none_left, all_left}
-use borrow.Author.Rules.{rules}
 use Rattle.exports.proofs.manopluea_list_stands.Goals as goal
 
 pub returns-then-reply-lt7 : goal.returns-then-reply-lt7

@@ -2,7 +2,6 @@
 use Rattle.printing.specs.Reply.{print_replies}
 use Rattle.exports.specs.Reply.{print_left}
 use Rattle.exports.proofs.Replies.{none_left, all_left}
-use borrow.Author.Rules.{rules}
 use Rattle.exports.proofs.manopluea_print.Goals as goal
 
 pub returns-then-reply-lt7 : goal.returns-then-reply-lt7

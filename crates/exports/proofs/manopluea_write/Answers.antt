@@ -2,7 +2,6 @@
 use Rattle.manopluea.specs.Calls.{write_replies}
 use Rattle.exports.specs.Reply.{write_left}
 use Rattle.exports.proofs.Replies.{none_left, all_left}
-use borrow.Author.Rules.{rules}
 use Rattle.exports.proofs.manopluea_write.Goals as goal
 
 pub returns-then-reply-lt7 : goal.returns-then-reply-lt7

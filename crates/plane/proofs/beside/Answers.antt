@@ -1,7 +1,6 @@
 -- `plane::beside` meets its contract.
 use mathlib.Core.Path.{ap, ◌∙◌}
 use mir.Syntax.{w64}
-use borrow.Author.Rules.{rules}
 use Rattle.exact.proofs.Bounds.{handed}
 use Rattle.plane.specs.Tests.{by_value}
 use Rattle.plane.proofs.beside.Goals as goal

@@ -1,6 +1,5 @@
 -- `plane::ends_seen` meets its contract: each difference is at most 2^30, each product 2^60, and the dot product 2^61.
 use mir.Syntax.{w64}
-use borrow.Author.Rules.{rules}
 use Rattle.plane.specs.Cone.{minus, dot}
 use Rattle.exact.proofs.Bounds.{fits, reads_back, plus}
 use Rattle.plane.proofs.Differences.{apart, crossed}

@@ -3,7 +3,6 @@ use mathlib.Core.Path.{ap}
 use lib.IntN.{pos}
 use lib.Signed.{lt_z}
 use mir.Syntax.{w64}
-use borrow.Author.Rules.{rules}
 use Rattle.exact.proofs.Bounds.{handed}
 use Rattle.plane.proofs.is_right.Goals as goal
 

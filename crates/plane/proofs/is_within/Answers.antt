@@ -3,7 +3,6 @@ use mathlib.Core.Path.{ap, sym, ◌∙◌}
 use lib.IntN.{ℤ}
 use lib.Signed.{lt_z}
 use mir.Syntax.{w64}
-use borrow.Author.Rules.{rules}
 use Rattle.exact.proofs.Order.{𝟘}
 use Rattle.exact.proofs.Bounds.{handed}
 use Rattle.plane.proofs.Within.{not_right_of_it, not_left_of_it, on_its_line}

@@ -1,6 +1,5 @@
 -- `plane::side_value` meets its contract: each difference is at most 2^30, each product 2^60, and the side value 2^61.
 use mir.Syntax.{w64}
-use borrow.Author.Rules.{rules}
 use Rattle.plane.specs.Side.{side}
 use Rattle.exact.proofs.Bounds.{fits, reads_back, minus}
 use Rattle.plane.proofs.Differences.{apart, crossed}

@@ -2,7 +2,6 @@
 use Prim.Native.Nat.{ℕ, ◌+◌, ◌*◌, ◌<◌}
 use native.Mathlib.Nat.{lt_of_le_of_lt, le-add_right}
 use native.Mathlib.Omega.{arith}
-use borrow.Author.Rules.{rules}
 use Rattle.wide.proofs.Words.{AllWords, all_words, the_halves_make_the_product}
 use Rattle.wide.proofs.product.Goals as goal
 use Rattle.wide.proofs.product.Goals.{Start}

@@ -5,7 +5,6 @@ use lib.IntN.{ℤ}
 use mir.Syntax.{w32, w64}
 use Rattle.exact.proofs.Bounds.{widened_fits, widened}
 use Rattle.plane.specs.Side.{point}
-use borrow.Author.Rules.{rules}
 use Rattle.cells.proofs.corner.at.Goals as goal
 
 pub overflow_cast-result : goal.overflow_cast-result

@@ -1,7 +1,6 @@
 -- `exports::reply::put` meets its contract.
 use native.Mathlib.Omega.{arith}
 use lib.ListN.{length-set}
-use borrow.Author.Rules.{rules}
 use Rattle.exports.proofs.reply.put.Goals as goal
 
 pub bounds-reply-1 : goal.bounds-reply-1

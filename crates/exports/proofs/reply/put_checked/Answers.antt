@@ -2,7 +2,6 @@
 use mathlib.Core.Path.{refl}
 use Rattle.limits.specs.Reply.{checked_reply}
 use Rattle.exports.proofs.Replies.{put_as, put_refused}
-use borrow.Author.Rules.{rules}
 use Rattle.exports.proofs.reply.put_checked.Goals as goal
 
 pub returns-in-Accepted : goal.returns-in-Accepted

@@ -2,7 +2,6 @@
 use mathlib.Core.Path.{refl}
 use Rattle.stand.specs.Reply.{found_reply}
 use Rattle.exports.proofs.Replies.{put_as, put_refused}
-use borrow.Author.Rules.{rules}
 use Rattle.exports.proofs.reply.put_found.Goals as goal
 
 pub returns-in-At : goal.returns-in-At

@@ -2,7 +2,6 @@
 use mathlib.Core.Path.{refl}
 use Rattle.sight.specs.Reply.{listed_reply}
 use Rattle.exports.proofs.Replies.{put_as, put_refused}
-use borrow.Author.Rules.{rules}
 use Rattle.exports.proofs.reply.put_listed.Goals as goal
 
 pub returns-in-Rows : goal.returns-in-Rows

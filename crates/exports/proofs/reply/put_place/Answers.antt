@@ -1,5 +1,4 @@
 -- `exports::reply::put_place` meets its contract.
-use borrow.Author.Rules.{rules}
 use Rattle.stand.specs.Reply.{found_reply}
 use Rattle.stand.specs.declared.locate.Footing.{Footing}
 use Rattle.stand.specs.declared.locate.Found.TheVariants.{At}

@@ -2,7 +2,6 @@
 use mathlib.Core.Path.{refl}
 use Rattle.printing.specs.Reply.{printed_reply}
 use Rattle.exports.proofs.Replies.{put_as, put_refused}
-use borrow.Author.Rules.{rules}
 use Rattle.exports.proofs.reply.put_printed.Goals as goal
 
 pub returns-in-Text : goal.returns-in-Text

@@ -2,7 +2,6 @@
 use mathlib.Core.Path.{refl}
 use Rattle.planfile.specs.Reply.{read_numbers}
 use Rattle.exports.proofs.Replies.{put_as, put_refused}
-use borrow.Author.Rules.{rules}
 use Rattle.exports.proofs.reply.put_read.Goals as goal
 
 pub returns-in-Accepted : goal.returns-in-Accepted

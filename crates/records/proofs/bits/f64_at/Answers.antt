@@ -1,7 +1,6 @@
 -- The double of the number that the eight bytes are.
 use mathlib.Core.Path.{◌∙◌, ap}
 use lib.Ieee.{binary64, of_bits}
-use borrow.Author.Rules.{rules}
 use Rattle.records.proofs.bits.f64_at.Goals as goal
 
 pub returns : goal.returns

@@ -5,7 +5,6 @@ use Prim.Native.Nat.{ℕ, ◌%◌, ◌^◌}
 use native.Mathlib.Omega.{arith}
 use lib.Ieee.{Float, nan, inf, fin, binary64, is_nan, of_bits, div}
 use lib.Ieee.Bits.{nan_bits_above, nan_bits_is}
-use borrow.Author.Rules.{rules}
 use borrow.Author.Tests.{lt-ltb, le-ltb}
 use Rattle.records.proofs.bits.from_bits.Goals as goal
 

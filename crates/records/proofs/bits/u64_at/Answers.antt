@@ -1,5 +1,4 @@
 -- Two numbers of four bytes are one of eight.
-use borrow.Author.Rules.{rules}
 use Rattle.records.proofs.Spelled.{eight_at}
 use Rattle.records.proofs.bits.u64_at.Goals as goal
 

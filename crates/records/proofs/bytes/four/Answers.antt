@@ -1,5 +1,4 @@
 -- `records::bytes::four` meets its contract.
-use borrow.Author.Rules.{rules}
 use Rattle.records.proofs.Spelled.{four_at}
 use Rattle.records.proofs.bytes.four.Goals as goal
 

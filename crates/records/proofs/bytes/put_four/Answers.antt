@@ -1,5 +1,4 @@
 -- `records::bytes::put_four` meets its contract.
-use borrow.Author.Rules.{rules}
 use Rattle.records.proofs.Stores.{four_put}
 use Rattle.records.proofs.bytes.put_four.Goals as goal
 

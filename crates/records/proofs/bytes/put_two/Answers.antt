@@ -1,7 +1,6 @@
 -- `records::bytes::put_two` meets its contract.
 use native.Mathlib.Omega.{arith}
 use native.Mathlib.Numerals.{add-one}
-use borrow.Author.Rules.{rules}
 use lib.ListN.{length-set}
 use Rattle.records.specs.Bytes.{bytes}
 use Rattle.records.proofs.bytes.put_two.Goals as goal

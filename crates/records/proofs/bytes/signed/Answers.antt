@@ -1,5 +1,4 @@
 -- `records::bytes::signed` meets its contract.
-use borrow.Author.Rules.{rules}
 use Rattle.records.proofs.Signs.{signed_is, flipped_fits, flipped_is_signed}
 use Rattle.records.proofs.bytes.signed.Goals as goal
 

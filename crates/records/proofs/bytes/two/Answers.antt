@@ -1,5 +1,4 @@
 -- `records::bytes::two` meets its contract.
-use borrow.Author.Rules.{rules}
 use Rattle.records.proofs.Spelled.{two_at}
 use Rattle.records.proofs.bytes.two.Goals as goal
 

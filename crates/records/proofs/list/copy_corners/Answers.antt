@@ -1,13 +1,11 @@
 -- `records::list::copy_corners` meets its contract.
 use mathlib.Core.Path.{refl}
-use Prim.Native.Nat.{◌-◌}
 use native.Mathlib.Omega.{arith}
-use borrow.Author.Rules.{rules}
-use lib.ListN.{get_or, length}
+use lib.ListN.{get_or}
 use lib.IntN.{pos}
 use mir.Syntax.{w32}
 use Rattle.exact.proofs.Bounds.{handed}
-use Rattle.records.proofs.Stores.{Fills, fills_begin, fills_go_on, fills_end}
+use Rattle.records.proofs.Stores.{fills_begin, fills_go_on, fills_end}
 use Rattle.records.proofs.list.copy_corners.Goals as goal
 
 pub loop-i-init : goal.loop-i-init

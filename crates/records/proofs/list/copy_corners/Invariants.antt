@@ -1,12 +1,6 @@
-use mathlib.Core.Path.{refl}
 use Prim.Native.Nat.{◌-◌}
-use native.Mathlib.Omega.{arith}
-use borrow.Author.Rules.{rules}
-use lib.ListN.{get_or, length}
-use lib.IntN.{pos}
-use mir.Syntax.{w32}
-use Rattle.exact.proofs.Bounds.{handed}
-use Rattle.records.proofs.Stores.{Fills, fills_begin, fills_go_on, fills_end}
+use lib.ListN.{length}
+use Rattle.records.proofs.Stores.{Fills}
 use Rattle.records.proofs.list.copy_corners.Given as goal
 
 abbrev pub invariant-loop-i : goal.invariant-loop-i

@@ -1,10 +1,7 @@
 -- `records::list::copy_numbers` meets its contract.
 use mathlib.Core.Path.{refl}
-use Prim.Native.Nat.{◌-◌}
 use native.Mathlib.Omega.{arith}
-use borrow.Author.Rules.{rules}
-use lib.ListN.{length}
-use Rattle.records.proofs.Stores.{Fills, fills_begin, fills_go_on, fills_end}
+use Rattle.records.proofs.Stores.{fills_begin, fills_go_on, fills_end}
 use Rattle.records.proofs.list.copy_numbers.Goals as goal
 
 pub loop-i-init : goal.loop-i-init

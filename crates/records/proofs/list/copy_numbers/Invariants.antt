@@ -1,9 +1,6 @@
-use mathlib.Core.Path.{refl}
 use Prim.Native.Nat.{◌-◌}
-use native.Mathlib.Omega.{arith}
-use borrow.Author.Rules.{rules}
 use lib.ListN.{length}
-use Rattle.records.proofs.Stores.{Fills, fills_begin, fills_go_on, fills_end}
+use Rattle.records.proofs.Stores.{Fills}
 use Rattle.records.proofs.list.copy_numbers.Given as goal
 
 abbrev pub invariant-loop-i : goal.invariant-loop-i

@@ -1,13 +1,9 @@
 -- `records::list::get_corners` meets its contract.
 use mathlib.Core.Path.{◌∙◌, ap}
-use mathlib.Core.List.{map}
-use Prim.Native.Nat.{◌-◌}
-use native.Mathlib.Omega.{arith}
-use lib.ListN.{length}
 use mir.Syntax.{w32}
 use Rattle.exact.proofs.Bounds.{handed}
-use Rattle.records.specs.Bytes.{numbers_at, signed}
-use Rattle.records.proofs.Stores.{corners_go_on, corners_end, Fills, fills_begin}
+use Rattle.records.specs.Bytes.{signed}
+use Rattle.records.proofs.Stores.{corners_go_on, corners_end, fills_begin}
 use Rattle.records.proofs.list.get_corners.Goals as goal
 
 pub loop-i-init : goal.loop-i-init

@@ -1,12 +1,8 @@
-use mathlib.Core.Path.{◌∙◌, ap}
 use mathlib.Core.List.{map}
 use Prim.Native.Nat.{◌-◌}
-use native.Mathlib.Omega.{arith}
 use lib.ListN.{length}
-use mir.Syntax.{w32}
-use Rattle.exact.proofs.Bounds.{handed}
 use Rattle.records.specs.Bytes.{numbers_at, signed}
-use Rattle.records.proofs.Stores.{corners_go_on, corners_end, Fills, fills_begin}
+use Rattle.records.proofs.Stores.{Fills}
 use Rattle.records.proofs.list.get_corners.Given as goal
 
 abbrev pub invariant-loop-i : goal.invariant-loop-i

@@ -1,10 +1,5 @@
 -- `records::list::get_numbers` meets its contract.
-use Prim.Native.Nat.{◌-◌}
-use native.Mathlib.Omega.{arith}
-use borrow.Author.Rules.{rules}
-use lib.ListN.{length}
-use Rattle.records.specs.Bytes.{numbers_at}
-use Rattle.records.proofs.Stores.{numbers_go_on, numbers_end, Fills, fills_begin}
+use Rattle.records.proofs.Stores.{numbers_go_on, numbers_end, fills_begin}
 use Rattle.records.proofs.list.get_numbers.Goals as goal
 
 pub loop-i-init : goal.loop-i-init

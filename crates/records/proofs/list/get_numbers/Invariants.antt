@@ -1,9 +1,7 @@
 use Prim.Native.Nat.{◌-◌}
-use native.Mathlib.Omega.{arith}
-use borrow.Author.Rules.{rules}
 use lib.ListN.{length}
 use Rattle.records.specs.Bytes.{numbers_at}
-use Rattle.records.proofs.Stores.{numbers_go_on, numbers_end, Fills, fills_begin}
+use Rattle.records.proofs.Stores.{Fills}
 use Rattle.records.proofs.list.get_numbers.Given as goal
 
 abbrev pub invariant-loop-i : goal.invariant-loop-i

@@ -1,15 +1,10 @@
 -- `records::list::put_corners` meets its contract.
-use mathlib.Core.List.{map}
 use mathlib.Core.Path.{◌∙◌}
-use Prim.Native.Nat.{◌-◌}
-use native.Mathlib.Omega.{arith}
-use borrow.Author.Rules.{rules}
-use lib.ListN.{get_or, length}
+use lib.ListN.{get_or}
 use lib.IntN.{pos}
-use Rattle.records.specs.Bytes.{complement}
 use Rattle.records.proofs.Signs.{complement_told}
 use Rattle.records.proofs.Spelled.{complement_there, complements_below, complements_end}
-use Rattle.records.proofs.Stores.{Puts, puts_begin, puts_go_on, puts_end}
+use Rattle.records.proofs.Stores.{puts_begin, puts_go_on, puts_end}
 use Rattle.records.proofs.list.put_corners.Goals as goal
 
 pub loop-i-init : goal.loop-i-init

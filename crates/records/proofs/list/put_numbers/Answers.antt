@@ -1,10 +1,7 @@
 -- `records::list::put_numbers` meets its contract.
 use mathlib.Core.Path.{refl}
-use Prim.Native.Nat.{◌-◌}
 use native.Mathlib.Omega.{arith}
-use borrow.Author.Rules.{rules}
-use lib.ListN.{length}
-use Rattle.records.proofs.Stores.{Puts, puts_begin, puts_go_on, puts_end}
+use Rattle.records.proofs.Stores.{puts_begin, puts_go_on, puts_end}
 use Rattle.records.proofs.list.put_numbers.Goals as goal
 
 pub loop-i-init : goal.loop-i-init

@@ -1,9 +1,6 @@
-use mathlib.Core.Path.{refl}
 use Prim.Native.Nat.{◌-◌}
-use native.Mathlib.Omega.{arith}
-use borrow.Author.Rules.{rules}
 use lib.ListN.{length}
-use Rattle.records.proofs.Stores.{Puts, puts_begin, puts_go_on, puts_end}
+use Rattle.records.proofs.Stores.{Puts}
 use Rattle.records.proofs.list.put_numbers.Given as goal
 
 abbrev pub invariant-loop-i : goal.invariant-loop-i

@@ -1,6 +1,5 @@
 -- `records::record::end` meets its contract.
 use native.Mathlib.Omega.{arith}
-use borrow.Author.Rules.{rules}
 use Rattle.records.specs.Record.{end_of}
 use Rattle.records.proofs.record.end.Goals as goal
 

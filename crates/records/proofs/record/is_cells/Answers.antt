@@ -1,5 +1,4 @@
 -- `records::record::is_cells` meets its contract.
-use borrow.Author.Rules.{rules}
 use Rattle.records.proofs.Frames.{of_triangles, of_polygons}
 use Rattle.records.proofs.record.is_cells.Goals as goal
 

@@ -1,6 +1,4 @@
 -- `records::record::is_framed` meets its contract.
-use borrow.Author.Tests.{not-true, not-false}
-use borrow.Author.Rules.{rules}
 use Rattle.records.proofs.Frames.{no_first, no_second, no_third, not_all, first_wrong, second_wrong, by_third}
 use Rattle.records.proofs.record.is_framed.Goals as goal
 

@@ -1,5 +1,4 @@
 -- `records::record::is_of` meets its contract.
-use borrow.Author.Rules.{rules}
 use Rattle.records.proofs.Frames.{of_another_kind, by_its_size}
 use Rattle.records.proofs.record.is_of.Goals as goal
 

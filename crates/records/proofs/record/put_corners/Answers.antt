@@ -1,5 +1,4 @@
 -- `records::record::put_corners` meets its contract.
-use borrow.Author.Rules.{rules}
 use Rattle.records.proofs.Stores.{corner_record_put}
 use Rattle.records.proofs.record.put_corners.Goals as goal
 

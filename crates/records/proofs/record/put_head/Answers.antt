@@ -1,5 +1,4 @@
 -- `records::record::put_head` meets its contract.
-use borrow.Author.Rules.{rules}
 use Rattle.records.proofs.Stores.{head_put}
 use Rattle.records.proofs.record.put_head.Goals as goal
 

@@ -1,5 +1,4 @@
 -- `records::record::put_numbers` meets its contract.
-use borrow.Author.Rules.{rules}
 use Rattle.records.proofs.Stores.{number_record_put}
 use Rattle.records.proofs.record.put_numbers.Goals as goal
 
