@@ -15,7 +15,7 @@ import sys
 from pathlib import Path
 
 WORD = r"[^\W\d][\w']*(?:-[\w']+)+"
-TOKEN = re.compile(rf"(?<![^\s(){{}}\[\],;.`|−]){WORD}(?=\+?(?:[\s(){{}}\[\],;.:`|]|$))")
+TOKEN = re.compile(rf"(?<![^\s(){{}}\[\],;.`|−]){WORD}(?=[+?]?(?:[\s(){{}}\[\],;.:`|]|$))")
 USE = re.compile(r"use ((?:[A-Za-z]\w*\.)+)\{([^}]*)\}")
 # Types whose names begin with a capital, a number after a hyphen, and a type that was spelled as a word.
 TYPES = {"Demand-1": "Demand1", "Demand-2": "Demand2", "Demand-3": "Demand3"}
