@@ -17,8 +17,8 @@ from pathlib import Path
 WORD = r"[^\W\d][\w']*(?:-[\w']+)+"
 TOKEN = re.compile(rf"(?<![^\s(){{}}\[\],;.`|−]){WORD}(?=[+?]?(?:[\s(){{}}\[\],;.:`|]|$))")
 USE = re.compile(r"use ((?:[A-Za-z]\w*\.)+)\{([^}]*)\}")
-# Types whose names begin with a capital, a number after a hyphen, and a type that was spelled as a word.
-TYPES = {"Demand-1": "Demand1", "Demand-2": "Demand2", "Demand-3": "Demand3"}
+# Types with a number after a hyphen, and a name that port.py has begin with a capital.
+TYPES = {"Demand-1": "Demand1", "Demand-2": "Demand2", "Demand-3": "Demand3", "Ends-there": "ends_there"}
 SETTLED = "crates/exact/"  # there `settled`, by a Boolean, stands below the type Settled
 
 

@@ -111,7 +111,7 @@ module _ (kind : ℕ) (cs : List ℤ) (ts ds : List ℕ) (a : Query) (table : Li
 -- a row's fourth number: its face ends the sight there, and the number is the floor's
 module _ (cs : List ℤ) (T : Cells) (ds : List ℕ) (w R : ℕ) (q : Point) where
   number_is_right : (f far : ℕ) → (plan_floor cs T ds w R q).ends f ≡ true → far ≡ (plan_floor cs T ds w R q).far f → Says cs T ds w R q f far
-  number_is_right f far Ends_there is_the_floors = subst (Says cs T ds w R q f) (sym is_the_floors) (by_reach (unreached cs T R q f) refl)
+  number_is_right f far ends_there is_the_floors = subst (Says cs T ds w R q f) (sym is_the_floors) (by_reach (unreached cs T R q f) refl)
     where
       as_a_wall : unreached cs T R q f ≡ false → (ends T ds w f ≡ true) ⊎ (unreached cs T R q f ≡ true) → ends T ds w f ≡ true
       as_a_wall h (inl e) = e
@@ -119,7 +119,7 @@ module _ (cs : List ℤ) (T : Cells) (ds : List ℕ) (w R : ℕ) (q : Point) whe
 
       by_reach : (t : Bool) → unreached cs T R q f ≡ t → Says cs T ds w R q f ((plan_floor cs T ds w R q).far f)
       by_reach true h = subst (Says cs T ds w R q f) (sym (out_of_reach_is_1 R _ _ h)) (out_of_reach (does_not_reach R _ _ h))
-      by_reach false h = subst (Says cs T ds w R q f) (sym (in_reach_is_0 R _ _ h)) (wall_in_reach (as_a_wall h (one_true _ _ Ends_there)) (reaches R _ _ h))
+      by_reach false h = subst (Says cs T ds w R q f) (sym (in_reach_is_0 R _ _ h)) (wall_in_reach (as_a_wall h (one_true _ _ ends_there)) (reaches R _ _ h))
 
 module _ (kind : ℕ) (cs : List ℤ) (ts ds : List ℕ) (a : Query) (table : List ℕ) {n k : ℕ} (e : (listed kind cs ts ds a table).0 ≡ L.Rows n k) where
   pub whole : listed kind cs ts ds a table ≡ (L.Rows n k, (listed kind cs ts ds a table).1)

@@ -122,7 +122,7 @@ module _ {kind : ℕ} {cs : List ℤ} {ts ds : List ℕ} {a : Query} {n k : ℕ}
   held_there d = subst (λ (v : Vector). Direction d → MeetsNoCorner cs (cells_of kind ts) ds a.setting (range a.reach) v p d → HeldOnce cs (cells_of kind ts) ds a.setting (range a.reach) v p n table d) same_point (subst (λ (f : Footing). Direction d → MeetsNoCorner cs (cells_of kind ts) ds a.setting (range a.reach) (record { x = seen.x; y = seen.y }) f d → HeldOnce cs (cells_of kind ts) ds a.setting (range a.reach) (record { x = seen.x; y = seen.y }) f n table d) same_place (seen.held d))
 
 -- so the row that holds the direction (−3, 5) has the face where its walk ends
-module _ {w : ℕ} (view : viewed triangles corners_of_Q cells_of_Q doors_of_Q (query w) ≡ From (pos 6) (pos 3) (Inside 0)) {f : ℕ} (Ends_there : WalkEndsAt corners_of_Q (cells_of triangles cells_of_Q) doors_of_Q w 0 q (Inside 0) d f) {n k : ℕ} {after : List ℕ} {before : List ℕ} (demand : Demand2 triangles corners_of_Q cells_of_Q doors_of_Q (query w) before (Rows n k) after) where
+module _ {w : ℕ} (view : viewed triangles corners_of_Q cells_of_Q doors_of_Q (query w) ≡ From (pos 6) (pos 3) (Inside 0)) {f : ℕ} (ends_there : WalkEndsAt corners_of_Q (cells_of triangles cells_of_Q) doors_of_Q w 0 q (Inside 0) d f) {n k : ℕ} {after : List ℕ} {before : List ℕ} (demand : Demand2 triangles corners_of_Q cells_of_Q doors_of_Q (query w) before (Rows n k) after) where
   held_d : HeldOnce corners_of_Q (cells_of triangles cells_of_Q) doors_of_Q w 0 q (Inside 0) n after d
   held_d =
       let says = view_says triangles corners_of_Q cells_of_Q doors_of_Q (query w) view in
@@ -131,7 +131,7 @@ module _ {w : ℕ} (view : viewed triangles corners_of_Q cells_of_Q doors_of_Q (
   face_of_d : held_d.row.face ≡ f
   face_of_d =
       let says = view_says triangles corners_of_Q cells_of_Q doors_of_Q (query w) view in
-      walk_is_unique says.sound w 0 q (Inside 0) (found_place_holds_the_stand corners_of_Q (numbered triangles cells_of_Q) doors_of_Q w q says.spotted.stand_place) d held_d.met Ends_there
+      walk_is_unique says.sound w 0 q (Inside 0) (found_place_holds_the_stand corners_of_Q (numbered triangles cells_of_Q) doors_of_Q w q says.spotted.stand_place) d held_d.met ends_there
 
 -- ---- one that always refuses: the exact conditions of demand 1
 
