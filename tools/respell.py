@@ -1,5 +1,5 @@
 #!/usr/bin/env python3
-"""Brings the repository's own names to today's spelling, once, after /opt/rattle/port/port.py: words in snake case, types
+"""Brings the repository's own names to today's spelling, once, after the kit's port.py: words in snake case, types
 in camel case.
 
     python3 tools/respell.py [--list]      in the repository; --list only prints what would change
