@@ -4,8 +4,10 @@ use Rattle.boxes.proofs.lesser.Goals as goal
 
 pub returns-then-t : goal.returns-then-t
 returns-then-t c = let g = c.well_formed.0.1.1 in
-    record { upper_bound = (first_is_lesser c.args.t.b c.args.t.a g.1.0.1 g.0.1 c.if-t.true).0; upper_bound_2 = (first_is_lesser c.args.t.b c.args.t.a g.1.0.1 g.0.1 c.if-t.true).1 }
+    let parts = first_is_lesser c.args.t.b c.args.t.a g.1.0.1 g.0.1 c.if-t.true in
+    record { upper_bound = parts.0; upper_bound_2 = parts.1 }
 
 pub returns : goal.returns
 returns c = let g = c.well_formed.0.1.1 in
-    record { upper_bound = (second_is_lesser c.args.t.b c.args.t.a g.1.0.1 g.0.1 c.if-t.false).0; upper_bound_2 = (second_is_lesser c.args.t.b c.args.t.a g.1.0.1 g.0.1 c.if-t.false).1 }
+    let parts = second_is_lesser c.args.t.b c.args.t.a g.1.0.1 g.0.1 c.if-t.false in
+    record { upper_bound = parts.0; upper_bound_2 = parts.1 }

@@ -9,7 +9,6 @@ use Rattle.checking.proofs.Rooms.{lent, few_coordinates}
 use Rattle.doors.proofs.change_cut.Goals as goal
 use Rattle.doors.proofs.change_cut.Goals.{Start}
 
--- `doors::change_cut` meets its contract.
 -- the corners of the plan fit
 numbers_fit : (s : Start) → length s.args.corners.now ≤ length s.args.seen.now
 numbers_fit s = omega (arith, few_coordinates s.args.kind s.args.corners.now s.args.cells.now s.args.doors.now s.requires.doors_value, s.requires.most_corners_in_bounds)

@@ -16,17 +16,11 @@ returns-then-doors-door c = let a = c.args in
 pub bounds-doors-door : goal.bounds-doors-door
 bounds-doors-door c = c.if-doors-door.false
 
-pub overflow_cast-f : goal.overflow_cast-f
-overflow_cast-f c = omega (arith, c.shared_slice_known-in-Side-1.given c.args.door)
-
 pub offset_bounds-backs-f : goal.offset_bounds-backs-f
 offset_bounds-backs-f c = omega (arith, face_exists c.requires.sound.0 c.if-doors-door.false, c.requires.sound.1.whole)
 
 pub bounds-backs-f : goal.bounds-backs-f
 bounds-backs-f c = omega (arith, face_exists c.requires.sound.0 c.if-doors-door.false, c.requires.sound.1.whole)
-
-pub overflow_cast-g : goal.overflow_cast-g
-overflow_cast-g c = omega (arith, c.shared_slice_known-in-Side-2-1.given (get_or c.args.doors.now c.args.door 0))
 
 pub overflow_mul-f : goal.overflow_mul-f
 overflow_mul-f c = omega (arith, face_exists c.requires.sound.0 c.if-doors-door.false)
@@ -36,9 +30,6 @@ offset_bounds-faces-f c = omega (arith, face_exists c.requires.sound.0 c.if-door
 
 pub bounds-faces-f : goal.bounds-faces-f
 bounds-faces-f c = omega (arith, face_exists c.requires.sound.0 c.if-doors-door.false)
-
-pub overflow_cast-faces : goal.overflow_cast-faces
-overflow_cast-faces c = omega (arith, c.shared_slice_known-in-Side-3-1.given (2 * get_or c.args.doors.now c.args.door 0))
 
 pub at-right-requires : goal.at-right-requires
 at-right-requires c = starts_at_a_corner c.requires.sound.0 c.if-doors-door.false (face_exists c.requires.sound.0 c.if-doors-door.false)
@@ -51,9 +42,6 @@ offset_bounds-faces-g c = omega (arith, other_exists c.requires.sound.0 c.if-doo
 
 pub bounds-faces-g : goal.bounds-faces-g
 bounds-faces-g c = omega (arith, other_exists c.requires.sound.0 c.if-doors-door.false, c.requires.sound.1.stands _ (face_exists c.requires.sound.0 c.if-doors-door.false) (door_is_free c.requires.sound.0 _ c.if-doors-door.false))
-
-pub overflow_cast-faces-in-Side : goal.overflow_cast-faces-in-Side
-overflow_cast-faces-in-Side c = omega (arith, c.shared_slice_known-in-Side-4-1.given (2 * get_or c.args.backs.now (get_or c.args.doors.now c.args.door 0) 0))
 
 pub at-left-requires : goal.at-left-requires
 at-left-requires c = subst (λ (g : ℕ). get_or c.args.faces.now (2 * g) 0 < corner_count c.args.corners.now) (sym (c.requires.sound.1.stands _ (face_exists c.requires.sound.0 c.if-doors-door.false) (door_is_free c.requires.sound.0 _ c.if-doors-door.false))) (starts_at_a_corner c.requires.sound.0 c.if-doors-door.false (other_exists c.requires.sound.0 c.if-doors-door.false))

@@ -9,7 +9,6 @@ use Rattle.cells.specs.Cut.{cut, is_whole, cells_of}
 use Rattle.cells.proofs.Cuts.{polygons_otherwise}
 use Rattle.draw.proofs.draw.Goals as goal
 
--- `draw::draw` meets its contract.
 -- a list of kind k that is cut into whole cells, and two tables with room for them
 abbrev Asked : List ℕ → List ℕ → List ℕ → ℕ → Type 0
 Asked ts fs gs k =

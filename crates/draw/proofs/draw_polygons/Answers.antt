@@ -61,4 +61,5 @@ pub shape_of-firsts : goal.shape_of-firsts
 shape_of-firsts c = omega (arith, c.loop-at.invariant.firsts_room)
 
 pub returns : goal.returns
-returns c = record { faces_after = (drawing_ends c.loop-at.invariant c.loop-at-test.false cut_no_polygons).0; firsts_after = (drawing_ends c.loop-at.invariant c.loop-at-test.false cut_no_polygons).1 }
+returns c = let parts = drawing_ends c.loop-at.invariant c.loop-at-test.false cut_no_polygons in
+    record { faces_after = parts.0; firsts_after = parts.1 }

@@ -45,4 +45,5 @@ pub shape_of-firsts : goal.shape_of-firsts
 shape_of-firsts c = omega (arith, c.loop-c.invariant.firsts_room)
 
 pub returns : goal.returns
-returns c = record { faces_after = (drawing_ends c.loop-c.invariant (omega (arith, c.loop-c-test.false, count_of_triangles _ c.requires.cells_value)) cut_no_triangles).0; firsts_after = (drawing_ends c.loop-c.invariant (omega (arith, c.loop-c-test.false, count_of_triangles _ c.requires.cells_value)) cut_no_triangles).1 }
+returns c = let parts = drawing_ends c.loop-c.invariant (omega (arith, c.loop-c-test.false, count_of_triangles _ c.requires.cells_value)) cut_no_triangles in
+    record { faces_after = parts.0; firsts_after = parts.1 }

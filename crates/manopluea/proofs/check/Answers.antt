@@ -4,4 +4,5 @@ use Rattle.manopluea.proofs.Numbered.{said_twice}
 use Rattle.manopluea.proofs.check.Goals as goal
 
 pub returns : goal.returns
-returns c = record { answer = (said_twice checked_reply c.check.ensures).0; numbers = (said_twice checked_reply c.check.ensures).1 }
+returns c = let parts = said_twice checked_reply c.check.ensures in
+    record { answer = parts.0; numbers = parts.1 }

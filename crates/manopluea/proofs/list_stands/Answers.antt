@@ -5,4 +5,5 @@ use Rattle.manopluea.proofs.Numbered.{said_twice}
 use Rattle.manopluea.proofs.list_stands.Goals as goal
 
 pub returns : goal.returns
-returns c = record { answer = (said_twice (in_numbers listed_reply) c.list_stands.ensures).0; numbers = (said_twice (in_numbers listed_reply) c.list_stands.ensures).1 }
+returns c = let parts = said_twice (in_numbers listed_reply) c.list_stands.ensures in
+    record { answer = parts.0; numbers = parts.1 }

@@ -5,4 +5,5 @@ use Rattle.manopluea.proofs.Numbered.{said_twice}
 use Rattle.manopluea.proofs.read.Goals as goal
 
 pub returns : goal.returns
-returns c = record { answer = (said_twice (in_numbers read_numbers) c.read.ensures).0; numbers = (said_twice (in_numbers read_numbers) c.read.ensures).1 }
+returns c = let parts = said_twice (in_numbers read_numbers) c.read.ensures in
+    record { answer = parts.0; numbers = parts.1 }

@@ -5,4 +5,5 @@ use Rattle.manopluea.proofs.Numbered.{said_twice}
 use Rattle.manopluea.proofs.write.Goals as goal
 
 pub returns : goal.returns
-returns c = record { answer = (said_twice (in_numbers checked_reply) c.write.ensures).0; numbers = (said_twice (in_numbers checked_reply) c.write.ensures).1 }
+returns c = let parts = said_twice (in_numbers checked_reply) c.write.ensures in
+    record { answer = parts.0; numbers = parts.1 }

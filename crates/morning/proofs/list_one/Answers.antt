@@ -7,7 +7,8 @@ pub see-requires : goal.see-requires
 see-requires c = record { corners_near = corners_seen_asked c.requires.sound.0 c.args.setting c.args.reach c.args.stand (sym c.view_of_stand.ensures ∙ c.in-From.is); seen_len = c.requires.seen_len }
 
 pub list_up_to-requires : goal.list_up_to-requires
-list_up_to-requires c = record { lines = (lines_asked c.requires.sound.0 c.args.setting c.args.reach c.args.stand (sym c.view_of_stand.ensures ∙ c.in-From.is) c.range-range.ensures c.requires.lined c.see.ensures c.args.table.now c.requires.corners_in_bounds).0; stands_in = (lines_asked c.requires.sound.0 c.args.setting c.args.reach c.args.stand (sym c.view_of_stand.ensures ∙ c.in-From.is) c.range-range.ensures c.requires.lined c.see.ensures c.args.table.now c.requires.corners_in_bounds).1.0; whole = (lines_asked c.requires.sound.0 c.args.setting c.args.reach c.args.stand (sym c.view_of_stand.ensures ∙ c.in-From.is) c.range-range.ensures c.requires.lined c.see.ensures c.args.table.now c.requires.corners_in_bounds).1.1.0; p_in_bounds = (lines_asked c.requires.sound.0 c.args.setting c.args.reach c.args.stand (sym c.view_of_stand.ensures ∙ c.in-From.is) c.range-range.ensures c.requires.lined c.see.ensures c.args.table.now c.requires.corners_in_bounds).1.1.1.0; p_bound = (lines_asked c.requires.sound.0 c.args.setting c.args.reach c.args.stand (sym c.view_of_stand.ensures ∙ c.in-From.is) c.range-range.ensures c.requires.lined c.see.ensures c.args.table.now c.requires.corners_in_bounds).1.1.1.1 }
+list_up_to-requires c = let parts = lines_asked c.requires.sound.0 c.args.setting c.args.reach c.args.stand (sym c.view_of_stand.ensures ∙ c.in-From.is) c.range-range.ensures c.requires.lined c.see.ensures c.args.table.now c.requires.corners_in_bounds in
+    record { lines = parts.0; stands_in = parts.1.0; whole = parts.1.1.0; p_in_bounds = parts.1.1.1.0; p_bound = parts.1.1.1.1 }
 
 pub returns-in-Refused : goal.returns-in-Refused
 returns-in-Refused c = stand_refused _ _ _ c.args.setting c.args.reach c.args.ceiling c.args.stand c.args.table.now (sym c.view_of_stand.ensures ∙ c.in-Refused.is)

@@ -3,16 +3,21 @@ use Rattle.planfile.proofs.Hands.{not_accepted, no_room_for_corners, no_room_for
 use Rattle.planfile.proofs.hand_over.Goals as goal
 
 pub returns-in_default : goal.returns-in_default
-returns-in_default c = record { value = (not_accepted c.check-checked.ensures c.args.cs.now c.args.ts.now c.args.ds.now c.args.corners.now c.args.cells.now c.args.doors.now c.in_default.is).0; doors_after = (not_accepted c.check-checked.ensures c.args.cs.now c.args.ts.now c.args.ds.now c.args.corners.now c.args.cells.now c.args.doors.now c.in_default.is).1 }
+returns-in_default c = let parts = not_accepted c.check-checked.ensures c.args.cs.now c.args.ts.now c.args.ds.now c.args.corners.now c.args.cells.now c.args.doors.now c.in_default.is in
+    record { value = parts.0; doors_after = parts.1 }
 
 pub returns-then-corners-cs : goal.returns-then-corners-cs
-returns-then-corners-cs c = record { value = (no_room_for_corners c.check-checked.ensures c.args.cs.now c.args.ts.now c.args.ds.now c.args.corners.now c.args.cells.now c.args.doors.now c.in-Accepted.is c.if-corners-cs.true).0; doors_after = (no_room_for_corners c.check-checked.ensures c.args.cs.now c.args.ts.now c.args.ds.now c.args.corners.now c.args.cells.now c.args.doors.now c.in-Accepted.is c.if-corners-cs.true).1 }
+returns-then-corners-cs c = let parts = no_room_for_corners c.check-checked.ensures c.args.cs.now c.args.ts.now c.args.ds.now c.args.corners.now c.args.cells.now c.args.doors.now c.in-Accepted.is c.if-corners-cs.true in
+    record { value = parts.0; doors_after = parts.1 }
 
 pub returns-then-cells-ts : goal.returns-then-cells-ts
-returns-then-cells-ts c = record { value = (no_room_for_cells c.check-checked.ensures c.args.cs.now c.args.ts.now c.args.ds.now c.args.corners.now c.args.cells.now c.args.doors.now c.in-Accepted.is c.if-corners-cs.false c.if-cells-ts.true).0; doors_after = (no_room_for_cells c.check-checked.ensures c.args.cs.now c.args.ts.now c.args.ds.now c.args.corners.now c.args.cells.now c.args.doors.now c.in-Accepted.is c.if-corners-cs.false c.if-cells-ts.true).1 }
+returns-then-cells-ts c = let parts = no_room_for_cells c.check-checked.ensures c.args.cs.now c.args.ts.now c.args.ds.now c.args.corners.now c.args.cells.now c.args.doors.now c.in-Accepted.is c.if-corners-cs.false c.if-cells-ts.true in
+    record { value = parts.0; doors_after = parts.1 }
 
 pub returns-then-doors-ds : goal.returns-then-doors-ds
-returns-then-doors-ds c = record { value = (no_room_for_doors c.check-checked.ensures c.args.cs.now c.args.ts.now c.args.ds.now c.args.corners.now c.args.cells.now c.args.doors.now c.in-Accepted.is c.if-corners-cs.false c.if-cells-ts.false c.if-doors-ds.true).0; doors_after = (no_room_for_doors c.check-checked.ensures c.args.cs.now c.args.ts.now c.args.ds.now c.args.corners.now c.args.cells.now c.args.doors.now c.in-Accepted.is c.if-corners-cs.false c.if-cells-ts.false c.if-doors-ds.true).1 }
+returns-then-doors-ds c = let parts = no_room_for_doors c.check-checked.ensures c.args.cs.now c.args.ts.now c.args.ds.now c.args.corners.now c.args.cells.now c.args.doors.now c.in-Accepted.is c.if-corners-cs.false c.if-cells-ts.false c.if-doors-ds.true in
+    record { value = parts.0; doors_after = parts.1 }
 
 pub returns : goal.returns
-returns c = record { value = (all_handed c.check-checked.ensures c.args.cs.now c.args.ts.now c.args.ds.now c.args.corners.now c.args.cells.now c.args.doors.now c.in-Accepted.is c.if-corners-cs.false c.if-cells-ts.false c.if-doors-ds.false c.copy_corners.ensures c.copy_numbers.ensures c.copy_numbers-2.ensures).0; doors_after = (all_handed c.check-checked.ensures c.args.cs.now c.args.ts.now c.args.ds.now c.args.corners.now c.args.cells.now c.args.doors.now c.in-Accepted.is c.if-corners-cs.false c.if-cells-ts.false c.if-doors-ds.false c.copy_corners.ensures c.copy_numbers.ensures c.copy_numbers-2.ensures).1 }
+returns c = let parts = all_handed c.check-checked.ensures c.args.cs.now c.args.ts.now c.args.ds.now c.args.corners.now c.args.cells.now c.args.doors.now c.in-Accepted.is c.if-corners-cs.false c.if-cells-ts.false c.if-doors-ds.false c.copy_corners.ensures c.copy_numbers.ensures c.copy_numbers-2.ensures in
+    record { value = parts.0; doors_after = parts.1 }

@@ -11,7 +11,6 @@ use Rattle.planfile.proofs.Decodes.{lent, back, shared, corners_fit, cells_fit, 
 use Rattle.planfile.proofs.read_framed.Goals as goal
 use Rattle.planfile.proofs.read_framed.Goals.{After-end-third, Else-not-is_sized}
 
--- `planfile::read_framed` meets its contract.
 -- where the records lie
 places_at : (c : After-end-third) → Places c.args.file.now c.end-second.result c.end-third.result
 places_at c =

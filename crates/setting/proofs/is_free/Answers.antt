@@ -1,7 +1,6 @@
 -- `setting::is_free` meets its contract.
 use mathlib.Core.Bool.{not}
 use mathlib.Core.Path.{ap, sym}
-use native.Mathlib.Omega.{arith}
 use Rattle.cells.specs.Lists.{tabled, neighbour}
 use Rattle.setting.proofs.Settings.{sight_ends_at_a_wall, the_doors_decide}
 use Rattle.setting.proofs.is_free.Goals as goal
@@ -10,9 +9,6 @@ pub returns-then-faces-f : goal.returns-then-faces-f
 unfolding neighbour
 returns-then-faces-f c = let a = c.args in
     sym (ap not (sight_ends_at_a_wall (tabled a.faces.now a.firsts.now) a.doors.now a.setting a.f c.if-faces-f.true))
-
-pub overflow_cast-g : goal.overflow_cast-g
-overflow_cast-g c = omega (arith, c.shared_slice_known-6-1.given c.args.f)
 
 pub returns : goal.returns
 unfolding neighbour

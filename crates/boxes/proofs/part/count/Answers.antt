@@ -6,9 +6,6 @@ use Rattle.boxes.proofs.part.count.Goals as goal
 pub loop-i-init : goal.loop-i-init
 loop-i-init c = (omega arith, omega arith)
 
-pub overflow_cast-c : goal.overflow_cast-c
-overflow_cast-c c = omega (arith, c.shared_slice_known-in-loop-i-1.given c.loop-i.i)
-
 pub read-b-requires : goal.read-b-requires
 read-b-requires c = box_there c.args.boxes.now c.requires.listed c.requires.m_in_bounds c.loop-i.i c.loop-i-test.true
 

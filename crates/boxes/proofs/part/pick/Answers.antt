@@ -16,9 +16,6 @@ offset_bounds-part-k c = omega (arith, c.loop-i.invariant.0.at_most)
 pub bounds-part-k : goal.bounds-part-k
 bounds-part-k c = omega (arith, c.loop-i.invariant.0.at_most)
 
-pub overflow_cast-c : goal.overflow_cast-c
-overflow_cast-c c = omega (arith, c.shared_slice_known-in-loop-i-1.given c.loop-i.i)
-
 pub read-b-requires : goal.read-b-requires
 read-b-requires c = box_there c.args.boxes.now c.requires.listed c.requires.m_in_bounds c.loop-i.i c.loop-i-test.true
 

@@ -40,7 +40,8 @@ start-d-requires c = side_exists c.requires.numbered c.requires.c_bound (three_s
 
 pub is_left-requires : goal.is_left-requires
 is_left-requires c = let gs = c.args.firsts.now in
-    record { corners_near = c.requires.corners_near; a_bound = (three_there c.args.corners.now c.requires.numbered c.requires.c_bound (just_three (goal.at.is_left-requires c).Then-end-f) c.first-f.ensures (none_missing (goal.at.is_left-requires c).Else-lacks_a_corner) (c.start-a.ensures gs) (c.start-b.ensures gs) (c.start-d.ensures gs)).0; b_bound = (three_there c.args.corners.now c.requires.numbered c.requires.c_bound (just_three (goal.at.is_left-requires c).Then-end-f) c.first-f.ensures (none_missing (goal.at.is_left-requires c).Else-lacks_a_corner) (c.start-a.ensures gs) (c.start-b.ensures gs) (c.start-d.ensures gs)).1.0; d_bound = (three_there c.args.corners.now c.requires.numbered c.requires.c_bound (just_three (goal.at.is_left-requires c).Then-end-f) c.first-f.ensures (none_missing (goal.at.is_left-requires c).Else-lacks_a_corner) (c.start-a.ensures gs) (c.start-b.ensures gs) (c.start-d.ensures gs)).1.1 }
+    let parts = three_there c.args.corners.now c.requires.numbered c.requires.c_bound (just_three (goal.at.is_left-requires c).Then-end-f) c.first-f.ensures (none_missing (goal.at.is_left-requires c).Else-lacks_a_corner) (c.start-a.ensures gs) (c.start-b.ensures gs) (c.start-d.ensures gs) in
+    record { corners_near = c.requires.corners_near; a_bound = parts.0; b_bound = parts.1.0; d_bound = parts.1.1 }
 
 pub returns-then-end-f : goal.returns-then-end-f
 returns-then-end-f c = let gs = c.args.firsts.now in

@@ -35,7 +35,8 @@ returns-then-d-a c = let inv = c.loop-g.invariant in
 
 pub is_left-requires : goal.is_left-requires
 is_left-requires c = let inv = c.loop-g.invariant in
-    record { corners_near = c.requires.corners_near; a_bound = (corners_there c.args.corners.now c.requires.numbered c.requires.c_bound c.requires.firsts_value c.requires.side_of inv.1 (looks_at inv.0 c.loop-g-test.true) (c.start-d.ensures c.args.firsts.now)).0; b_bound = (corners_there c.args.corners.now c.requires.numbered c.requires.c_bound c.requires.firsts_value c.requires.side_of inv.1 (looks_at inv.0 c.loop-g-test.true) (c.start-d.ensures c.args.firsts.now)).1.0; d_bound = (corners_there c.args.corners.now c.requires.numbered c.requires.c_bound c.requires.firsts_value c.requires.side_of inv.1 (looks_at inv.0 c.loop-g-test.true) (c.start-d.ensures c.args.firsts.now)).1.1 }
+    let parts = corners_there c.args.corners.now c.requires.numbered c.requires.c_bound c.requires.firsts_value c.requires.side_of inv.1 (looks_at inv.0 c.loop-g-test.true) (c.start-d.ensures c.args.firsts.now) in
+    record { corners_near = c.requires.corners_near; a_bound = parts.0; b_bound = parts.1.0; d_bound = parts.1.1 }
 
 pub returns-then-not-is_left : goal.returns-then-not-is_left
 unfolding wrong_side

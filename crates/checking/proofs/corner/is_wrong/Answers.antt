@@ -12,7 +12,6 @@ use Rattle.cells.specs.Lists.{corner_at}
 use Rattle.cells.specs.Check.{outside, wrong_corner}
 use Rattle.checking.proofs.corner.is_wrong.Goals as goal
 
--- `checking::corner::is_wrong` meets its contract.
 -- what `is_outside` answers of a coordinate that was read
 told : {r : Bool} (z : ℤ) → mag z < 2 ^ 31 → r ≡ outside (to_z w32 (of_z w32 z)) → outside z ≡ r
 told {r} z f e = ap outside (sym (handed w32 {r = z} {s = z} f refl)) ∙ sym e

@@ -1,14 +1,10 @@
 -- `checking::door::named` meets its contract.
-use native.Mathlib.Omega.{arith}
 use Rattle.cells.proofs.Least.{seek_begins, seek_goes_on, seek_found, seek_ends}
 use Rattle.cells.proofs.Doors.{names_the_face, names_the_back, names_neither}
 use Rattle.checking.proofs.door.named.Goals as goal
 
 pub loop-e-init : goal.loop-e-init
 loop-e-init c = seek_begins _ _
-
-pub overflow_cast-d : goal.overflow_cast-d
-overflow_cast-d c = omega (arith, c.shared_slice_known-1.given c.loop-e.e)
 
 pub returns-then-d-f : goal.returns-then-d-f
 returns-then-d-f c = seek_found c.loop-e.invariant c.loop-e-test.true (names_the_face _ _ _ _ c.if-d-f.true)

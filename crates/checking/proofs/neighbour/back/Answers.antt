@@ -8,7 +8,6 @@ use Rattle.checking.proofs.Meetings.{met_in_the_cell, met_past_it, met_at_the_fa
 use Rattle.checking.proofs.neighbour.back.Goals as goal
 use Rattle.checking.proofs.neighbour.back.Goals.{Start}
 
--- `checking::neighbour::back` meets its contract.
 -- the neighbour that was read exists
 there : (s : Start) {d : ℕ} → let T = tabled s.args.faces.now s.args.firsts.now in d ≡ neighbour T s.args.f → d < cell_count T
 there s e = subst (λ (d : ℕ). d < cell_count (tabled s.args.faces.now s.args.firsts.now)) (sym e) s.requires.f_bound

@@ -7,9 +7,6 @@ use Rattle.overlap.proofs.Settled.{nothing_new, apart_passes, against_none, agai
 use Rattle.overlap.proofs.pair.against_later.Goals as goal
 use Rattle.overlap.proofs.pair.against_later.Goals.{then-f-to, else-f-to}
 
-pub overflow_cast-c : goal.overflow_cast-c
-overflow_cast-c c = omega (arith, c.shared_slice_known-4-1.given c.args.s)
-
 pub end-to-requires : goal.end-to-requires
 end-to-requires c = c.requires.listed.exists _ c.requires.s_in_bounds
 
@@ -23,9 +20,6 @@ loop-u-init c = let exists = c.requires.listed.exists _ c.requires.s_in_bounds i
 pub past_the_apart-u-requires : goal.past_the_apart-u-requires
 past_the_apart-u-requires c = let inv = c.loop-u.invariant in
     record { ready = c.requires.ready; boxed = c.requires.boxed; listed = c.requires.listed; c_bound = c.requires.listed.exists _ c.requires.s_in_bounds; side_of = inv.0; from_in_bounds = inv.1.0 }
-
-pub overflow_cast-d : goal.overflow_cast-d
-overflow_cast-d c = omega (arith, c.shared_slice_known-then-u-n-1.given c.past_the_apart-u.result)
 
 pub separating-f-requires : goal.separating-f-requires
 separating-f-requires c = record { ready = c.requires.ready; c_bound = c.requires.listed.exists _ c.requires.s_in_bounds; d_bound = c.requires.listed.exists _ c.if-u-n.true }

@@ -16,7 +16,6 @@ use Rattle.overlap.proofs.Boxed.{boxes_apart}
 use Rattle.overlap.proofs.pair.past_the_apart.Goals as goal
 use Rattle.overlap.proofs.pair.past_the_apart.Goals.{then-meet+else-not-is_cut_off, else-meet}
 
--- `overlap::pair::past_the_apart` meets its contract.
 -- cells whose boxes, by what was read, do not meet
 by_boxes : {cs : List ℤ} {T : Cells} → Ready cs T → {bs : List ℤ} → Boxed cs T bs → (c e : ℕ) → c < cell_count T → e < cell_count T → {a b : Bounds} {t : Bool} → a ≡ box_at bs c → b ≡ box_at bs e → t ≡ meeting a b → t ≡ false → overlapping cs T c e ≡ false
 by_boxes R B c e h k is_a is_b is_t fails = boxes_apart R B c e h k (rw (← is_a, ← is_b) (sym is_t ∙ fails))
@@ -29,9 +28,6 @@ ends-line-requires c = record { ready = c.requires.ready; c_bound = c.requires.c
 
 pub loop-i-init : goal.loop-i-init
 loop-i-init c = apart_from_none c.requires.from_in_bounds
-
-pub overflow_cast-d : goal.overflow_cast-d
-overflow_cast-d c = omega (arith, c.shared_slice_known-in-loop-i-1.given c.loop-i.i)
 
 pub read-other-requires : goal.read-other-requires
 read-other-requires c = omega (arith, c.requires.boxed.room, c.requires.listed.exists _ c.loop-i-test.true)

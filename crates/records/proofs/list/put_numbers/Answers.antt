@@ -1,14 +1,10 @@
 -- `records::list::put_numbers` meets its contract.
 use mathlib.Core.Path.{refl}
-use native.Mathlib.Omega.{arith}
 use Rattle.records.proofs.Stores.{puts_begin, puts_go_on, puts_end}
 use Rattle.records.proofs.list.put_numbers.Goals as goal
 
 pub loop-i-init : goal.loop-i-init
 loop-i-init c = puts_begin _ _ _ _
-
-pub overflow_cast-numbers : goal.overflow_cast-numbers
-overflow_cast-numbers c = omega (arith, c.shared_slice_known-in-loop-i-1.given c.loop-i.i)
 
 pub loop-i-preserved : goal.loop-i-preserved
 loop-i-preserved c = puts_go_on c.loop-i.invariant c.loop-i-test.true refl c.put_two.ensures

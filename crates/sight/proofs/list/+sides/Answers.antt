@@ -37,7 +37,8 @@ bounds-lines-f t c = omega (arith, there t (goal.at.bounds-lines-f t c).Start)
 
 pub cross-first-requires : goal.cross-first-requires
 cross-first-requires t c = let h = there t (goal.at.cross-first-requires t c).Start in
-    record { lines = c.requires.lines; f_in_bounds = (h, c.requires.lines.1.exists _ h, c.requires.lines.0.end_exists _ h, c.requires.f_in_bounds.1); whole = (room_for_a_side _ _ _ _ _ _ _ _ c.args.more (c.requires.whole, c.requires.f_in_bounds_2)).0; l_in_bounds = (room_for_a_side _ _ _ _ _ _ _ _ c.args.more (c.requires.whole, c.requires.f_in_bounds_2)).1 }
+    let parts = room_for_a_side _ _ _ _ _ _ _ _ c.args.more (c.requires.whole, c.requires.f_in_bounds_2) in
+    record { lines = c.requires.lines; f_in_bounds = (h, c.requires.lines.1.exists _ h, c.requires.lines.0.end_exists _ h, c.requires.f_in_bounds.1); whole = parts.0; l_in_bounds = parts.1 }
 
 pub shape_of-table-then-more-eq0 : goal.shape_of-table-then-more-eq0
 shape_of-table-then-more-eq0 t c = c.cross-first.auto.table
@@ -89,9 +90,6 @@ offset_bounds-lines-f-2 t c = omega (arith, there t (goal.at.offset_bounds-lines
 
 pub bounds-lines-f-2 : goal.bounds-lines-f-2
 bounds-lines-f-2 t c = there t (goal.at.bounds-lines-f-2 t c).Start
-
-pub overflow_cast-next : goal.overflow_cast-next
-overflow_cast-next t c = omega (arith, c.shared_slice_known-5-1.given (4 * c.args.f + 3))
 
 pub overflow_sub-more : goal.overflow_sub-more
 overflow_sub-more t c = some_follow t (goal.at.overflow_sub-more t c).Else-more-eq0

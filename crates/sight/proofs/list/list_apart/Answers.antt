@@ -10,7 +10,6 @@ use Rattle.sight.proofs.UpTo.{some_allowed, ceiling_passed, ceiling_kept}
 use Rattle.sight.proofs.list.list_apart.Goals as goal
 use Rattle.sight.proofs.list.list_apart.Goals.{Else-followed-eq0, Start}
 
--- `sight::list::list_apart` meets its contract.
 -- what is followed
 abbrev tree : Start → Sight
 tree s = stand_tree s.args.seen.now s.args.lines.now (tabled s.args.faces.now s.args.firsts.now) s.args.reach s.args.p

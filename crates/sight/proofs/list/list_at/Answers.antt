@@ -7,7 +7,8 @@ use Rattle.sight.proofs.list.list_at.Goals as goal
 
 pub list_up_to-requires : goal.list_up_to-requires
 list_up_to-requires c = let sound = c.requires.sound.0 in
-    record { lines = (tables_serve sound c.args.setting c.args.reach _ c.requires.near.0 c.lines_of.ensures c.see.ensures _ (found_place_holds_the_stand _ sound.numbered _ _ _ c.requires.near.1) c.requires.corners_in_bounds.1 _ c.requires.corners_in_bounds.0).0; stands_in = (tables_serve sound c.args.setting c.args.reach _ c.requires.near.0 c.lines_of.ensures c.see.ensures _ (found_place_holds_the_stand _ sound.numbered _ _ _ c.requires.near.1) c.requires.corners_in_bounds.1 _ c.requires.corners_in_bounds.0).1.0; whole = (tables_serve sound c.args.setting c.args.reach _ c.requires.near.0 c.lines_of.ensures c.see.ensures _ (found_place_holds_the_stand _ sound.numbered _ _ _ c.requires.near.1) c.requires.corners_in_bounds.1 _ c.requires.corners_in_bounds.0).1.1.0; p_in_bounds = (tables_serve sound c.args.setting c.args.reach _ c.requires.near.0 c.lines_of.ensures c.see.ensures _ (found_place_holds_the_stand _ sound.numbered _ _ _ c.requires.near.1) c.requires.corners_in_bounds.1 _ c.requires.corners_in_bounds.0).1.1.1.0; p_bound = (tables_serve sound c.args.setting c.args.reach _ c.requires.near.0 c.lines_of.ensures c.see.ensures _ (found_place_holds_the_stand _ sound.numbered _ _ _ c.requires.near.1) c.requires.corners_in_bounds.1 _ c.requires.corners_in_bounds.0).1.1.1.1 }
+    let parts = tables_serve sound c.args.setting c.args.reach _ c.requires.near.0 c.lines_of.ensures c.see.ensures _ (found_place_holds_the_stand _ sound.numbered _ _ _ c.requires.near.1) c.requires.corners_in_bounds.1 _ c.requires.corners_in_bounds.0 in
+    record { lines = parts.0; stands_in = parts.1.0; whole = parts.1.1.0; p_in_bounds = parts.1.1.1.0; p_bound = parts.1.1.1.1 }
 
 pub returns : goal.returns
 returns c = let sound = c.requires.sound.0 in

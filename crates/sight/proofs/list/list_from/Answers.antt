@@ -10,4 +10,5 @@ list_all-requires c = let sound = c.requires.sound.0 in
 
 pub returns : goal.returns
 returns c = let sound = c.requires.sound.0 in
-    record { rows_value = (listing_written sound c.args.setting c.args.reach _ c.requires.near.0 c.lines_of.ensures c.see.ensures _ (found_place_holds_the_stand _ sound.numbered _ _ _ c.requires.near.1) _ (c.list_all.ensures.rows_value, (c.list_all.ensures.crossings_value, c.list_all.ensures.table_after))).0; crossings_value = (listing_written sound c.args.setting c.args.reach _ c.requires.near.0 c.lines_of.ensures c.see.ensures _ (found_place_holds_the_stand _ sound.numbered _ _ _ c.requires.near.1) _ (c.list_all.ensures.rows_value, (c.list_all.ensures.crossings_value, c.list_all.ensures.table_after))).1.0; table_after = (listing_written sound c.args.setting c.args.reach _ c.requires.near.0 c.lines_of.ensures c.see.ensures _ (found_place_holds_the_stand _ sound.numbered _ _ _ c.requires.near.1) _ (c.list_all.ensures.rows_value, (c.list_all.ensures.crossings_value, c.list_all.ensures.table_after))).1.1 }
+    let parts = listing_written sound c.args.setting c.args.reach _ c.requires.near.0 c.lines_of.ensures c.see.ensures _ (found_place_holds_the_stand _ sound.numbered _ _ _ c.requires.near.1) _ (c.list_all.ensures.rows_value, (c.list_all.ensures.crossings_value, c.list_all.ensures.table_after)) in
+    record { rows_value = parts.0; crossings_value = parts.1.0; table_after = parts.1.1 }

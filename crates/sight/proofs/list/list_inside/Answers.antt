@@ -1,6 +1,5 @@
 -- `sight::list::list_inside` meets its contract.
 use mathlib.Core.Path.{refl}
-use Prim.Native.Nat.{◌+◌}
 use native.Mathlib.Numerals.{add-one}
 use native.Mathlib.Omega.{arith}
 use Rattle.cells.proofs.Faces.{bounds}
@@ -12,9 +11,6 @@ offset_bounds-firsts-c c = omega (arith, (bounds c.requires.lines.3 c.requires.c
 pub bounds-firsts-c : goal.bounds-firsts-c
 bounds-firsts-c c = omega (arith, (bounds c.requires.lines.3 c.requires.c_bound.0 refl).begin_stands)
 
-pub overflow_cast-f : goal.overflow_cast-f
-overflow_cast-f c = omega (arith, c.shared_slice_known-4-1.given c.args.c)
-
 pub overflow_add-end : goal.overflow_add-end
 overflow_add-end c = omega (arith, (bounds c.requires.lines.3 c.requires.c_bound.0 refl).end_stands)
 
@@ -23,9 +19,6 @@ offset_bounds-firsts-c-2 c = omega (arith, (bounds c.requires.lines.3 c.requires
 
 pub bounds-firsts-c-2 : goal.bounds-firsts-c-2
 bounds-firsts-c-2 c = omega (arith, (bounds c.requires.lines.3 c.requires.c_bound.0 refl).end_stands)
-
-pub overflow_cast-end : goal.overflow_cast-end
-overflow_cast-end c = omega (arith, c.shared_slice_known-5-1.given (c.args.c + 1))
 
 pub overflow_sub-cells : goal.overflow_sub-cells
 overflow_sub-cells c = omega (arith, c.requires.lines.3.firsts_stand)

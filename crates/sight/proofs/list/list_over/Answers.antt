@@ -13,9 +13,6 @@ offset_bounds-firsts-c c = let h = rw c.in-Side.is at c.requires.stands_in.0 in 
 pub bounds-firsts-c : goal.bounds-firsts-c
 bounds-firsts-c c = let h = rw c.in-Side.is at c.requires.stands_in.0 in omega (arith, (bounds c.requires.lines.3 h.0 refl).begin_stands)
 
-pub overflow_cast-f : goal.overflow_cast-f
-overflow_cast-f c = omega (arith, c.shared_slice_known-in-Side-1.given c.in-Side.c)
-
 pub overflow_add-f : goal.overflow_add-f
 overflow_add-f c = let h = rw c.in-Side.is at c.requires.stands_in.0 in omega (arith, h.1, c.requires.lines.0.few_faces)
 

@@ -1,6 +1,6 @@
 -- `sight::list::list_within` meets its contract.
 use mathlib.Core.Path.{refl}
-use Prim.Native.Nat.{◌+◌, ◌-◌, ◌*◌}
+use Prim.Native.Nat.{◌-◌}
 use native.Mathlib.Omega.{arith}
 use Rattle.expand.proofs.Expansion.{Room, room_for_the_first, none_remains, ends_in_the_first}
 use lib.ListN.{length}
@@ -19,9 +19,6 @@ offset_bounds-lines-f c = omega (arith, c.requires.f_in_bounds.0)
 
 pub bounds-lines-f : goal.bounds-lines-f
 bounds-lines-f c = omega (arith, c.requires.f_in_bounds.0)
-
-pub overflow_cast-g : goal.overflow_cast-g
-overflow_cast-g c = omega (arith, c.shared_slice_known-3-1.given (4 * c.args.f + 1))
 
 pub overflow_sub-cells : goal.overflow_sub-cells
 overflow_sub-cells c = c.requires.f_in_bounds.2
@@ -46,7 +43,8 @@ overflow_sub-cells-2 c = c.requires.f_in_bounds.2
 pub others-theirs-requires : goal.others-theirs-requires
 others-theirs-requires c = let x = c.others-own in
     let none = c.if-own-eq0.false in
-    record { lines = c.requires.lines; g_in_bounds = (c.requires.lines.0.across_exists _ c.requires.f_in_bounds.0 c.requires.f_in_bounds.1, omega arith); whole = (second_part_fits _ _ _ (c.requires.whole, omega (arith, c.requires.f_in_bounds_2)) x.ensures (omega arith) x.auto.table).0; g_in_bounds_2 = (second_part_fits _ _ _ (c.requires.whole, omega (arith, c.requires.f_in_bounds_2)) x.ensures (omega arith) x.auto.table).1 }
+    let parts = second_part_fits _ _ _ (c.requires.whole, omega (arith, c.requires.f_in_bounds_2)) x.ensures (omega arith) x.auto.table in
+    record { lines = c.requires.lines; g_in_bounds = (c.requires.lines.0.across_exists _ c.requires.f_in_bounds.0 c.requires.f_in_bounds.1, omega arith); whole = parts.0; g_in_bounds_2 = parts.1 }
 
 pub overflow_add-result : goal.overflow_add-result
 overflow_add-result c = let x = c.others-own in

@@ -1,5 +1,4 @@
 -- `sight::list::others` meets its contract.
-use Prim.Native.Nat.{◌+◌, ◌*◌}
 use native.Mathlib.Omega.{arith}
 use Rattle.sight.proofs.list.others.Goals as goal
 
@@ -15,9 +14,6 @@ offset_bounds-lines-g c = omega (arith, c.requires.g_in_bounds.0)
 pub bounds-lines-g : goal.bounds-lines-g
 bounds-lines-g c = omega (arith, c.requires.g_in_bounds.0)
 
-pub overflow_cast-more : goal.overflow_cast-more
-overflow_cast-more c = omega (arith, c.shared_slice_known-3-1.given (4 * c.args.g + 2))
-
 pub overflow_mul-next : goal.overflow_mul-next
 overflow_mul-next c = omega (arith, c.requires.g_in_bounds.0)
 
@@ -29,9 +25,6 @@ offset_bounds-lines-g-2 c = omega (arith, c.requires.g_in_bounds.0)
 
 pub bounds-lines-g-2 : goal.bounds-lines-g-2
 bounds-lines-g-2 c = omega (arith, c.requires.g_in_bounds.0)
-
-pub overflow_cast-next : goal.overflow_cast-next
-overflow_cast-next c = omega (arith, c.shared_slice_known-4-1.given (4 * c.args.g + 3))
 
 pub sides-requires : goal.sides-requires
 sides-requires c = record { lines = c.requires.lines; f_in_bounds = (c.requires.lines.0.next_exists _ c.requires.g_in_bounds.0, c.requires.g_in_bounds.1); whole = c.requires.whole; f_in_bounds_2 = c.requires.g_in_bounds_2 }

@@ -10,33 +10,30 @@ use Rattle.stand.proofs.Against.{least_decides}
 use Rattle.stand.proofs.Sides.{one_more, after_the_last, ends_near, value_read, first_is_a_side, second_is_a_side, third_is_a_side, next_is_one, corner_exists, starts, first_side, second_side, further_side, last_side, begins, end_read, before_the_last, the_last}
 use Rattle.stand.proofs.locate.containment.Goals as goal
 
-pub overflow_cast-first : goal.overflow_cast-first
-overflow_cast-first c = omega (arith, c.shared_slice_known-3-1.given c.args.c)
-
-pub overflow_cast-last : goal.overflow_cast-last
-overflow_cast-last c = omega (arith, c.shared_slice_known-4-1.given (c.args.c + 1))
-
 pub overflow_sub-last : goal.overflow_sub-last
 overflow_sub-last c = let a = c.args in
     omega (arith, end_read a.faces.now a.firsts.now a.c, c.requires.corners_near.2.at_least a.c c.requires.c_bound)
 
 pub start-begin-requires : goal.start-begin-requires
 start-begin-requires c = let a = c.args in
-    record { f_in_bounds = (corner_exists a.corners.now c.requires.corners_near.2 c.requires.c_bound c.requires.corners_near.1 (first_is_a_side c.requires.corners_near.2 c.requires.c_bound)).0; f_bound = (corner_exists a.corners.now c.requires.corners_near.2 c.requires.c_bound c.requires.corners_near.1 (first_is_a_side c.requires.corners_near.2 c.requires.c_bound)).1 }
+    let parts = corner_exists a.corners.now c.requires.corners_near.2 c.requires.c_bound c.requires.corners_near.1 (first_is_a_side c.requires.corners_near.2 c.requires.c_bound) in
+    record { f_in_bounds = parts.0; f_bound = parts.1 }
 
 pub overflow_add-first : goal.overflow_add-first
-overflow_add-first c = omega (arith, c.shared_slice_known-3-1.given c.args.c)
+overflow_add-first c = omega (arith, c.type_inv.firsts c.args.c)
 
 pub start-second-requires : goal.start-second-requires
 start-second-requires c = let a = c.args in
-    record { f_in_bounds = (corner_exists a.corners.now c.requires.corners_near.2 c.requires.c_bound c.requires.corners_near.1 (second_is_a_side c.requires.corners_near.2 c.requires.c_bound)).0; f_bound = (corner_exists a.corners.now c.requires.corners_near.2 c.requires.c_bound c.requires.corners_near.1 (second_is_a_side c.requires.corners_near.2 c.requires.c_bound)).1 }
+    let parts = corner_exists a.corners.now c.requires.corners_near.2 c.requires.c_bound c.requires.corners_near.1 (second_is_a_side c.requires.corners_near.2 c.requires.c_bound) in
+    record { f_in_bounds = parts.0; f_bound = parts.1 }
 
 pub overflow_add-f : goal.overflow_add-f
-overflow_add-f c = omega (arith, c.shared_slice_known-3-1.given c.args.c)
+overflow_add-f c = omega (arith, c.type_inv.firsts c.args.c)
 
 pub start-from-requires : goal.start-from-requires
 start-from-requires c = let a = c.args in
-    record { f_in_bounds = (corner_exists a.corners.now c.requires.corners_near.2 c.requires.c_bound c.requires.corners_near.1 (third_is_a_side c.requires.corners_near.2 c.requires.c_bound)).0; f_bound = (corner_exists a.corners.now c.requires.corners_near.2 c.requires.c_bound c.requires.corners_near.1 (third_is_a_side c.requires.corners_near.2 c.requires.c_bound)).1 }
+    let parts = corner_exists a.corners.now c.requires.corners_near.2 c.requires.c_bound c.requires.corners_near.1 (third_is_a_side c.requires.corners_near.2 c.requires.c_bound) in
+    record { f_in_bounds = parts.0; f_bound = parts.1 }
 
 pub side_value-one-requires : goal.side_value-one-requires
 side_value-one-requires c = let a = c.args in
@@ -59,11 +56,12 @@ loop-f-init c = let a = c.args in
     }
 
 pub overflow_add-f-in-loop-f : goal.overflow_add-f-in-loop-f
-overflow_add-f-in-loop-f c = omega (arith, c.loop-f-test.true, c.shared_slice_known-4-1.given (c.args.c + 1))
+overflow_add-f-in-loop-f c = omega (arith, c.loop-f-test.true, c.type_inv.firsts (c.args.c + 1))
 
 pub start-to-requires : goal.start-to-requires
 start-to-requires c = let a = c.args in
-    record { f_in_bounds = (corner_exists a.corners.now c.requires.corners_near.2 c.requires.c_bound c.requires.corners_near.1 (next_is_one c.loop-f.invariant.here (before_the_last a.faces.now a.firsts.now a.c c.loop-f-test.true))).0; f_bound = (corner_exists a.corners.now c.requires.corners_near.2 c.requires.c_bound c.requires.corners_near.1 (next_is_one c.loop-f.invariant.here (before_the_last a.faces.now a.firsts.now a.c c.loop-f-test.true))).1 }
+    let parts = corner_exists a.corners.now c.requires.corners_near.2 c.requires.c_bound c.requires.corners_near.1 (next_is_one c.loop-f.invariant.here (before_the_last a.faces.now a.firsts.now a.c c.loop-f-test.true)) in
+    record { f_in_bounds = parts.0; f_bound = parts.1 }
 
 pub side_value-value-requires : goal.side_value-value-requires
 side_value-value-requires c = let a = c.args in

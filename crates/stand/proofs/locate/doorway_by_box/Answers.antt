@@ -1,13 +1,8 @@
 -- `stand::locate::doorway_by_box` meets its contract.
-use Prim.Native.Nat.{◌+◌}
-use native.Mathlib.Omega.{arith}
 use Rattle.plane.specs.Side.{point}
 use Rattle.stand.proofs.Sides.{end_read}
 use Rattle.stand.proofs.ByBox.{tested_past, past_has_no_doorway}
 use Rattle.stand.proofs.locate.doorway_by_box.Goals as goal
-
-pub overflow_cast-result : goal.overflow_cast-result
-overflow_cast-result c = omega (arith, c.shared_slice_known-then-is_past-1.given (c.args.c + 1))
 
 pub returns-then-is_past : goal.returns-then-is_past
 returns-then-is_past c = let a = c.args in

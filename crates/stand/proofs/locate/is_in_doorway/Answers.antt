@@ -9,10 +9,12 @@ use Rattle.stand.proofs.Doorways.{starts_at_a_corner, ends_at_a_corner, side_rea
 use Rattle.stand.proofs.locate.is_in_doorway.Goals as goal
 
 pub start-from-requires : goal.start-from-requires
-start-from-requires c = record { f_in_bounds = (starts_at_a_corner c.requires.sound.0 c.requires.f_bound.0).0; f_bound = (starts_at_a_corner c.requires.sound.0 c.requires.f_bound.0).1 }
+start-from-requires c = let parts = starts_at_a_corner c.requires.sound.0 c.requires.f_bound.0 in
+    record { f_in_bounds = parts.0; f_bound = parts.1 }
 
 pub start-to-requires : goal.start-to-requires
-start-to-requires c = record { f_in_bounds = (ends_at_a_corner c.requires.sound.0 c.requires.f_bound.0 c.requires.f_bound.1).0; f_bound = (ends_at_a_corner c.requires.sound.0 c.requires.f_bound.0 c.requires.f_bound.1).1 }
+start-to-requires c = let parts = ends_at_a_corner c.requires.sound.0 c.requires.f_bound.0 c.requires.f_bound.1 in
+    record { f_in_bounds = parts.0; f_bound = parts.1 }
 
 pub is_within-requires : goal.is_within-requires
 is_within-requires c = let sound = c.requires.sound.0 in

@@ -12,9 +12,6 @@ offset_bounds-firsts-c c = omega (arith, c.requires.sound.0.numbered.firsts_stan
 pub bounds-firsts-c : goal.bounds-firsts-c
 bounds-firsts-c c = omega (arith, c.requires.sound.0.numbered.firsts_stand, c.requires.c_bound)
 
-pub overflow_cast-begin : goal.overflow_cast-begin
-overflow_cast-begin c = omega (arith, c.shared_slice_known-5-1.given c.args.c)
-
 pub overflow_add-closing : goal.overflow_add-closing
 overflow_add-closing c = omega (arith, c.requires.sound.0.numbered.firsts_stand, c.requires.c_bound)
 
@@ -24,9 +21,6 @@ offset_bounds-firsts-c-2 c = omega (arith, c.requires.sound.0.numbered.firsts_st
 pub bounds-firsts-c-2 : goal.bounds-firsts-c-2
 bounds-firsts-c-2 c = omega (arith, c.requires.sound.0.numbered.firsts_stand, c.requires.c_bound)
 
-pub overflow_cast-closing : goal.overflow_cast-closing
-overflow_cast-closing c = omega (arith, c.shared_slice_known-6-1.given (c.args.c + 1))
-
 pub overflow_sub-closing : goal.overflow_sub-closing
 overflow_sub-closing c = let a = c.args in
     omega (arith, end_read a.faces.now a.firsts.now a.c, c.requires.sound.0.numbered.at_least a.c c.requires.c_bound)
@@ -35,7 +29,7 @@ pub loop-f-init : goal.loop-f-init
 loop-f-init c = sides_begin c.requires.sound.0.numbered c.requires.c_bound _
 
 pub overflow_add-n : goal.overflow_add-n
-overflow_add-n c = omega (arith, c.loop-f-test.true, c.shared_slice_known-6-1.given (c.args.c + 1))
+overflow_add-n c = omega (arith, c.loop-f-test.true, c.type_inv.firsts (c.args.c + 1))
 
 pub is_in_doorway-requires : goal.is_in_doorway-requires
 is_in_doorway-requires c = let a = c.args in
@@ -47,7 +41,7 @@ pub returns-then-is_in_doorway : goal.returns-then-is_in_doorway
 returns-then-is_in_doorway c = is_the_side c.loop-f.invariant c.is_in_doorway.ensures c.if-is_in_doorway.true
 
 pub overflow_add-f : goal.overflow_add-f
-overflow_add-f c = omega (arith, c.loop-f-test.true, c.shared_slice_known-6-1.given (c.args.c + 1))
+overflow_add-f c = omega (arith, c.loop-f-test.true, c.type_inv.firsts (c.args.c + 1))
 
 pub loop-f-preserved : goal.loop-f-preserved
 loop-f-preserved c = let a = c.args in
@@ -64,7 +58,7 @@ returns-then-is_in_doorway-2 c = is_the_side c.loop-f.invariant c.is_in_doorway-
 
 pub overflow_add-result : goal.overflow_add-result
 overflow_add-result c = let a = c.args in
-    omega (arith, c.loop-f.invariant.here.not_after, end_read a.faces.now a.firsts.now a.c, c.shared_slice_known-6-1.given (a.c + 1))
+    omega (arith, c.loop-f.invariant.here.not_after, end_read a.faces.now a.firsts.now a.c, c.type_inv.firsts (a.c + 1))
 
 pub returns : goal.returns
 returns c = let a = c.args in

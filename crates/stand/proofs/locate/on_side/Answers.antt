@@ -1,5 +1,4 @@
 -- `stand::locate::on_side` meets its contract.
-use Prim.Native.Nat.{◌+◌}
 use native.Mathlib.Omega.{arith}
 use Rattle.plane.specs.Side.{point}
 use Rattle.stand.proofs.Sides.{before_the_end, at_the_end}
@@ -18,17 +17,11 @@ offset_bounds-firsts-c c = omega (arith, c.loop-c-test.true)
 pub bounds-firsts-c : goal.bounds-firsts-c
 bounds-firsts-c c = omega (arith, c.loop-c-test.true)
 
-pub overflow_cast-firsts : goal.overflow_cast-firsts
-overflow_cast-firsts c = omega (arith, c.shared_slice_known-in-loop-c-1.given (c.loop-c.c + 1))
-
 pub offset_bounds-firsts-c-then-f-firsts : goal.offset_bounds-firsts-c-then-f-firsts
 offset_bounds-firsts-c-then-f-firsts c = omega (arith, c.loop-c-test.true)
 
 pub bounds-firsts-c-then-f-firsts : goal.bounds-firsts-c-then-f-firsts
 bounds-firsts-c-then-f-firsts c = omega (arith, c.loop-c-test.true)
-
-pub overflow_cast-side : goal.overflow_cast-side
-overflow_cast-side c = omega (arith, c.shared_slice_known-then-f-firsts-1.given c.loop-c.c)
 
 pub overflow_sub-side : goal.overflow_sub-side
 overflow_sub-side c = not_before_the_first c.requires.sound.0.numbered c.loop-c.invariant c.loop-c-test.true c.doorway_by_box-f.ensures

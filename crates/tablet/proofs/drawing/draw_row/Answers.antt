@@ -8,7 +8,6 @@ use Rattle.tablet.proofs.Rows.{not_far_right, not_far_left, row_put}
 use Rattle.tablet.proofs.drawing.draw_row.Goals as goal
 use Rattle.tablet.proofs.drawing.draw_row.Goals.{Start}
 
--- `tablet::drawing::draw_row` meets its contract.
 -- row i
 abbrev row : Start → Row
 row s = row_at s.args.table.now s.args.i

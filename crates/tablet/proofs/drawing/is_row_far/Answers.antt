@@ -6,7 +6,6 @@ use Rattle.tablet.proofs.Rows.{far_by_right, far_by_left}
 use Rattle.tablet.proofs.drawing.is_row_far.Goals as goal
 use Rattle.tablet.proofs.drawing.is_row_far.Goals.{Start}
 
--- `tablet::drawing::is_row_far` meets its contract.
 -- row i
 abbrev row : Start → Row
 row s = row_at s.args.table.now s.args.i
