@@ -144,3 +144,13 @@ module _ {t : ℕ → Bool} {a n : ℕ} where
 
     pub ends_from : n ≤ i → i ≡ least t (n - a) a
     ends_from h = sym (s.same ∙ least_end t n i h)
+
+-- where the test holds at i and at no place from a on before it, i is the least of those from a on
+pub least_from : (t : ℕ → Bool) (a n i : ℕ) → a ≤ i → i < n → t i ≡ true → ((k : ℕ) → a ≤ k → k < i → t k ≡ false) → i ≡ least t (n - a) a
+least_from t a n i h l e none = past (dec_lt (least t (n - a) a) i) (dec_lt i (least t (n - a) a))
+  where
+    past : Dec (least t (n - a) a < i) → Dec (i < least t (n - a) a) → i ≡ least t (n - a) a
+    past (yes p) q =
+        absurd (not_both (holds_at_least t (n - a) a (omega (arith, least_bounds t (n - a) a))) (none (least t (n - a) a) (least_bounds t (n - a) a).0 p))
+    past (no p) (yes q) = absurd (not_both e (fails_before_least t (n - a) a i h q))
+    past (no p) (no q) = omega arith

@@ -1,5 +1,7 @@
 -- a loop that seeks the least place: one step of it, and what it says of the places before
 pub mod Least
+-- searches over a range of places, as iterators run them
+pub mod Searches
 -- faces numbered in file order: the cell of a face, the next side, some face of a cell
 pub mod Faces
 -- a list cut into its cells: one cell at a time, there and back, in either kind
