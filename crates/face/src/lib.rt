@@ -1,55 +1,78 @@
 // The tables of faces: two numbers a face, the corner at which it starts and the neighbour across it; of each cell its first face.
 #![tactic(auto)]
 
-ghost use Rattle.std.specs.Prelude.{ℕ, suc, ◌-◌, ◌/◌, ◌<◌, List, ◌≡◌, length, get_or};
-ghost use Rattle.cells.specs.Lists.{start as Lists·start, neighbour as Lists·neighbour};
+mod old;
+
 ghost use Rattle.cells.specs.Lists.{tabled};
-ghost use Rattle.face.specs.Tables.{around};
+ghost use Rattle.cells.specs.Sound.{Numbered};
 
-// The corner at which face f starts.
-pub fn start(faces: &[u16], f: usize) -> usize
-    requires { f < length faces.now / 2 }
-    ensures { (gs : List ℕ) → result ≡ Lists·start (tabled faces.now gs) f }
-{
-    let at = 2 * f;
-    faces[at] as usize
+pub use old::{end, first, neighbour, next, start};
+
+// The cells of a plan in lent tables.
+#[derive(Clone, Copy)]
+pub struct Cells<'a> {
+    pub faces: &'a [u16],
+    pub firsts: &'a [u16],
+    pub ghost numbered: { Numbered (tabled faces.now firsts.now) },
 }
 
-// The neighbour across face f.
-pub fn neighbour(faces: &[u16], f: usize) -> usize
-    requires { f < length faces.now / 2 }
-    ensures { (gs : List ℕ) → result ≡ Lists·neighbour (tabled faces.now gs) f }
-{
-    let at = 2 * f + 1;
-    faces[at] as usize
-}
+impl Cells<'_> {
+    ghost use Rattle.std.specs.Prelude.{suc, ◌<◌, ◌≡◌};
+    ghost use Rattle.cells.specs.Lists.{cell_count, face_count, first as Lists·first, start as Lists·start, neighbour as Lists·neighbour, next as Lists·next};
+    ghost use Rattle.cells.proofs.Faces.{SideOf};
+    ghost use Rattle.face.specs.Tables.{tables};
 
-// The first face of cell c; of the cell after the last, the number of faces.
-pub fn first(firsts: &[u16], c: usize) -> usize
-    requires { c < length firsts.now }
-    ensures { result ≡ get_or firsts.now c 0 }
-{
-    firsts[c] as usize
-}
-
-// The face after the last of cell c.
-pub fn end(firsts: &[u16], c: usize) -> usize
-    requires { c < length firsts.now - 1 }
-    ensures { result ≡ get_or firsts.now (suc c) 0 }
-{
-    first(firsts, c + 1)
-}
-
-// The side of cell c after its side f.
-pub fn next(firsts: &[u16], c: usize, f: usize) -> usize
-    requires c_in_bounds { c < length firsts.now - 1 }
-    requires f_bound { f < get_or firsts.now (suc c) 0 }
-    ensures { result ≡ around (get_or firsts.now c 0) (get_or firsts.now (suc c) 0) f }
-{
-    let to = end(firsts, c);
-    let after = f + 1;
-    if after == to {
-        return first(firsts, c);
+    // How many cells there are.
+    pub fn count(&self) -> usize
+        ensures { result ≡ cell_count (tables self.now) }
+    {
+        self.firsts.len() - 1
     }
-    after
+
+    // The corner at which face f starts.
+    #[tactic(auto, unfolding(cells::specs::Lists::start))]
+    pub fn start(&self, f: usize) -> usize
+        requires { f < face_count (tables self.now) }
+        ensures { result ≡ Lists·start (tables self.now) f }
+    {
+        self.faces[2 * f] as usize
+    }
+
+    // The neighbour across face f.
+    #[tactic(auto, unfolding(cells::specs::Lists::neighbour))]
+    pub fn neighbour(&self, f: usize) -> usize
+        requires { f < face_count (tables self.now) }
+        ensures { result ≡ Lists·neighbour (tables self.now) f }
+    {
+        self.faces[2 * f + 1] as usize
+    }
+
+    // The first face of cell c; of the cell after the last, the number of faces.
+    pub fn first(&self, c: usize) -> usize
+        requires { c < suc (cell_count (tables self.now)) }
+        ensures { result ≡ Lists·first (tables self.now) c }
+    {
+        self.firsts[c] as usize
+    }
+
+    // The face after the last of cell c.
+    pub fn end(&self, c: usize) -> usize
+        requires { c < cell_count (tables self.now) }
+        ensures { result ≡ Lists·first (tables self.now) (suc c) }
+    {
+        self.first(c + 1)
+    }
+
+    // The side of cell c after its side f.
+    pub fn next(&self, c: usize, f: usize) -> usize
+        requires c_bound { c < cell_count (tables self.now) }
+        requires side_of { SideOf (tables self.now) c f }
+        ensures { result ≡ Lists·next (tables self.now) f }
+    {
+        if self.end(c) == f + 1 {
+            self.first(c)
+        } else {
+            f + 1
+        }
+    }
 }

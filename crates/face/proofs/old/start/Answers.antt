@@ -1,7 +1,7 @@
 -- `face::start` meets its contract.
 use mathlib.Core.Path.{refl}
 use Rattle.cells.specs.Lists.{start}
-use Rattle.face.proofs.start.Goals as goal
+use Rattle.face.proofs.old.start.Goals as goal
 
 pub returns : goal.returns
 unfolding start

@@ -1,7 +1,7 @@
 -- `face::next` meets its contract.
 use mathlib.Core.Path.{sym, ◌∙◌}
 use Rattle.face.proofs.Tables.{comes_round, goes_on}
-use Rattle.face.proofs.next.Goals as goal
+use Rattle.face.proofs.old.next.Goals as goal
 
 pub returns-then-after-to : goal.returns-then-after-to
 returns-then-after-to c = c.first.ensures ∙ sym (comes_round _ _ _ (c.if-after-to.true ∙ c.end-to.ensures))

@@ -1,7 +1,7 @@
 -- `face::neighbour` meets its contract.
 use mathlib.Core.Path.{refl}
 use Rattle.cells.specs.Lists.{neighbour}
-use Rattle.face.proofs.neighbour.Goals as goal
+use Rattle.face.proofs.old.neighbour.Goals as goal
 
 pub returns : goal.returns
 unfolding neighbour
