@@ -17,19 +17,18 @@ use Rattle.cells.specs.Sound.{Numbered, Sound}
 use Rattle.limits.specs.declared.Plan.{Plan}
 use Rattle.limits.specs.declared.Refusal.{Refusal}
 use Rattle.limits.specs.declared.Refusal.TheVariants.{Frame, Size, Corner, Cell, Neighbour, Door, Overlap}
-use Rattle.limits.specs.declared.Checked.{Checked}
-use Rattle.limits.specs.declared.Checked.TheVariants.{Accepted, Refused}
 use Rattle.cells.proofs.Least.{none_holds}
 use Rattle.cells.proofs.Checks.{corners_near, cells_right, neighbours_right}
 use Rattle.cells.proofs.Plans.{counts}
 use Rattle.cells.proofs.Tables.{numbered}
+use Rattle.std.specs.Prelude.{Err, Ok, Result}
 
 -- an acceptance passes each test on the way to it
 module _ {p : Plan} where
-  pub passed : (t : Bool) (r : Refusal) (rest : Checked) → refuse_if t r rest ≡ Accepted p → (t ≡ false) × (rest ≡ Accepted p)
+  pub passed : (t : Bool) (r : Refusal) (rest : Result Plan Refusal) → refuse_if t r rest ≡ Ok p → (t ≡ false) × (rest ≡ Ok p)
   passed true r rest e = absurd (never e)
     where
-      never : Refused r ≡ Accepted p → ⊥
+      never : ◌≡◌ {A = Result Plan Refusal} (Err r) (Ok p) → ⊥
       never e = let z : ◌≡◌ {A = ℕ} 0 1 = cc in omega arith
   passed false r rest e = (refl, e)
 
@@ -37,7 +36,7 @@ abbrev pub counted : List ℤ → Cells → List ℕ → Plan
 counted cs T ds = record { corners = corner_count cs; cells = cell_count T; doors = length ds }
 
 -- corners, whole cells and doors that are accepted
-accepted_cells_are_sound : (cs : List ℤ) {T : Cells} (ds : List ℕ) (p : Plan) → length cs % 2 ≡ 0 → Numbered T → checked_cells cs T ds ≡ Accepted p → Sound cs T ds × (p ≡ counted cs T ds)
+accepted_cells_are_sound : (cs : List ℤ) {T : Cells} (ds : List ℕ) (p : Plan) → length cs % 2 ≡ 0 → Numbered T → checked_cells cs T ds ≡ Ok p → Sound cs T ds × (p ≡ counted cs T ds)
 unfolding checked_cells
 accepted_cells_are_sound cs {T} ds p even numbered e =
     let t₂ = passed (not (sized (corner_count cs) (cell_count T) (length ds))) Size _ e in
@@ -59,12 +58,12 @@ accepted_cells_are_sound cs {T} ds p even numbered e =
       sym (same t₇.1),
     )
   where
-    same : {q : Plan} → Accepted q ≡ Accepted p → q ≡ p
+    same : {q : Plan} → ◌≡◌ {A = Result Plan Refusal} (Ok q) (Ok p) → q ≡ p
     same e = cc
 
 -- lists that are accepted, the cells of kind k
 module _ (k : ℕ) (cs : List ℤ) (ts ds : List ℕ) where
-  pub accepted_is_sound : (p : Plan) → checked k cs ts ds ≡ Accepted p → Sound cs (cells_of k ts) ds × (p ≡ counted cs (cells_of k ts) ds)
+  pub accepted_is_sound : (p : Plan) → checked k cs ts ds ≡ Ok p → Sound cs (cells_of k ts) ds × (p ≡ counted cs (cells_of k ts) ds)
   unfolding checked framed
   accepted_is_sound p e =
       let t = passed (not (framed k cs ts)) Frame _ e in
@@ -72,7 +71,7 @@ module _ (k : ℕ) (cs : List ℤ) (ts ds : List ℕ) where
       accepted_cells_are_sound cs ds p (eqb-true _ _ framed.0) (numbered k ts) t.1
 
   -- the counts replied are within the limits
-  module _ {p : Plan} (accepted : checked k cs ts ds ≡ Accepted p) where
+  module _ {p : Plan} (accepted : checked k cs ts ds ≡ Ok p) where
     pub accepted_corners : p.corners ≡ corner_count cs
     accepted_corners = ap (λ (p : Plan). p.corners) (accepted_is_sound p accepted).1
 

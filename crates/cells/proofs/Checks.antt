@@ -18,8 +18,8 @@ use Rattle.cells.specs.Cut.{cells_of}
 use Rattle.cells.specs.Check.{framed, outside, wrong_corner, checked_cells, checked, first_wrong_corner, first_wrong_cell, first_wrong_face, first_wrong_door, first_overlapping}
 use Rattle.cells.specs.Sound.{CornersNear, CellsRight, NeighboursRight}
 use Rattle.limits.specs.declared.Refusal.TheVariants.{Frame, Size, Corner, Cell, Neighbour, Door, Overlap}
-use Rattle.limits.specs.declared.Checked.TheVariants.{Accepted, Refused}
 use Rattle.cells.proofs.Least.{none_holds}
+use Rattle.std.specs.Prelude.{Err, Ok}
 
 -- ---- what passed
 
@@ -61,7 +61,7 @@ neighbours_right T h = record { right = none_holds _ (face_count T) h }
 -- ---- the replies, in their order
 
 module _ (k : ℕ) (cs : List ℤ) (ts ds : List ℕ) where
-  pub not_framed : framed k cs ts ≡ false → Refused Frame ≡ checked k cs ts ds
+  pub not_framed : framed k cs ts ≡ false → Err Frame ≡ checked k cs ts ds
   unfolding checked
   not_framed h = simp h
 
@@ -70,46 +70,46 @@ module _ (k : ℕ) (cs : List ℤ) (ts ds : List ℕ) where
   in_a_frame h = simp h
 
 module _ (cs : List ℤ) (T : Cells) (ds : List ℕ) where
-  pub out_of_size : sized (corner_count cs) (cell_count T) (length ds) ≡ false → Refused Size ≡ checked_cells cs T ds
+  pub out_of_size : sized (corner_count cs) (cell_count T) (length ds) ≡ false → Err Size ≡ checked_cells cs T ds
   unfolding checked_cells
   out_of_size h = simp h
 
   module _ (in_size : sized (corner_count cs) (cell_count T) (length ds) ≡ true) where
-    pub at_a_corner : {i : ℕ} → i ≡ first_wrong_corner cs → i < corner_count cs → Refused (Corner i) ≡ checked_cells cs T ds
+    pub at_a_corner : {i : ℕ} → i ≡ first_wrong_corner cs → i < corner_count cs → Err (Corner i) ≡ checked_cells cs T ds
     unfolding checked_cells
     at_a_corner {i} e h =
         let k : first_wrong_corner cs < corner_count cs = rw e at h in
         simp (in_size, lt-ltb _ _ k, e)
 
     module _ (corners : corner_count cs ≤ first_wrong_corner cs) where
-      pub at_a_cell : {i : ℕ} → i ≡ first_wrong_cell cs T → i < cell_count T → Refused (Cell i) ≡ checked_cells cs T ds
+      pub at_a_cell : {i : ℕ} → i ≡ first_wrong_cell cs T → i < cell_count T → Err (Cell i) ≡ checked_cells cs T ds
       unfolding checked_cells
       at_a_cell {i} e h =
           let k : first_wrong_cell cs T < cell_count T = rw e at h in
           simp (in_size, le-ltb _ _ corners, lt-ltb _ _ k, e)
 
       module _ (cells : cell_count T ≤ first_wrong_cell cs T) where
-        pub at_a_face : {i : ℕ} → i ≡ first_wrong_face T → i < face_count T → Refused (Neighbour i) ≡ checked_cells cs T ds
+        pub at_a_face : {i : ℕ} → i ≡ first_wrong_face T → i < face_count T → Err (Neighbour i) ≡ checked_cells cs T ds
         unfolding checked_cells
         at_a_face {i} e h =
             let k : first_wrong_face T < face_count T = rw e at h in
             simp (in_size, le-ltb _ _ corners, le-ltb _ _ cells, lt-ltb _ _ k, e)
 
         module _ (faces : face_count T ≤ first_wrong_face T) where
-          pub at_a_door : {i : ℕ} → i ≡ first_wrong_door T ds → i < length ds → Refused (Door i) ≡ checked_cells cs T ds
+          pub at_a_door : {i : ℕ} → i ≡ first_wrong_door T ds → i < length ds → Err (Door i) ≡ checked_cells cs T ds
           unfolding checked_cells
           at_a_door {i} e h =
               let k : first_wrong_door T ds < length ds = rw e at h in
               simp (in_size, le-ltb _ _ corners, le-ltb _ _ cells, le-ltb _ _ faces, lt-ltb _ _ k, e)
 
           module _ (doors : length ds ≤ first_wrong_door T ds) where
-            pub at_an_overlap : {i : ℕ} → i ≡ first_overlapping cs T → i < cell_count T → Refused (Overlap i) ≡ checked_cells cs T ds
+            pub at_an_overlap : {i : ℕ} → i ≡ first_overlapping cs T → i < cell_count T → Err (Overlap i) ≡ checked_cells cs T ds
             unfolding checked_cells
             at_an_overlap {i} e h =
                 let k : first_overlapping cs T < cell_count T = rw e at h in
                 simp (in_size, le-ltb _ _ corners, le-ltb _ _ cells, le-ltb _ _ faces, le-ltb _ _ doors, lt-ltb _ _ k, e)
 
-            pub accepted : cell_count T ≤ first_overlapping cs T → Accepted (record { corners = corner_count cs; cells = cell_count T; doors = length ds }) ≡ checked_cells cs T ds
+            pub accepted : cell_count T ≤ first_overlapping cs T → Ok (record { corners = corner_count cs; cells = cell_count T; doors = length ds }) ≡ checked_cells cs T ds
             unfolding checked_cells
             accepted h =
                 simp (in_size, le-ltb _ _ corners, le-ltb _ _ cells, le-ltb _ _ faces, le-ltb _ _ doors, le-ltb _ _ h)

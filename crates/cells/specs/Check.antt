@@ -1,5 +1,5 @@
 -- The plan check (document 01, "Side value and plan check"; document 02, A14 and A7): the lowest number that applies, at its least place.
-use Rattle.std.specs.Prelude.{Bool, true, false, not, ◌&&◌, ◌||◌, List, ℕ, suc, ◌%◌, eqb, ltb, length, get_or, ℤ, pos, neg_ℤ}
+use Rattle.std.specs.Prelude.{Bool, true, false, not, ◌&&◌, ◌||◌, List, ℕ, suc, ◌%◌, eqb, ltb, length, get_or, ℤ, pos, neg_ℤ, Err, Ok, Result}
 use Rattle.std.specs.Int.Signed.{lt_z}
 use Rattle.plane.specs.Side.{side}
 use Rattle.limits.specs.Limits.{sized, wall, coordinate_limit}
@@ -8,8 +8,7 @@ use Rattle.cells.specs.Lists.{Cells, corner_count, corner_at, cell_count, face_c
 use Rattle.cells.specs.Cut.{cut, is_whole, cells_of}
 use Rattle.limits.specs.declared.Refusal.{Refusal}
 use Rattle.limits.specs.declared.Refusal.TheVariants.{Frame, Size, Corner, Cell, Neighbour, Door, Overlap}
-use Rattle.limits.specs.declared.Checked.{Checked}
-use Rattle.limits.specs.declared.Checked.TheVariants.{Accepted, Refused}
+use Rattle.limits.specs.declared.Plan.{Plan}
 
 -- the corners are a multiple of 2, and the list of cells, of kind k, is cut into whole cells
 unfoldable pub framed : ℕ → List ℤ → List ℕ → Bool
@@ -95,12 +94,12 @@ abbrev pub first_overlapping : List ℤ → Cells → ℕ
 first_overlapping cs T = least (in_a_pair cs T) (cell_count T) 0
 
 -- refused where the test holds; else what follows is asked
-abbrev pub refuse_if : Bool → Refusal → Checked → Checked
-refuse_if true r rest = Refused r
+abbrev pub refuse_if : Bool → Refusal → Result Plan Refusal → Result Plan Refusal
+refuse_if true r rest = Err r
 refuse_if false r rest = rest
 
 -- the check of corners, whole cells and doors: from SIZE on
-unfoldable pub checked_cells : List ℤ → Cells → List ℕ → Checked
+unfoldable pub checked_cells : List ℤ → Cells → List ℕ → Result Plan Refusal
 checked_cells cs T ds =
     refuse_if (not (sized (corner_count cs) (cell_count T) (length ds))) Size
     (refuse_if (ltb (first_wrong_corner cs) (corner_count cs)) (Corner (first_wrong_corner cs))
@@ -108,8 +107,8 @@ checked_cells cs T ds =
     (refuse_if (ltb (first_wrong_face T) (face_count T)) (Neighbour (first_wrong_face T))
     (refuse_if (ltb (first_wrong_door T ds) (length ds)) (Door (first_wrong_door T ds))
     (refuse_if (ltb (first_overlapping cs T) (cell_count T)) (Overlap (first_overlapping cs T))
-    (Accepted (record { corners = corner_count cs; cells = cell_count T; doors = length ds })))))))
+    (Ok (record { corners = corner_count cs; cells = cell_count T; doors = length ds })))))))
 
 -- the check of three lists, the cells in a list of kind k
-unfoldable pub checked : ℕ → List ℤ → List ℕ → List ℕ → Checked
+unfoldable pub checked : ℕ → List ℤ → List ℕ → List ℕ → Result Plan Refusal
 checked k cs ts ds = refuse_if (not (framed k cs ts)) Frame (checked_cells cs (cells_of k ts) ds)

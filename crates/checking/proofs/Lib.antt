@@ -14,3 +14,5 @@ pub mod Doors
 pub mod Measures
 -- the tables that are lent, and what they hold of an accepted plan
 pub mod Rooms
+-- parts of room for every plan, as long as its counts say
+pub mod Parts

@@ -14,7 +14,6 @@ use Rattle.exact.proofs.Truth.{both_true}
 use Rattle.limits.specs.Limits.{most_cells, most_sides, sized}
 use Rattle.limits.specs.declared.Refusal.{Refusal}
 use Rattle.limits.specs.declared.Refusal.TheVariants.{Frame, Size}
-use Rattle.limits.specs.declared.Checked.TheVariants.{Refused as Checked_as_Refused}
 use Rattle.cells.specs.Lists.{Cells, corner_count, cell_count, face_count}
 use Rattle.cells.specs.Cut.{cut, is_whole, cells_of}
 use Rattle.cells.specs.Check.{framed, checked}
@@ -25,9 +24,9 @@ use Rattle.cells.proofs.Checks.{not_framed, in_a_frame, out_of_size}
 use Rattle.draw.specs.Counted.{counted}
 use Rattle.draw.specs.declared.Counted.{Counted}
 use Rattle.draw.specs.declared.Counted.TheVariants.{Whole, Broken}
-use Rattle.checking.specs.declared.Sizes.{Sizes}
-use Rattle.checking.specs.declared.Sizes.TheVariants.{Of, Refused}
 use Rattle.checking.specs.Sizes.{sizes_of, Fit}
+use Rattle.draw.specs.declared.Sizes.{Sizes}
+use Rattle.std.specs.Prelude.{Err, Ok, Result}
 
 -- framed lists are cut into whole cells
 pub whole_in_frame : (k : ℕ) (cs : List ℤ) (ts : List ℕ) → framed k cs ts ≡ true → is_whole (cut k ts) ≡ true
@@ -67,16 +66,16 @@ module _ (k : ℕ) (ts : List ℕ) where
 -- ---- the answers, in their order
 
 module _ (k : ℕ) (cs : List ℤ) (ts ds : List ℕ) where
-  unframed : framed k cs ts ≡ false → Refused Frame ≡ sizes_of k cs ts ds
+  unframed : framed k cs ts ≡ false → Err Frame ≡ sizes_of k cs ts ds
   unfolding sizes_of
   unframed h = rw (h, sizes_of)
 
-  pub odd_corners : (length cs % 2 ≡ 0 → ⊥) → Refused Frame ≡ sizes_of k cs ts ds
+  pub odd_corners : (length cs % 2 ≡ 0 → ⊥) → Err Frame ≡ sizes_of k cs ts ds
   unfolding framed
   odd_corners h = unframed (simp (ne_eqb (length cs % 2) 0 h))
 
   module _ (even : length cs % 2 ≡ 0) {r : Counted} (is_r : r ≡ counted k ts) where
-    pub no_whole_cells : r ≡ Broken → Refused Frame ≡ sizes_of k cs ts ds
+    pub no_whole_cells : r ≡ Broken → Err Frame ≡ sizes_of k cs ts ds
     unfolding framed
     no_whole_cells e = unframed (simp (eq-eqb (length cs % 2) 0 even, broken_cells k ts (sym is_r ∙ e)))
 
@@ -88,11 +87,11 @@ module _ (k : ℕ) (cs : List ℤ) (ts ds : List ℕ) where
       size : sized (corner_count cs) (cell_count (cells_of k ts)) (length ds) ≡ b
       size = rw (← (whole_cells k ts (sym is_r ∙ e)).1.0) (sym is_b)
 
-      pub not_in_size : b ≡ false → Refused Size ≡ sizes_of k cs ts ds
+      pub not_in_size : b ≡ false → Err Size ≡ sizes_of k cs ts ds
       unfolding sizes_of
       not_in_size h = rw (in_a_whole, size ∙ h, sizes_of)
 
-      pub all_counted : b ≡ true → Of m n ≡ sizes_of k cs ts ds
+      pub all_counted : b ≡ true → Ok (record { cells = m; faces = n }) ≡ sizes_of k cs ts ds
       unfolding sizes_of
       all_counted h =
           let same = (whole_cells k ts (sym is_r ∙ e)).1 in
@@ -100,40 +99,41 @@ module _ (k : ℕ) (cs : List ℤ) (ts ds : List ℕ) where
 
   -- ---- what an answer says
 
-  module _ {s : Sizes} (is_s : s ≡ sizes_of k cs ts ds) where
-    pub refused_likewise : {x : Refusal} → s ≡ Refused x → Checked_as_Refused x ≡ checked k cs ts ds
+  module _ {s : Result Sizes Refusal} (is_s : s ≡ sizes_of k cs ts ds) where
+    pub refused_likewise : {x : Refusal} → s ≡ Err x → Err x ≡ checked k cs ts ds
     unfolding sizes_of
     refused_likewise {x} e = by_tests (framed k cs ts) refl (sized (corner_count cs) (cell_count (cells_of k ts)) (length ds)) refl
       where
-        by_tests : (a : Bool) → framed k cs ts ≡ a → (b : Bool) → sized (corner_count cs) (cell_count (cells_of k ts)) (length ds) ≡ b → Checked_as_Refused x ≡ checked k cs ts ds
+        by_tests : (a : Bool) → framed k cs ts ≡ a → (b : Bool) → sized (corner_count cs) (cell_count (cells_of k ts)) (length ds) ≡ b → Err x ≡ checked k cs ts ds
         by_tests true g true h =
-            let is : Of (cell_count (cells_of k ts)) (face_count (cells_of k ts)) ≡ Refused x = rw (g, h, sizes_of) at (sym is_s ∙ e) in
+            let is : ◌≡◌ {A = Result Sizes Refusal} (Ok (record { cells = cell_count (cells_of k ts); faces = face_count (cells_of k ts) })) (Err x) = rw (g, h, sizes_of) at (sym is_s ∙ e) in
             let z : ◌≡◌ {A = ℕ} 0 1 = cc in
             absurd (omega arith)
         by_tests true g false h =
-            let is : Refused Size ≡ Refused x = rw (g, h, sizes_of) at (sym is_s ∙ e) in
+            let is : ◌≡◌ {A = Result Sizes Refusal} (Err Size) (Err x) = rw (g, h, sizes_of) at (sym is_s ∙ e) in
             let same : Size ≡ x = cc in
             rw (← same) (out_of_size cs (cells_of k ts) ds h ∙ in_a_frame k cs ts ds g)
         by_tests false g b h =
-            let is : Refused Frame ≡ Refused x = rw (g, sizes_of) at (sym is_s ∙ e) in
+            let is : ◌≡◌ {A = Result Sizes Refusal} (Err Frame) (Err x) = rw (g, sizes_of) at (sym is_s ∙ e) in
             let same : Frame ≡ x = cc in
             rw (← same) (not_framed k cs ts ds g)
 
-    pub counted_fit : {m n : ℕ} → s ≡ Of m n → Fit k cs ts ds m n
+    pub counted_fit : {z : Sizes} → s ≡ Ok z → Fit k cs ts ds z.cells z.faces
     unfolding sizes_of
-    counted_fit {m} {n} e = by_tests (framed k cs ts) refl (sized (corner_count cs) (cell_count (cells_of k ts)) (length ds)) refl
+    counted_fit {z} e = by_tests (framed k cs ts) refl (sized (corner_count cs) (cell_count (cells_of k ts)) (length ds)) refl
       where
-        by_tests : (a : Bool) → framed k cs ts ≡ a → (b : Bool) → sized (corner_count cs) (cell_count (cells_of k ts)) (length ds) ≡ b → Fit k cs ts ds m n
+        by_tests : (a : Bool) → framed k cs ts ≡ a → (b : Bool) → sized (corner_count cs) (cell_count (cells_of k ts)) (length ds) ≡ b → Fit k cs ts ds z.cells z.faces
         by_tests true g true h =
-            let is : Of (cell_count (cells_of k ts)) (face_count (cells_of k ts)) ≡ Of m n = rw (g, h, sizes_of) at (sym is_s ∙ e) in
-            record { in_frame = g; in_size = h; cells = cc; faces = cc }
+            let is : ◌≡◌ {A = Result Sizes Refusal} (Ok (record { cells = cell_count (cells_of k ts); faces = face_count (cells_of k ts) })) (Ok z) = rw (g, h, sizes_of) at (sym is_s ∙ e) in
+            let same : z ≡ record { cells = cell_count (cells_of k ts); faces = face_count (cells_of k ts) } = cc in
+            record { in_frame = g; in_size = h; cells = ap (λ (s : Sizes). s.cells) same; faces = ap (λ (s : Sizes). s.faces) same }
         by_tests true g false h =
-            let is : Refused Size ≡ Of m n = rw (g, h, sizes_of) at (sym is_s ∙ e) in
-            let z : ◌≡◌ {A = ℕ} 0 1 = cc in
+            let is : ◌≡◌ {A = Result Sizes Refusal} (Err Size) (Ok z) = rw (g, h, sizes_of) at (sym is_s ∙ e) in
+            let zero_is_one : ◌≡◌ {A = ℕ} 0 1 = cc in
             absurd (omega arith)
         by_tests false g b h =
-            let is : Refused Frame ≡ Of m n = rw (g, sizes_of) at (sym is_s ∙ e) in
-            let z : ◌≡◌ {A = ℕ} 0 1 = cc in
+            let is : ◌≡◌ {A = Result Sizes Refusal} (Err Frame) (Ok z) = rw (g, sizes_of) at (sym is_s ∙ e) in
+            let zero_is_one : ◌≡◌ {A = ℕ} 0 1 = cc in
             absurd (omega arith)
 
 -- ---- room for the tables

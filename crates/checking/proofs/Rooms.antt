@@ -11,7 +11,6 @@ use lib.IntN.{ℤ}
 use Rattle.exact.proofs.Truth.{both_true}
 use Rattle.limits.specs.Limits.{most_corners}
 use Rattle.limits.specs.declared.Plan.{Plan}
-use Rattle.limits.specs.declared.Checked.TheVariants.{Accepted}
 use Rattle.cells.specs.Lists.{Cells, tabled, corner_count, cell_count, face_count}
 use Rattle.cells.specs.Cut.{cut, is_whole, cells_of}
 use Rattle.cells.specs.Check.{framed, checked}
@@ -20,9 +19,10 @@ use Rattle.cells.specs.Sound.{Sound}
 use Rattle.boxes.specs.Boxes.{Boxed}
 use Rattle.cells.proofs.Accepted.{accepted_is_sound}
 use Rattle.cells.proofs.Plans.{counts}
+use Rattle.draw.specs.declared.Sizes.{Sizes}
 use Rattle.checking.specs.Sizes.{sizes_of}
-use Rattle.checking.specs.declared.Sizes.TheVariants.{Of}
 use Rattle.checking.proofs.Measures.{counted_fit}
+use Rattle.std.specs.Prelude.{Ok}
 
 -- tables that hold the cells of a list are its cells
 pub drawn_cells : {faces firsts : List ℕ} (k : ℕ) (ts : List ℕ) → faces ≡ (cells_of k ts).faces → firsts ≡ (cells_of k ts).firsts → tabled faces firsts ≡ cells_of k ts
@@ -41,7 +41,7 @@ noted_boxes k cs ts ds bs xs e noted sound = (
 )
 
 -- so is an accepted plan, its cells as they were drawn
-pub plan_checked : {T : Cells} (k : ℕ) (cs : List ℤ) (ts ds bs : List ℕ) (xs : List ℤ) {p : Plan} → T ≡ cells_of k ts → checked k cs ts ds ≡ Accepted p → (Sound cs (cells_of k ts) ds → (Backed (cells_of k ts) bs × Boxed cs (cells_of k ts) xs)) → Sound cs T ds × Backed T bs × Boxed cs T xs
+pub plan_checked : {T : Cells} (k : ℕ) (cs : List ℤ) (ts ds bs : List ℕ) (xs : List ℤ) {p : Plan} → T ≡ cells_of k ts → checked k cs ts ds ≡ Ok p → (Sound cs (cells_of k ts) ds → (Backed (cells_of k ts) bs × Boxed cs (cells_of k ts) xs)) → Sound cs T ds × Backed T bs × Boxed cs T xs
 plan_checked k cs ts ds bs xs {p} e accepted noted =
     noted_boxes k cs ts ds bs xs e noted (subst (λ (T : Cells). Sound cs T ds) (sym e) (accepted_is_sound k cs ts ds p accepted).0)
 
@@ -54,7 +54,7 @@ pub lent : {A : Type 0} (xs : List A) (n : ℕ) → n ≤ length xs → n ≡ le
 lent xs n h = sym (length-take-le n xs h)
 
 -- the corners of a plan that was measured are few
-pub few_coordinates : (k : ℕ) (cs : List ℤ) (ts ds : List ℕ) {m n : ℕ} → sizes_of k cs ts ds ≡ Of m n → length cs ≤ 2 * most_corners
+pub few_coordinates : (k : ℕ) (cs : List ℤ) (ts ds : List ℕ) {z : Sizes} → sizes_of k cs ts ds ≡ Ok z → length cs ≤ 2 * most_corners
 unfolding framed
 few_coordinates k cs ts ds e =
     let fit = counted_fit k cs ts ds (sym e) refl in

@@ -12,8 +12,8 @@ ghost use Rattle.cells.specs.Backed.{Backed};
 ghost use Rattle.boxes.specs.Boxes.{Boxed};
 ghost use Rattle.checking.specs.Sizes.{sizes_of, Fit};
 
-use draw::Counted;
-pub use limits::{Checked, Plan, Refusal};
+use draw::{Counted, Sizes};
+use limits::{Plan, Refusal};
 
 mod cell;
 mod corner;
@@ -29,7 +29,7 @@ pub fn check_tables(
     doors: &[u16],
     backs: &mut [u16],
     boxes: &mut [i32],
-) -> Checked
+) -> Result<Plan, Refusal>
     requires numbered { Numbered (tabled faces.now firsts.now) }
     requires doors_value { sized (corner_count corners.now) (cell_count (tabled faces.now firsts.now)) (length doors.now) ≡ true }
     requires backs_len { length backs.old ≡ face_count (tabled faces.now firsts.now) }
@@ -42,25 +42,25 @@ pub fn check_tables(
     let k = doors.len();
     let i = corner::least_wrong(corners);
     if i < n {
-        return Checked::Refused(Refusal::Corner(i));
+        return Err(Refusal::Corner(i));
     }
     let c = cell::least_wrong(corners, faces, firsts);
     if c < m {
-        return Checked::Refused(Refusal::Cell(c));
+        return Err(Refusal::Cell(c));
     }
     let f = neighbour::least_wrong(faces, firsts, backs);
     if f < faces.len() / 2 {
-        return Checked::Refused(Refusal::Neighbour(f));
+        return Err(Refusal::Neighbour(f));
     }
     let d = door::least_wrong(faces, backs, doors);
     if d < k {
-        return Checked::Refused(Refusal::Door(d));
+        return Err(Refusal::Door(d));
     }
     let o = overlap::least_overlapping(corners, faces, firsts, boxes);
     if o < m {
-        return Checked::Refused(Refusal::Overlap(o));
+        return Err(Refusal::Overlap(o));
     }
-    Checked::Accepted(Plan {
+    Ok(Plan {
         corners: n,
         cells: m,
         doors: k,
@@ -68,20 +68,14 @@ pub fn check_tables(
 }
 
 // The counts of cells and of faces, which say how much room the tables need; or FRAME, or SIZE.
-#[derive(Clone, Copy)]
-pub enum Sizes {
-    Of(usize, usize),
-    Refused(Refusal),
-}
-
-pub fn measure(corners: &[i32], cells: &[u16], doors: &[u16], kind: u16) -> Sizes
+pub fn measure(corners: &[i32], cells: &[u16], doors: &[u16], kind: u16) -> Result<Sizes, Refusal>
     ensures { result ≡ sizes_of kind corners.now cells.now doors.now }
 {
     if corners.len() % 2 != 0 {
-        return Sizes::Refused(Refusal::Frame);
+        return Err(Refusal::Frame);
     }
     match draw::count(kind, cells) {
-        Counted::Broken => Sizes::Refused(Refusal::Frame),
+        Counted::Broken => Err(Refusal::Frame),
         Counted::Whole(m, n) => {
             let plan = Plan {
                 corners: corners.len() / 2,
@@ -89,9 +83,9 @@ pub fn measure(corners: &[i32], cells: &[u16], doors: &[u16], kind: u16) -> Size
                 doors: doors.len(),
             };
             if !plan.is_sized() {
-                return Sizes::Refused(Refusal::Size);
+                return Err(Refusal::Size);
             }
-            Sizes::Of(m, n)
+            Ok(Sizes { cells: m, faces: n })
         }
     }
 }
@@ -106,7 +100,7 @@ pub fn check_into(
     firsts: &mut [u16],
     backs: &mut [u16],
     boxes: &mut [i32],
-) -> Checked
+) -> Result<Plan, Refusal>
     requires cells_value { framed kind corners.now cells.now ≡ true }
     requires doors_value { sized (corner_count corners.now) (cell_count (cells_of kind cells.now)) (length doors.now) ≡ true }
     requires faces_len { length faces.old ≡ 2 * face_count (cells_of kind cells.now) }
@@ -122,106 +116,23 @@ pub fn check_into(
     check_tables(corners, faces, firsts, doors, backs, boxes)
 }
 
-// The check of lists of m cells and n faces, with room enough for their tables.
-fn check_in(
-    corners: &[i32],
-    cells: &[u16],
-    doors: &[u16],
-    kind: u16,
-    m: usize,
-    n: usize,
-    faces: &mut [u16],
-    firsts: &mut [u16],
-    backs: &mut [u16],
-) -> Checked
-    requires fit { Fit kind corners.now cells.now doors.now m n }
-    requires n_in_bounds { 2 * n ≤ length faces.old }
-    requires m_in_bounds { m < length firsts.old }
-    requires n_in_bounds_2 { n ≤ length backs.old }
+// The plan check on three lists, the cells in a list of the kind told.
+pub fn check(corners: &[i32], cells: &[u16], doors: &[u16], kind: u16) -> Result<Plan, Refusal>
     ensures { result ≡ checked kind corners.now cells.now doors.now }
 {
-    let numbers = 2 * n;
-    let counts = m + 1;
+    let sizes = measure(corners, cells, doors, kind)?;
+    let mut faces = [0u16; 16 * Plan::MOST_CELLS];
+    let mut firsts = [0u16; 1 + Plan::MOST_CELLS];
+    let mut backs = [0u16; 8 * Plan::MOST_CELLS];
     let mut boxes = [0i32; 4 * Plan::MOST_CELLS];
     check_into(
         corners,
         cells,
         doors,
         kind,
-        &mut faces[..numbers],
-        &mut firsts[..counts],
-        &mut backs[..n],
+        &mut faces[..2 * sizes.faces],
+        &mut firsts[..=sizes.cells],
+        &mut backs[..sizes.faces],
         &mut boxes,
     )
-}
-
-// Of no more faces than triangles have: the larger tables need not be cleared for them.
-fn check_few(
-    corners: &[i32],
-    cells: &[u16],
-    doors: &[u16],
-    kind: u16,
-    m: usize,
-    n: usize,
-) -> Checked
-    requires fit { Fit kind corners.now cells.now doors.now m n }
-    requires n_bound { n ≤ 3 * most_cells }
-    ensures { result ≡ checked kind corners.now cells.now doors.now }
-{
-    let mut faces = [0u16; 6 * Plan::MOST_CELLS];
-    let mut firsts = [0u16; 1 + Plan::MOST_CELLS];
-    let mut backs = [0u16; 3 * Plan::MOST_CELLS];
-    check_in(
-        corners,
-        cells,
-        doors,
-        kind,
-        m,
-        n,
-        &mut faces,
-        &mut firsts,
-        &mut backs,
-    )
-}
-
-fn check_many(
-    corners: &[i32],
-    cells: &[u16],
-    doors: &[u16],
-    kind: u16,
-    m: usize,
-    n: usize,
-) -> Checked
-    requires { Fit kind corners.now cells.now doors.now m n }
-    ensures { result ≡ checked kind corners.now cells.now doors.now }
-{
-    let mut faces = [0u16; 16 * Plan::MOST_CELLS];
-    let mut firsts = [0u16; 1 + Plan::MOST_CELLS];
-    let mut backs = [0u16; 8 * Plan::MOST_CELLS];
-    check_in(
-        corners,
-        cells,
-        doors,
-        kind,
-        m,
-        n,
-        &mut faces,
-        &mut firsts,
-        &mut backs,
-    )
-}
-
-// The plan check on three lists, the cells in a list of the kind told.
-pub fn check(corners: &[i32], cells: &[u16], doors: &[u16], kind: u16) -> Checked
-    ensures { result ≡ checked kind corners.now cells.now doors.now }
-{
-    match measure(corners, cells, doors, kind) {
-        Sizes::Refused(refusal) => Checked::Refused(refusal),
-        Sizes::Of(m, n) => {
-            if n <= 3 * Plan::MOST_CELLS {
-                return check_few(corners, cells, doors, kind, m, n);
-            }
-            check_many(corners, cells, doors, kind, m, n)
-        }
-    }
 }

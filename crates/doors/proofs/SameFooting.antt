@@ -15,11 +15,11 @@ use Rattle.setting.specs.Setting.{ends}
 use Rattle.setting.proofs.Settings.{shutting_changes_no_other_face, opening_changes_no_other_face}
 use Rattle.stand.specs.Find.{strictly_within, located}
 use Rattle.stand.specs.declared.locate.Footing.{Footing}
-use Rattle.stand.specs.declared.locate.Found.TheVariants.{At}
 use Rattle.stand.proofs.Located.{Stands, found_place_holds_the_stand, place_is_found, located_where_it_was, within_from_both_sides}
 use Rattle.stand.proofs.Located.Stands.{in_a_cell, on_a_side}
 use Rattle.doors.specs.Change.{wished, underfoot}
 use Rattle.doors.proofs.PlanDoors.{other_is_free, other_of_other}
+use Rattle.std.specs.Prelude.{Ok}
 
 module _ {cs : List ℤ} {T : Cells} {ds : List ℕ} (sound : Sound cs T ds) (q : Point) (i : ℕ) (exists : i < length ds) where
   abbrev face : ℕ
@@ -44,11 +44,11 @@ module _ {cs : List ℤ} {T : Cells} {ds : List ℕ} (sound : Sound cs T ds) (q 
     ends_as_before w false = opening_changes_no_other_face T ds w i f not_the_face not_the_other (λ free. back_of_back sound f h free)
 
   -- the same place is found under the wished setting
-  pub located_under_the_wished : (w : ℕ) (b : Bool) {p : Footing} → located cs T ds w q ≡ At p → underfoot cs T ds i q p ≡ false → located cs T ds (wished b w i) q ≡ At p
+  pub located_under_the_wished : (w : ℕ) (b : Bool) {p : Footing} → located cs T ds w q ≡ Ok p → underfoot cs T ds i q p ≡ false → located cs T ds (wished b w i) q ≡ Ok p
   unfolding underfoot
   located_under_the_wished w b e = by_place (found_place_holds_the_stand cs sound.numbered ds w q e) e
     where
-      by_place : {p : Footing} → Stands cs T ds w q p → located cs T ds w q ≡ At p → underfoot cs T ds i q p ≡ false → located cs T ds (wished b w i) q ≡ At p
+      by_place : {p : Footing} → Stands cs T ds w q p → located cs T ds w q ≡ Ok p → underfoot cs T ds i q p ≡ false → located cs T ds (wished b w i) q ≡ Ok p
       by_place (in_a_cell c) e u = place_is_found cs sound.numbered ds (wished b w i) q (in_a_cell c)
       by_place (on_a_side s) e u =
           let clear = sym (ap (λ (t : Bool). t && strictly_within cs T q face) (lt-ltb _ _ exists)) ∙ u in

@@ -10,17 +10,15 @@ ghost use Rattle.cells.specs.Check.{framed};
 ghost use Rattle.cells.specs.Backed.{Backed};
 ghost use Rattle.cells.specs.Sound.{Sound};
 ghost use Rattle.checking.specs.Sizes.{sizes_of};
-ghost use Rattle.checking.specs.declared.Sizes.TheVariants.{Of};
 ghost use Rattle.stand.specs.Find.{located};
-ghost use Rattle.stand.specs.declared.locate.Found.TheVariants.{At};
 ghost use Rattle.sight.specs.Listing.{listing_numbers};
 ghost use Rattle.doors.specs.Change.{same_list, in_state, wished as Change·wished, underfoot, changed_at, changed};
 
 use cells::corner;
-use checking::{Sizes, measure};
+use checking::measure;
 use limits::{Plan, Refusal};
-use sight::list::{Listed, list_from};
-use sight::view::{Query, View, view_in};
+use sight::list::{Counts, list_from};
+use sight::view::{Query, view_in};
 use stand::locate::Footing;
 
 // Is the given list the same as the first n numbers of the table, in length and every number?
@@ -58,7 +56,7 @@ fn is_true_list_with_room(
     seen: &mut [i32],
 ) -> bool
     requires sound { Sound corners.now (tabled faces.now firsts.now) doors.now × Backed (tabled faces.now firsts.now) backs.now }
-    requires near { Near (point q) × (located corners.now (tabled faces.now firsts.now) doors.now setting (point q) ≡ At p) }
+    requires near { Near (point q) × (located corners.now (tabled faces.now firsts.now) doors.now setting (point q) ≡ Ok p) }
     requires corners_in_bounds { (4 * corner_count corners.now ≤ length table.old) × (reach ≤ most_reach) }
     requires lines_len { (length lines.old ≡ 4 * face_count (tabled faces.now firsts.now)) × (length seen.old ≡ length corners.now) }
     ensures { result ≡ same_list given.now (listing_numbers corners.now (tabled faces.now firsts.now) doors.now setting reach (point q) p) }
@@ -109,7 +107,7 @@ fn is_true_list(
     seen: &mut [i32],
 ) -> bool
     requires sound { Sound corners.now (tabled faces.now firsts.now) doors.now × Backed (tabled faces.now firsts.now) backs.now }
-    requires near { Near (point q) × (located corners.now (tabled faces.now firsts.now) doors.now setting (point q) ≡ At p) }
+    requires near { Near (point q) × (located corners.now (tabled faces.now firsts.now) doors.now setting (point q) ≡ Ok p) }
     requires reach_le_most_reach { reach ≤ most_reach }
     requires lines_len { (length lines.old ≡ 4 * face_count (tabled faces.now firsts.now)) × (length seen.old ≡ length corners.now) }
     ensures { result ≡ same_list given.now (listing_numbers corners.now (tabled faces.now firsts.now) doors.now setting reach (point q) p) }
@@ -179,24 +177,24 @@ fn change_from(
     p: Footing,
     lines: &mut [u16],
     seen: &mut [i32],
-) -> Listed
+) -> Result<Counts, Refusal>
     requires sound { Sound corners.now (tabled faces.now firsts.now) doors.now × Backed (tabled faces.now firsts.now) backs.now }
-    requires near { Near (point q) × (located corners.now (tabled faces.now firsts.now) doors.now setting (point q) ≡ At p) }
+    requires near { Near (point q) × (located corners.now (tabled faces.now firsts.now) doors.now setting (point q) ≡ Ok p) }
     requires p_value { underfoot corners.now (tabled faces.now firsts.now) doors.now door (point q) p ≡ false }
     requires corners_in_bounds { (4 * corner_count corners.now ≤ length table.old) × (reach ≤ most_reach) }
     requires lines_len { (length lines.old ≡ 4 * face_count (tabled faces.now firsts.now)) × (length seen.old ≡ length corners.now) }
     ensures { (result, table.new) ≡ changed_at corners.now (tabled faces.now firsts.now) doors.now setting reach given.now door shut table.old (point q) p }
 {
     if doors.len() <= door {
-        return Listed::Refused(Refusal::Change);
+        return Err(Refusal::Change);
     }
     if is_in_wished_state(setting, door, shut) {
-        return Listed::Refused(Refusal::Change);
+        return Err(Refusal::Change);
     }
     if !is_true_list(
         corners, faces, firsts, backs, doors, setting, reach, q, given, p, lines, seen,
     ) {
-        return Listed::Refused(Refusal::Rows);
+        return Err(Refusal::Rows);
     }
     let counts = list_from(
         corners,
@@ -212,7 +210,7 @@ fn change_from(
         lines,
         seen,
     );
-    Listed::Rows(counts.rows, counts.crossings)
+    Ok(counts)
 }
 
 // The change in the room lent: the tables of the plan, its lines, and the corners seen.
@@ -231,7 +229,7 @@ fn change_in(
     backs: &mut [u16],
     lines: &mut [u16],
     seen: &mut [i32],
-) -> Listed
+) -> Result<Counts, Refusal>
     requires cells_value { (framed kind corners.now cells.now ≡ true) × (sized (corner_count corners.now) (cell_count (cells_of kind cells.now)) (length doors.now) ≡ true) }
     requires faces_len { length faces.old ≡ 2 * face_count (cells_of kind cells.now) }
     requires firsts_len { length firsts.old ≡ suc (cell_count (cells_of kind cells.now)) }
@@ -239,167 +237,30 @@ fn change_in(
     requires lines_len { (length lines.old ≡ 4 * face_count (cells_of kind cells.now)) × (length seen.old ≡ length corners.now) }
     ensures { (result, table.new) ≡ changed kind corners.now cells.now doors.now query given.now door shut table.old }
 {
-    match view_in(corners, cells, doors, kind, query, faces, firsts, backs) {
-        View::Refused(r) => Listed::Refused(r),
-        View::From(x, y, p) => {
-            if is_underfoot(corners, faces, firsts, backs, doors, [x, y], door, p) {
-                return Listed::Refused(Refusal::Line);
-            }
-            if table.len() < 4 * (corners.len() / 2) {
-                return Listed::Refused(Refusal::Room);
-            }
-            let setting = query.setting;
-            let reach = query.reach;
-            let range = reach::range(reach);
-            change_from(
-                corners,
-                faces,
-                firsts,
-                backs,
-                doors,
-                setting,
-                range,
-                [x, y],
-                given,
-                door,
-                shut,
-                table,
-                p,
-                lines,
-                seen,
-            )
-        }
+    let view = view_in(corners, cells, doors, kind, query, faces, firsts, backs)?;
+    let q = [view.x, view.y];
+    if is_underfoot(corners, faces, firsts, backs, doors, q, door, view.footing) {
+        return Err(Refusal::Line);
     }
-}
-
-// The change of a plan of m cells with n faces, in as much of the room lent as they need.
-fn change_cut(
-    corners: &[i32],
-    cells: &[u16],
-    doors: &[u16],
-    kind: u16,
-    query: Query,
-    given: &[u16],
-    door: usize,
-    shut: bool,
-    table: &mut [u16],
-    m: usize,
-    n: usize,
-    faces: &mut [u16],
-    firsts: &mut [u16],
-    backs: &mut [u16],
-    lines: &mut [u16],
-    seen: &mut [i32],
-) -> Listed
-    requires doors_value { sizes_of kind corners.now cells.now doors.now ≡ Of m n }
-    requires n_in_bounds { (2 * n ≤ length faces.old) × (m < length firsts.old) × (n ≤ length backs.old) × (4 * n ≤ length lines.old) }
-    requires most_corners_in_bounds { 2 * most_corners ≤ length seen.old }
-    ensures { (result, table.new) ≡ changed kind corners.now cells.now doors.now query given.now door shut table.old }
-{
-    let twice = 2 * n;
-    let after = m + 1;
-    let fourfold = 4 * n;
-    let numbers = corners.len();
-    change_in(
+    if table.len() < 4 * (corners.len() / 2) {
+        return Err(Refusal::Room);
+    }
+    change_from(
         corners,
-        cells,
+        faces,
+        firsts,
+        backs,
         doors,
-        kind,
-        query,
+        query.setting,
+        reach::range(query.reach),
+        q,
         given,
         door,
         shut,
         table,
-        &mut faces[..twice],
-        &mut firsts[..after],
-        &mut backs[..n],
-        &mut lines[..fourfold],
-        &mut seen[..numbers],
-    )
-}
-
-// Lends room for no more faces than triangles have: the larger tables need not be cleared for them.
-fn change_few(
-    corners: &[i32],
-    cells: &[u16],
-    doors: &[u16],
-    kind: u16,
-    query: Query,
-    given: &[u16],
-    door: usize,
-    shut: bool,
-    table: &mut [u16],
-    m: usize,
-    n: usize,
-) -> Listed
-    requires doors_value { sizes_of kind corners.now cells.now doors.now ≡ Of m n }
-    requires n_bound { n ≤ 3 * most_cells }
-    ensures { (result, table.new) ≡ changed kind corners.now cells.now doors.now query given.now door shut table.old }
-{
-    let mut faces = [0u16; 6 * Plan::MOST_CELLS];
-    let mut firsts = [0u16; 1 + Plan::MOST_CELLS];
-    let mut backs = [0u16; 3 * Plan::MOST_CELLS];
-    let mut lines = [0u16; 12 * Plan::MOST_CELLS];
-    let mut seen = [0i32; 2 * Plan::MOST_CORNERS];
-    change_cut(
-        corners,
-        cells,
-        doors,
-        kind,
-        query,
-        given,
-        door,
-        shut,
-        table,
-        m,
-        n,
-        &mut faces,
-        &mut firsts,
-        &mut backs,
-        &mut lines,
-        &mut seen,
-    )
-}
-
-// Lends room for every plan.
-fn change_many(
-    corners: &[i32],
-    cells: &[u16],
-    doors: &[u16],
-    kind: u16,
-    query: Query,
-    given: &[u16],
-    door: usize,
-    shut: bool,
-    table: &mut [u16],
-    m: usize,
-    n: usize,
-) -> Listed
-    requires { sizes_of kind corners.now cells.now doors.now ≡ Of m n }
-    ensures { (result, table.new) ≡ changed kind corners.now cells.now doors.now query given.now door shut table.old }
-{
-    let mut faces = [0u16; 16 * Plan::MOST_CELLS];
-    let mut firsts = [0u16; 1 + Plan::MOST_CELLS];
-    let mut backs = [0u16; 8 * Plan::MOST_CELLS];
-    let mut lines = [0u16; 32 * Plan::MOST_CELLS];
-    let mut seen = [0i32; 2 * Plan::MOST_CORNERS];
-    change_cut(
-        corners,
-        cells,
-        doors,
-        kind,
-        query,
-        given,
-        door,
-        shut,
-        table,
-        m,
-        n,
-        &mut faces,
-        &mut firsts,
-        &mut backs,
-        &mut lines,
-        &mut seen,
+        view.footing,
+        lines,
+        seen,
     )
 }
 
@@ -414,20 +275,29 @@ pub fn change(
     door: usize,
     shut: bool,
     table: &mut [u16],
-) -> Listed
+) -> Result<Counts, Refusal>
     ensures { (result, table.new) ≡ changed kind corners.now cells.now doors.now query given.now door shut table.old }
 {
-    match measure(corners, cells, doors, kind) {
-        Sizes::Refused(r) => Listed::Refused(r),
-        Sizes::Of(m, n) => {
-            if n <= 3 * Plan::MOST_CELLS {
-                return change_few(
-                    corners, cells, doors, kind, query, given, door, shut, table, m, n,
-                );
-            }
-            change_many(
-                corners, cells, doors, kind, query, given, door, shut, table, m, n,
-            )
-        }
-    }
+    let sizes = measure(corners, cells, doors, kind)?;
+    let mut faces = [0u16; 16 * Plan::MOST_CELLS];
+    let mut firsts = [0u16; 1 + Plan::MOST_CELLS];
+    let mut backs = [0u16; 8 * Plan::MOST_CELLS];
+    let mut lines = [0u16; 32 * Plan::MOST_CELLS];
+    let mut seen = [0i32; 2 * Plan::MOST_CORNERS];
+    change_in(
+        corners,
+        cells,
+        doors,
+        kind,
+        query,
+        given,
+        door,
+        shut,
+        table,
+        &mut faces[..2 * sizes.faces],
+        &mut firsts[..=sizes.cells],
+        &mut backs[..sizes.faces],
+        &mut lines[..4 * sizes.faces],
+        &mut seen[..corners.len()],
+    )
 }

@@ -11,6 +11,13 @@ ghost use Rattle.draw.specs.Counted.{counted};
 
 use limits::Plan;
 
+// How many cells and faces a list has.
+#[derive(Clone, Copy)]
+pub struct Sizes {
+    pub cells: usize,
+    pub faces: usize,
+}
+
 // The counts of cells and of faces.
 #[derive(Clone, Copy)]
 pub enum Counted {

@@ -1,14 +1,10 @@
 -- The seven numbers of a reply, and what each call leaves in the lent memory (document 01, "Reply numbers"; document 02).
-use Rattle.std.specs.Prelude.{Bool, true, false, List, [], ◌∷◌, ℕ, ◌/◌, ◌%◌, eqb, leb, length, get_or, ℤ, Float}
+use Rattle.std.specs.Prelude.{Bool, true, false, List, [], ◌∷◌, ℕ, ◌/◌, ◌%◌, eqb, leb, length, get_or, ℤ, Float, None, Option, Some}
 use Rattle.std.proofs.lemmas.List.Edits.{sets}
 use Rattle.limits.specs.Reply.{Reply, refused}
 use Rattle.limits.specs.declared.Refusal.TheVariants.{Frame}
-use Rattle.reach.specs.declared.Reach.{Reach}
-use Rattle.reach.specs.declared.Reach.TheVariants.{NotStated, Stated}
 use Rattle.stand.specs.declared.spot.Stand.{Stand}
 use Rattle.sight.specs.declared.view.Query.{Query}
-use Rattle.sight.specs.declared.ceiling.Ceiling.{Ceiling}
-use Rattle.sight.specs.declared.ceiling.Ceiling.TheVariants as C
 use Rattle.stands.specs.Numbered.{stands_of}
 use Rattle.manopluea.specs.Calls.{check_replies, read_replies, write_replies, find_replies, list_replies, draw_replies, change_replies, list_stands_replies}
 use Rattle.printing.specs.Reply.{print_replies}
@@ -56,14 +52,14 @@ unfoldable pub find_left : ℕ → List ℤ → List ℕ → List ℕ → ℕ �
 find_left kind cs ts ds w s reply = replied (has_seven reply) reply (numbers_of (find_replies kind cs ts ds w s))
 
 -- whether a reach is stated, and which
-abbrev pub reach_of : Bool → ℕ → Reach
-reach_of true n = Stated n
-reach_of false n = NotStated
+abbrev pub reach_of : Bool → ℕ → Option ℕ
+reach_of true n = Some n
+reach_of false n = None
 
 -- a ceiling likewise
-abbrev pub ceiling_of : Bool → ℕ → Ceiling
-ceiling_of true n = C.Stated n
-ceiling_of false n = C.NotStated
+abbrev pub ceiling_of : Bool → ℕ → Option ℕ
+ceiling_of true n = Some n
+ceiling_of false n = None
 
 -- what is asked: setting, stand, whether a reach is stated, and which
 abbrev pub query : ℕ → Stand → Bool → ℕ → Query
@@ -88,7 +84,7 @@ change_left kind cs ts ds w s stated n given i b table reply = (
 )
 
 -- several stands as a list of numbers, three a stand; a list that is not of three numbers each is FRAME
-abbrev pub numbered_replies : Bool → ℕ → List ℤ → List ℕ → List ℕ → ℕ → List Float → Reach → Ceiling → List ℕ → List ℕ → Reply × (List ℕ × List ℕ)
+abbrev pub numbered_replies : Bool → ℕ → List ℤ → List ℕ → List ℕ → ℕ → List Float → Option ℕ → Option ℕ → List ℕ → List ℕ → Reply × (List ℕ × List ℕ)
 numbered_replies true kind cs ts ds w ns reach ceiling table replies =
     list_stands_replies kind cs ts ds (record { setting = w; count = length ns / 3; reach = reach; ceiling = ceiling }) (stands_of ns) table replies
 numbered_replies false kind cs ts ds w ns reach ceiling table replies = (refused Frame, (table, replies))

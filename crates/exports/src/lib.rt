@@ -5,9 +5,9 @@
 
 ghost use Rattle.std.specs.Prelude.{◌≡◌};
 ghost use Rattle.stand.specs.declared.spot.Stand.TheVariants.{Point, Offset};
-ghost use Rattle.exports.specs.Reply.{reach_of, ceiling_of, check_left, read_left, write_left, find_left, list_left, draw_left, change_left, list_stands_left, print_left};
+ghost use Rattle.exports.specs.Reply.{check_left, read_left, write_left, find_left, list_left, draw_left, change_left, list_stands_left, print_left};
 
-use manopluea::{Ceiling, Listed, Listing, Morning, Query, Reach, Refusal, Stand, Terms};
+use manopluea::{Listing, Morning, Query, Refusal, Stand, Terms};
 
 mod reply;
 
@@ -123,26 +123,6 @@ pub extern "C" fn manopluea_find_offset(
     reply::put_found(reply, answer);
 }
 
-// A reach for a caller that has no enums: whether one is stated, and which; where none is, the number means nothing.
-fn reach_of(stated: bool, reach: u64) -> Reach
-    ensures { result ≡ reach_of stated reach }
-{
-    if stated {
-        return Reach::Stated(reach);
-    }
-    Reach::NotStated
-}
-
-// A ceiling likewise.
-fn ceiling_of(limited: bool, ceiling: u64) -> Ceiling
-    ensures { result ≡ ceiling_of limited ceiling }
-{
-    if limited {
-        return Ceiling::Stated(ceiling);
-    }
-    Ceiling::NotStated
-}
-
 // The listing from a point; the values are row count and crossings.
 #[unsafe(no_mangle)]
 pub extern "C" fn manopluea_list_point(
@@ -174,9 +154,9 @@ pub extern "C" fn manopluea_list_point(
             query: Query {
                 setting,
                 stand: Stand::Point(x, y),
-                reach: reach_of(stated, reach),
+                reach: stated.then_some(reach),
             },
-            ceiling: ceiling_of(limited, ceiling),
+            ceiling: limited.then_some(ceiling),
         },
         table,
     );
@@ -215,9 +195,9 @@ pub extern "C" fn manopluea_list_offset(
             query: Query {
                 setting,
                 stand: Stand::Offset(corner, dx, dy),
-                reach: reach_of(stated, reach),
+                reach: stated.then_some(reach),
             },
-            ceiling: ceiling_of(limited, ceiling),
+            ceiling: limited.then_some(ceiling),
         },
         table,
     );
@@ -252,7 +232,7 @@ pub extern "C" fn manopluea_draw_point(
         Query {
             setting,
             stand: Stand::Point(x, y),
-            reach: reach_of(stated, reach),
+            reach: stated.then_some(reach),
         },
         offsets,
     );
@@ -288,7 +268,7 @@ pub extern "C" fn manopluea_draw_offset(
         Query {
             setting,
             stand: Stand::Offset(corner, dx, dy),
-            reach: reach_of(stated, reach),
+            reach: stated.then_some(reach),
         },
         offsets,
     );
@@ -326,7 +306,7 @@ pub extern "C" fn manopluea_change_point(
         Query {
             setting,
             stand: Stand::Point(x, y),
-            reach: reach_of(stated, reach),
+            reach: stated.then_some(reach),
         },
         given,
         door,
@@ -368,7 +348,7 @@ pub extern "C" fn manopluea_change_offset(
         Query {
             setting,
             stand: Stand::Offset(corner, dx, dy),
-            reach: reach_of(stated, reach),
+            reach: stated.then_some(reach),
         },
         given,
         door,
@@ -401,7 +381,7 @@ pub extern "C" fn manopluea_list_stands(
         return;
     }
     if stands.len() % 3 != 0 {
-        reply::put_listed(reply, Listed::Refused(Refusal::Frame));
+        reply::put_listed(reply, Err(Refusal::Frame));
         return;
     }
     let count = stands.len() / 3;
@@ -414,8 +394,8 @@ pub extern "C" fn manopluea_list_stands(
         Morning {
             setting,
             count,
-            reach: reach_of(stated, reach),
-            ceiling: ceiling_of(limited, ceiling),
+            reach: stated.then_some(reach),
+            ceiling: limited.then_some(ceiling),
         },
         given,
         table,

@@ -4,14 +4,12 @@ ghost use Rattle.std.proofs.lemmas.List.Edits.{sets};
 ghost use Rattle.limits.specs.Reply.{checked_reply};
 ghost use Rattle.planfile.specs.Reply.{read_numbers};
 ghost use Rattle.stand.specs.Reply.{found_reply};
-ghost use Rattle.stand.specs.declared.locate.Found.TheVariants.{At};
 ghost use Rattle.sight.specs.Reply.{listed_reply};
 ghost use Rattle.printing.specs.Reply.{printed_reply};
 ghost use Rattle.exports.specs.Reply.{seven, numbers_of};
 
 use limits::reply;
-use manopluea::{Checked, Footing, Found, Listed, ReadPlan};
-use printing::Printed;
+use manopluea::{Counts, Footing, Plan, ReadPlan, Refusal};
 
 fn put(reply: &mut [u64], n: u64, p: u64, a: u64, b: u64, c: u64, d: u64, e: u64)
     requires { 7 ≤ length reply.old }
@@ -26,12 +24,12 @@ fn put(reply: &mut [u64], n: u64, p: u64, a: u64, b: u64, c: u64, d: u64, e: u64
     reply[6] = e;
 }
 
-pub fn put_checked(reply: &mut [u64], answer: Checked)
+pub fn put_checked(reply: &mut [u64], answer: Result<Plan, Refusal>)
     requires { 7 ≤ length reply.old }
     ensures { reply.new ≡ sets reply.old 0 (numbers_of (checked_reply answer)) }
 {
     match answer {
-        Checked::Accepted(plan) => {
+        Ok(plan) => {
             put(
                 reply,
                 0,
@@ -43,36 +41,36 @@ pub fn put_checked(reply: &mut [u64], answer: Checked)
                 0,
             )
         }
-        Checked::Refused(r) => put(reply, reply::number(r), reply::place(r), 0, 0, 0, 0, 0),
+        Err(r) => put(reply, reply::number(r), reply::place(r), 0, 0, 0, 0, 0),
     }
 }
 
 // For the reader: the kind of the list of cells, and how many numbers it has.
-pub fn put_read(reply: &mut [u64], answer: ReadPlan)
+pub fn put_read(reply: &mut [u64], answer: Result<ReadPlan, Refusal>)
     requires { 7 ≤ length reply.old }
     ensures { reply.new ≡ sets reply.old 0 (numbers_of (read_numbers answer)) }
 {
     match answer {
-        ReadPlan::Accepted(plan, kind, numbers) => {
+        Ok(plan) => {
             put(
                 reply,
                 0,
                 0,
-                plan.corners as u64,
-                plan.cells as u64,
-                plan.doors as u64,
-                kind as u64,
-                numbers as u64,
+                plan.counts.corners as u64,
+                plan.counts.cells as u64,
+                plan.counts.doors as u64,
+                plan.kind as u64,
+                plan.numbers as u64,
             )
         }
-        ReadPlan::Refused(r) => put(reply, reply::number(r), reply::place(r), 0, 0, 0, 0, 0),
+        Err(r) => put(reply, reply::number(r), reply::place(r), 0, 0, 0, 0, 0),
     }
 }
 
 // For finding: the cell; then 0 and 0 for a stand strictly inside it, or 1 and its side for one strictly within that.
 fn put_place(reply: &mut [u64], p: Footing)
     requires { 7 ≤ length reply.old }
-    ensures { reply.new ≡ sets reply.old 0 (numbers_of (found_reply (At p))) }
+    ensures { reply.new ≡ sets reply.old 0 (numbers_of (found_reply (Ok p))) }
 {
     match p {
         Footing::Inside(c) => put(reply, 0, 0, c as u64, 0, 0, 0, 0),
@@ -80,33 +78,42 @@ fn put_place(reply: &mut [u64], p: Footing)
     }
 }
 
-pub fn put_found(reply: &mut [u64], answer: Found)
+pub fn put_found(reply: &mut [u64], answer: Result<Footing, Refusal>)
     requires { 7 ≤ length reply.old }
     ensures { reply.new ≡ sets reply.old 0 (numbers_of (found_reply answer)) }
 {
     match answer {
-        Found::At(p) => put_place(reply, p),
-        Found::Refused(r) => put(reply, reply::number(r), reply::place(r), 0, 0, 0, 0, 0),
+        Ok(p) => put_place(reply, p),
+        Err(r) => put(reply, reply::number(r), reply::place(r), 0, 0, 0, 0, 0),
     }
 }
 
 // For the listing and the door change.
-pub fn put_listed(reply: &mut [u64], answer: Listed)
+pub fn put_listed(reply: &mut [u64], answer: Result<Counts, Refusal>)
     requires { 7 ≤ length reply.old }
     ensures { reply.new ≡ sets reply.old 0 (numbers_of (listed_reply answer)) }
 {
     match answer {
-        Listed::Rows(n, k) => put(reply, 0, 0, n as u64, k as u64, 0, 0, 0),
-        Listed::Refused(r) => put(reply, reply::number(r), reply::place(r), 0, 0, 0, 0, 0),
+        Ok(counts) => put(
+            reply,
+            0,
+            0,
+            counts.rows as u64,
+            counts.crossings as u64,
+            0,
+            0,
+            0,
+        ),
+        Err(r) => put(reply, reply::number(r), reply::place(r), 0, 0, 0, 0, 0),
     }
 }
 
-pub fn put_printed(reply: &mut [u64], answer: Printed)
+pub fn put_printed(reply: &mut [u64], answer: Result<usize, Refusal>)
     requires { 7 ≤ length reply.old }
     ensures { reply.new ≡ sets reply.old 0 (numbers_of (printed_reply answer)) }
 {
     match answer {
-        Printed::Text(n) => put(reply, 0, 0, n as u64, 0, 0, 0, 0),
-        Printed::Refused(r) => put(reply, reply::number(r), reply::place(r), 0, 0, 0, 0, 0),
+        Ok(n) => put(reply, 0, 0, n as u64, 0, 0, 0, 0),
+        Err(r) => put(reply, reply::number(r), reply::place(r), 0, 0, 0, 0, 0),
     }
 }

@@ -10,14 +10,13 @@ ghost use Rattle.cells.specs.Backed.{Backed};
 ghost use Rattle.cells.specs.Sound.{Sound};
 ghost use Rattle.boxes.specs.Boxes.{Boxed};
 ghost use Rattle.checking.specs.Sizes.{sizes_of};
-ghost use Rattle.checking.specs.declared.Sizes.TheVariants.{Of};
 ghost use Rattle.stand.specs.Spot.{stood};
 ghost use Rattle.stand.specs.Find.{with_spot, found};
 
-use checking::{Sizes, check_into, measure};
-use limits::{Checked, Plan, Refusal};
-use stand::locate::{Found, locate};
-use stand::spot::{Spot, Stand, stand_spot};
+use checking::{check_into, measure};
+use limits::{Plan, Refusal};
+use stand::locate::{Footing, locate};
+use stand::spot::{Stand, stand_spot};
 
 // On an accepted plan and setting.
 fn find_stand(
@@ -29,13 +28,11 @@ fn find_stand(
     doors: &[u16],
     setting: u64,
     stand: Stand,
-) -> Found
+) -> Result<Footing, Refusal>
     requires { Sound corners.now (tabled faces.now firsts.now) doors.now × Backed (tabled faces.now firsts.now) backs.now × Boxed corners.now (tabled faces.now firsts.now) boxes.now }
     ensures { result ≡ with_spot corners.now (tabled faces.now firsts.now) doors.now setting (stood corners.now stand) }
 {
-    let Spot::At(x, y) = stand_spot(corners, stand) else {
-        return Found::Refused(Refusal::Stand);
-    };
+    let (x, y) = stand_spot(corners, stand).ok_or(Refusal::Stand)?;
     locate(corners, faces, firsts, backs, boxes, doors, setting, [x, y])
 }
 
@@ -50,7 +47,7 @@ fn find_in(
     faces: &mut [u16],
     firsts: &mut [u16],
     backs: &mut [u16],
-) -> Found
+) -> Result<Footing, Refusal>
     requires cells_value { (framed kind corners.now cells.now ≡ true) × (sized (corner_count corners.now) (cell_count (cells_of kind cells.now)) (length doors.now) ≡ true) }
     requires faces_len { length faces.old ≡ 2 * face_count (cells_of kind cells.now) }
     requires firsts_len { length firsts.old ≡ suc (cell_count (cells_of kind cells.now)) }
@@ -58,116 +55,13 @@ fn find_in(
     ensures { result ≡ found kind corners.now cells.now doors.now setting stand }
 {
     let mut boxes = [0i32; 4 * Plan::MOST_CELLS];
-    match check_into(
+    let plan = check_into(
         corners, cells, doors, kind, faces, firsts, backs, &mut boxes,
-    ) {
-        Checked::Refused(r) => Found::Refused(r),
-        Checked::Accepted(plan) => {
-            let k = plan.doors;
-            if setting::is_wrong(setting, k) {
-                return Found::Refused(Refusal::Setting);
-            }
-            find_stand(corners, faces, firsts, backs, &boxes, doors, setting, stand)
-        }
+    )?;
+    if setting::is_wrong(setting, plan.doors) {
+        return Err(Refusal::Setting);
     }
-}
-
-// In as much of the room lent as m cells with n faces need.
-fn find_cut(
-    corners: &[i32],
-    cells: &[u16],
-    doors: &[u16],
-    kind: u16,
-    setting: u64,
-    stand: Stand,
-    m: usize,
-    n: usize,
-    faces: &mut [u16],
-    firsts: &mut [u16],
-    backs: &mut [u16],
-) -> Found
-    requires doors_value { sizes_of kind corners.now cells.now doors.now ≡ Of m n }
-    requires n_in_bounds { (2 * n ≤ length faces.old) × (m < length firsts.old) × (n ≤ length backs.old) }
-    ensures { result ≡ found kind corners.now cells.now doors.now setting stand }
-{
-    let twice = 2 * n;
-    let after = m + 1;
-    find_in(
-        corners,
-        cells,
-        doors,
-        kind,
-        setting,
-        stand,
-        &mut faces[..twice],
-        &mut firsts[..after],
-        &mut backs[..n],
-    )
-}
-
-// Lends room for no more faces than triangles have: the larger tables need not be cleared for them.
-fn find_few(
-    corners: &[i32],
-    cells: &[u16],
-    doors: &[u16],
-    kind: u16,
-    setting: u64,
-    stand: Stand,
-    m: usize,
-    n: usize,
-) -> Found
-    requires doors_value { sizes_of kind corners.now cells.now doors.now ≡ Of m n }
-    requires n_bound { n ≤ 3 * most_cells }
-    ensures { result ≡ found kind corners.now cells.now doors.now setting stand }
-{
-    let mut faces = [0u16; 6 * Plan::MOST_CELLS];
-    let mut firsts = [0u16; 1 + Plan::MOST_CELLS];
-    let mut backs = [0u16; 3 * Plan::MOST_CELLS];
-    find_cut(
-        corners,
-        cells,
-        doors,
-        kind,
-        setting,
-        stand,
-        m,
-        n,
-        &mut faces,
-        &mut firsts,
-        &mut backs,
-    )
-}
-
-// Lends room for every plan.
-fn find_many(
-    corners: &[i32],
-    cells: &[u16],
-    doors: &[u16],
-    kind: u16,
-    setting: u64,
-    stand: Stand,
-    m: usize,
-    n: usize,
-) -> Found
-    requires { sizes_of kind corners.now cells.now doors.now ≡ Of m n }
-    ensures { result ≡ found kind corners.now cells.now doors.now setting stand }
-{
-    let mut faces = [0u16; 16 * Plan::MOST_CELLS];
-    let mut firsts = [0u16; 1 + Plan::MOST_CELLS];
-    let mut backs = [0u16; 8 * Plan::MOST_CELLS];
-    find_cut(
-        corners,
-        cells,
-        doors,
-        kind,
-        setting,
-        stand,
-        m,
-        n,
-        &mut faces,
-        &mut firsts,
-        &mut backs,
-    )
+    find_stand(corners, faces, firsts, backs, &boxes, doors, setting, stand)
 }
 
 // Finding: plan, the kind of its list of cells, its setting, and stand.
@@ -178,16 +72,22 @@ pub fn find(
     kind: u16,
     setting: u64,
     stand: Stand,
-) -> Found
+) -> Result<Footing, Refusal>
     ensures { result ≡ found kind corners.now cells.now doors.now setting stand }
 {
-    match measure(corners, cells, doors, kind) {
-        Sizes::Refused(r) => Found::Refused(r),
-        Sizes::Of(m, n) => {
-            if n <= 3 * Plan::MOST_CELLS {
-                return find_few(corners, cells, doors, kind, setting, stand, m, n);
-            }
-            find_many(corners, cells, doors, kind, setting, stand, m, n)
-        }
-    }
+    let sizes = measure(corners, cells, doors, kind)?;
+    let mut faces = [0u16; 16 * Plan::MOST_CELLS];
+    let mut firsts = [0u16; 1 + Plan::MOST_CELLS];
+    let mut backs = [0u16; 8 * Plan::MOST_CELLS];
+    find_in(
+        corners,
+        cells,
+        doors,
+        kind,
+        setting,
+        stand,
+        &mut faces[..2 * sizes.faces],
+        &mut firsts[..=sizes.cells],
+        &mut backs[..sizes.faces],
+    )
 }

@@ -15,73 +15,71 @@ use Rattle.limits.specs.Limits.{most_stands, sized}
 use Rattle.limits.specs.declared.Plan.{Plan}
 use Rattle.limits.specs.declared.Refusal.{Refusal}
 use Rattle.limits.specs.declared.Refusal.TheVariants.{Frame, Size, Setting, Room}
-use Rattle.limits.specs.declared.Checked.{Checked}
-use Rattle.limits.specs.declared.Checked.TheVariants as C
 use Rattle.cells.specs.Lists.{corner_count, cell_count, face_count}
 use Rattle.cells.specs.Cut.{cells_of}
 use Rattle.cells.specs.Check.{framed, refuse_if, checked}
 use Rattle.cells.specs.Sound.{Sound}
 use Rattle.cells.proofs.Accepted.{passed, accepted_is_sound, accepted_corners, accepted_doors, few_corners}
 use Rattle.checking.specs.Sizes.{sizes_of}
-use Rattle.checking.specs.declared.Sizes.{Sizes}
-use Rattle.checking.specs.declared.Sizes.TheVariants as S
 use Rattle.checking.proofs.Measures.{refused_likewise, counted_fit}
 use Rattle.setting.proofs.Settings.{wrong_for_the_plan}
 use Rattle.setting.specs.Setting.{wrong_setting}
 use Rattle.grant.specs.Asked.{too_many, sizes_asked, no_room, then_asked, asked, Granted}
+use Rattle.draw.specs.declared.Sizes.{Sizes}
+use Rattle.std.specs.Prelude.{Err, Ok, Result}
 
 module _ (k : ℕ) (cs : List ℤ) (ts ds : List ℕ) (w n room places : ℕ) where
   -- what is asked after the plan
-  abbrev later : Plan → Checked
-  later p = refuse_if (wrong_setting w (length ds)) Setting (refuse_if (no_room (corner_count cs) n room places) Room (C.Accepted p))
+  abbrev later : Plan → Result Plan Refusal
+  later p = refuse_if (wrong_setting w (length ds)) Setting (refuse_if (no_room (corner_count cs) n room places) Room (Ok p))
 
   -- more than 32 stands are FRAME where the plan's lists are, else SIZE
-  many_refused : most_stands < n → C.Refused (too_many (framed k cs ts)) ≡ asked k cs ts ds w n room places
+  many_refused : most_stands < n → Err (too_many (framed k cs ts)) ≡ asked k cs ts ds w n room places
   unfolding asked
   many_refused h =
       ap (λ (b : Bool). refuse_if b (too_many (framed k cs ts)) (then_asked (checked k cs ts ds) later)) (sym (lt-ltb _ _ h))
 
   module _ (few : n ≤ most_stands) where
-    by_few : {r : Checked} → r ≡ then_asked (checked k cs ts ds) later → r ≡ asked k cs ts ds w n room places
+    by_few : {r : Result Plan Refusal} → r ≡ then_asked (checked k cs ts ds) later → r ≡ asked k cs ts ds w n room places
     unfolding asked
     by_few e = e ∙ ap (λ (b : Bool). refuse_if b (too_many (framed k cs ts)) (then_asked (checked k cs ts ds) later)) (sym (le-ltb _ _ few))
 
-    pub plan_refused : {r : Refusal} → checked k cs ts ds ≡ C.Refused r → C.Refused r ≡ asked k cs ts ds w n room places
-    plan_refused e = by_few (ap (λ (a : Checked). then_asked a later) (sym e))
+    pub plan_refused : {r : Refusal} → checked k cs ts ds ≡ Err r → Err r ≡ asked k cs ts ds w n room places
+    plan_refused e = by_few (ap (λ (a : Result Plan Refusal). then_asked a later) (sym e))
 
-    module _ {p : Plan} (accepted : checked k cs ts ds ≡ C.Accepted p) where
-      by_accepted : {r : Checked} → r ≡ later p → r ≡ asked k cs ts ds w n room places
-      by_accepted e = by_few (e ∙ ap (λ (a : Checked). then_asked a later) (sym accepted))
+    module _ {p : Plan} (accepted : checked k cs ts ds ≡ Ok p) where
+      by_accepted : {r : Result Plan Refusal} → r ≡ later p → r ≡ asked k cs ts ds w n room places
+      by_accepted e = by_few (e ∙ ap (λ (a : Result Plan Refusal). then_asked a later) (sym accepted))
 
       pub few_numbers : 4 * p.corners * n ≤ 4 * 2048 * 32
       few_numbers = let f : 4 * p.corners ≤ 4 * 2048 = omega (arith, few_corners k cs ts ds accepted) in mul-le-mul f few
 
       module _ {b : Bool} (is_wrong : b ≡ wrong_setting w p.doors) where
-        pub setting_refused : b ≡ true → C.Refused Setting ≡ asked k cs ts ds w n room places
+        pub setting_refused : b ≡ true → Err Setting ≡ asked k cs ts ds w n room places
         setting_refused h =
-            by_accepted (ap (λ (t : Bool). refuse_if t Setting (refuse_if (no_room (corner_count cs) n room places) Room (C.Accepted p))) (sym (wrong_for_the_plan ds w (accepted_doors k cs ts ds accepted) is_wrong ∙ h)))
+            by_accepted (ap (λ (t : Bool). refuse_if t Setting (refuse_if (no_room (corner_count cs) n room places) Room (Ok p))) (sym (wrong_for_the_plan ds w (accepted_doors k cs ts ds accepted) is_wrong ∙ h)))
 
         module _ (right : b ≡ false) where
-          by_room : {r : Checked} → r ≡ refuse_if (no_room (corner_count cs) n room places) Room (C.Accepted p) → r ≡ asked k cs ts ds w n room places
+          by_room : {r : Result Plan Refusal} → r ≡ refuse_if (no_room (corner_count cs) n room places) Room (Ok p) → r ≡ asked k cs ts ds w n room places
           by_room e =
-              by_accepted (e ∙ ap (λ (t : Bool). refuse_if t Setting (refuse_if (no_room (corner_count cs) n room places) Room (C.Accepted p))) (sym (wrong_for_the_plan ds w (accepted_doors k cs ts ds accepted) is_wrong ∙ right)))
+              by_accepted (e ∙ ap (λ (t : Bool). refuse_if t Setting (refuse_if (no_room (corner_count cs) n room places) Room (Ok p))) (sym (wrong_for_the_plan ds w (accepted_doors k cs ts ds accepted) is_wrong ∙ right)))
 
-          pub table_too_short : room < 4 * p.corners * n → C.Refused Room ≡ asked k cs ts ds w n room places
+          pub table_too_short : room < 4 * p.corners * n → Err Room ≡ asked k cs ts ds w n room places
           table_too_short h =
               let short : ltb room (4 * corner_count cs * n) ≡ true = lt-ltb _ _ (subst (λ (m : ℕ). room < 4 * m * n) (accepted_corners k cs ts ds accepted) h) in
-              by_room (ap (λ (t : Bool). refuse_if (t || ltb places (3 * n)) Room (C.Accepted p)) (sym short))
+              by_room (ap (λ (t : Bool). refuse_if (t || ltb places (3 * n)) Room (Ok p)) (sym short))
 
           module _ (long : 4 * p.corners * n ≤ room) where
-            by_places : {r : Checked} → r ≡ refuse_if (ltb places (3 * n)) Room (C.Accepted p) → r ≡ asked k cs ts ds w n room places
+            by_places : {r : Result Plan Refusal} → r ≡ refuse_if (ltb places (3 * n)) Room (Ok p) → r ≡ asked k cs ts ds w n room places
             by_places e =
                 let enough : ltb room (4 * corner_count cs * n) ≡ false = le-ltb _ _ (subst (λ (m : ℕ). 4 * m * n ≤ room) (accepted_corners k cs ts ds accepted) long) in
-                by_room (e ∙ ap (λ (t : Bool). refuse_if (t || ltb places (3 * n)) Room (C.Accepted p)) (sym enough))
+                by_room (e ∙ ap (λ (t : Bool). refuse_if (t || ltb places (3 * n)) Room (Ok p)) (sym enough))
 
-            pub too_few_places : places < 3 * n → C.Refused Room ≡ asked k cs ts ds w n room places
-            too_few_places h = by_places (ap (λ (t : Bool). refuse_if t Room (C.Accepted p)) (sym (lt-ltb _ _ h)))
+            pub too_few_places : places < 3 * n → Err Room ≡ asked k cs ts ds w n room places
+            too_few_places h = by_places (ap (λ (t : Bool). refuse_if t Room (Ok p)) (sym (lt-ltb _ _ h)))
 
-            pub granted : 3 * n ≤ places → C.Accepted p ≡ asked k cs ts ds w n room places
-            granted h = by_places (ap (λ (t : Bool). refuse_if t Room (C.Accepted p)) (sym (le-ltb _ _ h)))
+            pub granted : 3 * n ≤ places → Ok p ≡ asked k cs ts ds w n room places
+            granted h = by_places (ap (λ (t : Bool). refuse_if t Room (Ok p)) (sym (le-ltb _ _ h)))
 
 -- ---- the sizes
 
@@ -90,67 +88,67 @@ module _ (k : ℕ) (cs : List ℤ) (ts ds : List ℕ) (n : ℕ) where
   unfolding sizes_asked
   few_asked few = rw (le-ltb _ _ few, sizes_asked)
 
-  many_asked : most_stands < n → sizes_asked k cs ts ds n ≡ S.Refused (too_many (framed k cs ts))
+  many_asked : most_stands < n → sizes_asked k cs ts ds n ≡ Err (too_many (framed k cs ts))
   unfolding sizes_asked
   many_asked h = rw (lt-ltb _ _ h, sizes_asked)
 
   -- lists of which the sizes are refused are refused for SIZE just where they are framed
-  frame_or_size : {r : Refusal} → sizes_of k cs ts ds ≡ S.Refused r → r ≡ too_many (framed k cs ts)
+  frame_or_size : {r : Refusal} → sizes_of k cs ts ds ≡ Err r → r ≡ too_many (framed k cs ts)
   unfolding sizes_of
   frame_or_size {r} e = by_tests (framed k cs ts) refl (sized (corner_count cs) (cell_count (cells_of k ts)) (length ds)) refl
     where
       by_tests : (a : Bool) → framed k cs ts ≡ a → (b : Bool) → sized (corner_count cs) (cell_count (cells_of k ts)) (length ds) ≡ b → r ≡ too_many (framed k cs ts)
       by_tests true g true h =
-          let is : S.Of (cell_count (cells_of k ts)) (face_count (cells_of k ts)) ≡ S.Refused r = rw (g, h, sizes_of) at e in
+          let is : ◌≡◌ {A = Result Sizes Refusal} (Ok (record { cells = cell_count (cells_of k ts); faces = face_count (cells_of k ts) })) (Err r) = rw (g, h, sizes_of) at e in
           let z : ◌≡◌ {A = ℕ} 0 1 = cc in
           absurd (omega arith)
       by_tests true g false h =
-          let is : S.Refused Size ≡ S.Refused r = rw (g, h, sizes_of) at e in
+          let is : ◌≡◌ {A = Result Sizes Refusal} (Err Size) (Err r) = rw (g, h, sizes_of) at e in
           let same : Size ≡ r = cc in
           sym same ∙ ap too_many (sym g)
       by_tests false g b h =
-          let is : S.Refused Frame ≡ S.Refused r = rw (g, sizes_of) at e in
+          let is : ◌≡◌ {A = Result Sizes Refusal} (Err Frame) (Err r) = rw (g, sizes_of) at e in
           let same : Frame ≡ r = cc in
           sym same ∙ ap too_many (sym g)
 
-  module _ {s : Sizes} (is_s : s ≡ sizes_of k cs ts ds) where
+  module _ {s : Result Sizes Refusal} (is_s : s ≡ sizes_of k cs ts ds) where
     -- FRAME and SIZE of the plan's lists are those of the call
-    pub lists_refused : {r : Refusal} → s ≡ S.Refused r → S.Refused r ≡ sizes_asked k cs ts ds n
+    pub lists_refused : {r : Refusal} → s ≡ Err r → Err r ≡ sizes_asked k cs ts ds n
     lists_refused {r} e = by_count (dec_lt most_stands n)
       where
-        by_count : Dec (most_stands < n) → S.Refused r ≡ sizes_asked k cs ts ds n
-        by_count (yes h) = ap S.Refused (frame_or_size (sym is_s ∙ e)) ∙ sym (many_asked h)
+        by_count : Dec (most_stands < n) → Err r ≡ sizes_asked k cs ts ds n
+        by_count (yes h) = ap Err (frame_or_size (sym is_s ∙ e)) ∙ sym (many_asked h)
         by_count (no h) = sym e ∙ is_s ∙ sym (few_asked (omega arith))
 
-    module _ {m l : ℕ} (e : s ≡ S.Of m l) where
-      pub too_many_asked : most_stands < n → S.Refused Size ≡ sizes_asked k cs ts ds n
-      too_many_asked h = ap (λ (b : Bool). S.Refused (too_many b)) (sym (counted_fit k cs ts ds is_s e).in_frame) ∙ sym (many_asked h)
+    module _ {m l : ℕ} (e : s ≡ Ok (record { cells = m; faces = l })) where
+      pub too_many_asked : most_stands < n → Err Size ≡ sizes_asked k cs ts ds n
+      too_many_asked h = ap (λ (b : Bool). Err (too_many b)) (sym (counted_fit k cs ts ds is_s e).in_frame) ∙ sym (many_asked h)
 
-      pub counted : n ≤ most_stands → S.Of m l ≡ sizes_asked k cs ts ds n
+      pub counted : n ≤ most_stands → Ok (record { cells = m; faces = l }) ≡ sizes_asked k cs ts ds n
       counted few = sym e ∙ is_s ∙ sym (few_asked few)
 
   -- ---- what the sizes say
 
-  module _ {s : Sizes} (is_s : s ≡ sizes_asked k cs ts ds n) where
-    pub sizes_refused : {r : Refusal} → s ≡ S.Refused r → (w room places : ℕ) → C.Refused r ≡ asked k cs ts ds w n room places
+  module _ {s : Result Sizes Refusal} (is_s : s ≡ sizes_asked k cs ts ds n) where
+    pub sizes_refused : {r : Refusal} → s ≡ Err r → (w room places : ℕ) → Err r ≡ asked k cs ts ds w n room places
     sizes_refused {r} e w room places = by_count (dec_lt most_stands n)
       where
-        by_count : Dec (most_stands < n) → C.Refused r ≡ asked k cs ts ds w n room places
+        by_count : Dec (most_stands < n) → Err r ≡ asked k cs ts ds w n room places
         by_count (yes h) =
-            let is : S.Refused r ≡ S.Refused (too_many (framed k cs ts)) = sym e ∙ is_s ∙ many_asked h in
+            let is : ◌≡◌ {A = Result Sizes Refusal} (Err r) (Err (too_many (framed k cs ts))) = sym e ∙ is_s ∙ many_asked h in
             let same : r ≡ too_many (framed k cs ts) = cc in
-            ap C.Refused same ∙ many_refused k cs ts ds w n room places h
+            ap Err same ∙ many_refused k cs ts ds w n room places h
         by_count (no h) =
             let few : n ≤ most_stands = omega arith in
             plan_refused k cs ts ds w n room places few (sym (refused_likewise k cs ts ds (is_s ∙ few_asked few) e))
 
     -- the sizes are those of the lists, and the stands are not too many
-    pub lists_counted : {m l : ℕ} → s ≡ S.Of m l → (sizes_of k cs ts ds ≡ S.Of m l) × (n ≤ most_stands)
+    pub lists_counted : {m l : ℕ} → s ≡ Ok (record { cells = m; faces = l }) → (sizes_of k cs ts ds ≡ Ok (record { cells = m; faces = l })) × (n ≤ most_stands)
     lists_counted {m} {l} e = by_count (dec_lt most_stands n)
       where
-        by_count : Dec (most_stands < n) → (sizes_of k cs ts ds ≡ S.Of m l) × (n ≤ most_stands)
+        by_count : Dec (most_stands < n) → (sizes_of k cs ts ds ≡ Ok (record { cells = m; faces = l })) × (n ≤ most_stands)
         by_count (yes h) =
-            let is : S.Of m l ≡ S.Refused (too_many (framed k cs ts)) = sym e ∙ is_s ∙ many_asked h in
+            let is : ◌≡◌ {A = Result Sizes Refusal} (Ok (record { cells = m; faces = l })) (Err (too_many (framed k cs ts))) = sym e ∙ is_s ∙ many_asked h in
             let z : ◌≡◌ {A = ℕ} 0 1 = cc in
             absurd (omega arith)
         by_count (no h) =
@@ -158,13 +156,13 @@ module _ (k : ℕ) (cs : List ℤ) (ts ds : List ℕ) (n : ℕ) where
             (sym (few_asked few) ∙ sym is_s ∙ e, few)
 
 -- an answer that accepts grants
-pub grants : (k : ℕ) (cs : List ℤ) (ts ds : List ℕ) {w n room places : ℕ} {r : Checked} {p : Plan} → r ≡ asked k cs ts ds w n room places → r ≡ C.Accepted p → Granted k cs ts ds w n room places
+pub grants : (k : ℕ) (cs : List ℤ) (ts ds : List ℕ) {w n room places : ℕ} {r : Result Plan Refusal} {p : Plan} → r ≡ asked k cs ts ds w n room places → r ≡ Ok p → Granted k cs ts ds w n room places
 grants k cs ts ds {p = p} is e = record { plan = p; accepted = sym is ∙ e }
 
 -- what a call that is granted has
 pub record Grant (k : ℕ) (cs : List ℤ) (ts ds : List ℕ) (w n room places : ℕ) : Type 0 where
   pub plan : Plan
-  pub plan_accepted : checked k cs ts ds ≡ C.Accepted plan
+  pub plan_accepted : checked k cs ts ds ≡ Ok plan
   pub sound : Sound cs (cells_of k ts) ds
   pub setting_right : wrong_setting w (length ds) ≡ false
   pub few_stands : n ≤ most_stands
@@ -178,7 +176,7 @@ module _ (k : ℕ) (cs : List ℤ) (ts ds : List ℕ) (w n room places : ℕ) wh
       let t₁ = passed (ltb most_stands n) (too_many (framed k cs ts)) _ g.accepted in
       by_plan (ltb-false _ _ t₁.0) (checked k cs ts ds) refl t₁.1
     where
-      by_tests : n ≤ most_stands → (p : Plan) → checked k cs ts ds ≡ C.Accepted p → later k cs ts ds w n room places p ≡ C.Accepted g.plan → Grant k cs ts ds w n room places
+      by_tests : n ≤ most_stands → (p : Plan) → checked k cs ts ds ≡ Ok p → later k cs ts ds w n room places p ≡ Ok g.plan → Grant k cs ts ds w n room places
       by_tests few p h e =
           let t₂ = passed (wrong_setting w (length ds)) Setting _ e in
           let t₃ = passed (no_room (corner_count cs) n room places) Room _ t₂.1 in
@@ -193,9 +191,9 @@ module _ (k : ℕ) (cs : List ℤ) (ts ds : List ℕ) (w n room places : ℕ) wh
             replies_long = ltb-false _ _ enough.1;
           }
 
-      by_plan : n ≤ most_stands → (a : Checked) → checked k cs ts ds ≡ a → then_asked a (later k cs ts ds w n room places) ≡ C.Accepted g.plan → Grant k cs ts ds w n room places
-      by_plan few (C.Accepted p) h e = by_tests few p h e
-      by_plan few (C.Refused r) h e = absurd (never e)
+      by_plan : n ≤ most_stands → (a : Result Plan Refusal) → checked k cs ts ds ≡ a → then_asked a (later k cs ts ds w n room places) ≡ Ok g.plan → Grant k cs ts ds w n room places
+      by_plan few (Ok p) h e = by_tests few p h e
+      by_plan few (Err r) h e = absurd (never e)
         where
-          never : C.Refused r ≡ C.Accepted g.plan → ⊥
+          never : ◌≡◌ {A = Result Plan Refusal} (Err r) (Ok g.plan) → ⊥
           never e = let z : ◌≡◌ {A = ℕ} 0 1 = cc in omega arith

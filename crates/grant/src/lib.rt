@@ -11,22 +11,19 @@ ghost use Rattle.cells.specs.Sound.{Sound};
 ghost use Rattle.boxes.specs.Boxes.{Boxed};
 ghost use Rattle.grant.specs.Asked.{sizes_asked, asked};
 
-use checking::{Sizes, check_into, measure};
-use limits::{Checked, Plan, Refusal};
+use checking::{check_into, measure};
+use draw::Sizes;
+use limits::{Plan, Refusal};
 
 // The counts of cells and of faces, which say how much room the plan's tables need; or FRAME, or SIZE: of the plan, or for too many stands.
-pub fn measure_for(corners: &[i32], cells: &[u16], doors: &[u16], kind: u16, count: usize) -> Sizes
+pub fn measure_for(corners: &[i32], cells: &[u16], doors: &[u16], kind: u16, count: usize) -> Result<Sizes, Refusal>
     ensures { result ≡ sizes_asked kind corners.now cells.now doors.now count }
 {
-    match measure(corners, cells, doors, kind) {
-        Sizes::Refused(r) => Sizes::Refused(r),
-        Sizes::Of(m, n) => {
-            if Plan::MOST_STANDS < count {
-                return Sizes::Refused(Refusal::Size);
-            }
-            Sizes::Of(m, n)
-        }
+    let sizes = measure(corners, cells, doors, kind)?;
+    if Plan::MOST_STANDS < count {
+        return Err(Refusal::Size);
     }
+    Ok(sizes)
 }
 
 // Of lists that are framed and sized and of no more stands than are allowed: replies 3 to 7 and 11 in order, each with its place, or the counts of the
@@ -44,7 +41,7 @@ pub fn asked_in(
     firsts: &mut [u16],
     backs: &mut [u16],
     boxes: &mut [i32],
-) -> Checked
+) -> Result<Plan, Refusal>
     requires cells_value { (framed kind corners.now cells.now ≡ true) × (sized (corner_count corners.now) (cell_count (cells_of kind cells.now)) (length doors.now) ≡ true) }
     requires count_le_most_stands { count ≤ most_stands }
     requires faces_len { length faces.old ≡ 2 * face_count (cells_of kind cells.now) }
@@ -56,21 +53,12 @@ pub fn asked_in(
     ensures firsts_after { firsts.new ≡ (cells_of kind cells.now).firsts }
     ensures backed { Sound corners.now (cells_of kind cells.now) doors.now → (Backed (cells_of kind cells.now) backs.new × Boxed corners.now (cells_of kind cells.now) boxes.new) }
 {
-    match check_into(corners, cells, doors, kind, faces, firsts, backs, boxes) {
-        Checked::Refused(r) => Checked::Refused(r),
-        Checked::Accepted(plan) => {
-            let n = plan.corners;
-            let k = plan.doors;
-            if setting::is_wrong(setting, k) {
-                return Checked::Refused(Refusal::Setting);
-            }
-            if room < 4 * n * count {
-                return Checked::Refused(Refusal::Room);
-            }
-            if places < 3 * count {
-                return Checked::Refused(Refusal::Room);
-            }
-            Checked::Accepted(plan)
-        }
+    let plan = check_into(corners, cells, doors, kind, faces, firsts, backs, boxes)?;
+    if setting::is_wrong(setting, plan.doors) {
+        return Err(Refusal::Setting);
     }
+    if room < 4 * plan.corners * count || places < 3 * count {
+        return Err(Refusal::Room);
+    }
+    Ok(plan)
 }

@@ -1,9 +1,8 @@
 -- Answers in numbers (document 01, "Reply numbers"; document 02): reply number, place, and the values that come with 0.
-use Rattle.std.specs.Prelude.{List, [], ◌∷◌, ℕ}
+use Rattle.std.specs.Prelude.{List, [], ◌∷◌, ℕ, Err, Ok, Result}
 use Rattle.limits.specs.declared.Refusal.{Refusal}
 use Rattle.limits.specs.declared.Refusal.TheVariants.{Frame, Size, Corner, Cell, Neighbour, Door, Overlap, Setting, Stand, Line, Outside, Room, Change, Rows, Far, Reach, Ceiling}
-use Rattle.limits.specs.declared.Checked.{Checked}
-use Rattle.limits.specs.declared.Checked.TheVariants.{Accepted, Refused}
+use Rattle.limits.specs.declared.Plan.{Plan}
 
 abbrev pub number : Refusal → ℕ
 number Frame = 1
@@ -57,6 +56,6 @@ abbrev pub refused : Refusal → Reply
 refused r = record { number = number r; place = place r; values = [] }
 
 -- check, reader and writer: the counts of corners, cells and doors
-abbrev pub checked_reply : Checked → Reply
-checked_reply (Accepted p) = done (p.corners ∷ p.cells ∷ p.doors ∷ [])
-checked_reply (Refused r) = refused r
+abbrev pub checked_reply : Result Plan Refusal → Reply
+checked_reply (Ok p) = done (p.corners ∷ p.cells ∷ p.doors ∷ [])
+checked_reply (Err r) = refused r

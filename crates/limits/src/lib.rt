@@ -86,9 +86,3 @@ pub enum Refusal {
     Reach,
     Ceiling,
 }
-
-#[derive(Clone, Copy)]
-pub enum Checked {
-    Accepted(Plan),
-    Refused(Refusal),
-}

@@ -20,19 +20,17 @@ use Rattle.stand.specs.Find.{against, strictly_within, within_free, located, not
 use Rattle.stand.specs.declared.spot.Stand.TheVariants.{Point}
 use Rattle.fan.specs.Sight.{follow, numbers, row_count, crossings, fan, sides, lines_around, unentered, lines_seen, seen_from}
 use Rattle.sight.specs.Ceiling.{exceeds, listed_up_to}
-use Rattle.sight.specs.declared.ceiling.Ceiling.{Ceiling}
-use Rattle.sight.specs.declared.ceiling.Ceiling.TheVariants as No
-use Rattle.reach.specs.declared.Reach.TheVariants.{NotStated}
 use Rattle.reach.specs.Reach.{out_of_reach, far, wrong_reach}
 use Rattle.sight.specs.Listing.{no_room, viewed, listing_numbers, listing_row_count, listing_crossings, listed, placed}
-use Rattle.sight.specs.declared.list.Listed.{Listed}
-use Rattle.sight.specs.declared.list.Listed.TheVariants.{Rows, Refused}
 use Rattle.cells.specs.PlanQ.{corners_of_Q, cells_of_Q, doors_of_Q}
 use Rattle.manopluea.specs.Cases.{three, six, five, eleven, old, untouched}
+use Rattle.sight.specs.declared.list.Counts.{Counts}
+use Rattle.limits.specs.declared.Refusal.{Refusal}
+use Rattle.std.specs.Prelude.{Err, None, Ok, Option, Result, Some}
 
 -- from the point (x, y) under a setting, in a table
-abbrev from : ℕ → Float → Float → Ceiling → List ℕ → Listed × List ℕ
-from w x y c table = listed_up_to triangles corners_of_Q cells_of_Q doors_of_Q (record { setting = w; stand = Point x y; reach = NotStated }) c table
+abbrev from : ℕ → Float → Float → Option ℕ → List ℕ → Result Counts Refusal × List ℕ
+from w x y c table = listed_up_to triangles corners_of_Q cells_of_Q doors_of_Q (record { setting = w; stand = Point x y; reach = None }) c table
 
 -- the rows of case a, which are those of the doorway too, and those with the door shut
 abbrev rows : List ℕ
@@ -43,6 +41,6 @@ shut_rows = 0 ∷ 0 ∷ 1 ∷ 0 ∷ 1 ∷ 1 ∷ 2 ∷ 0 ∷ 2 ∷ 2 ∷ 0 ∷ 0 
 
 -- one crossing: exceeds 0, and is allowed by 1, by the largest number and by no ceiling. No crossing, with the door shut and in the doorway: allowed by 0. A table
 -- that is one short is 11 and a stand outside is 10, though the ceiling is exceeded
-pub ceilings_of_Q : (from 0 six three (No.Stated 0) untouched ∷ from 0 six three (No.Stated 1) untouched ∷ from 0 six three (No.Stated 18446744073709551615) untouched ∷ from 0 six three No.NotStated untouched ∷ from 1 six three (No.Stated 0) untouched ∷ from 0 five five (No.Stated 0) untouched ∷ from 0 six three (No.Stated 0) (replicate 15 old) ∷ from 0 eleven five (No.Stated 0) untouched ∷ []) ≡ ((Refused TooMany, untouched) ∷ (Rows 4 1, rows) ∷ (Rows 4 1, rows) ∷ (Rows 4 1, rows) ∷ (Rows 3 0, shut_rows ++ replicate 4 old) ∷ (Rows 4 0, rows) ∷ (Refused Room, replicate 15 old) ∷ (Refused Outside, untouched) ∷ [])
+pub ceilings_of_Q : (from 0 six three (Some 0) untouched ∷ from 0 six three (Some 1) untouched ∷ from 0 six three (Some 18446744073709551615) untouched ∷ from 0 six three None untouched ∷ from 1 six three (Some 0) untouched ∷ from 0 five five (Some 0) untouched ∷ from 0 six three (Some 0) (replicate 15 old) ∷ from 0 eleven five (Some 0) untouched ∷ []) ≡ ((Err TooMany, untouched) ∷ (Ok (record { rows = 4; crossings = 1 }), rows) ∷ (Ok (record { rows = 4; crossings = 1 }), rows) ∷ (Ok (record { rows = 4; crossings = 1 }), rows) ∷ (Ok (record { rows = 3; crossings = 0 }), shut_rows ++ replicate 4 old) ∷ (Ok (record { rows = 4; crossings = 0 }), rows) ∷ (Err Room, replicate 15 old) ∷ (Err Outside, untouched) ∷ [])
 unfolding of_bits side sized least home next start neighbour answers back cell_of cut_triangles cut_polygons cut pairs faces_of firsts_from tables cells_of framed outside wrong_corner some_face wrong_for_side missing_corner wrong_side wrong_cell wrong_neighbour names wrong_door strictly_left separates overlapping in_a_pair checked_cells checked shut wrong_setting bars ends whole whole_point stood not_left_of right_of against is_within strictly_within within_free minus dot located fan follow sides lines_around unentered lines_seen seen_from numbers row_count crossings placed viewed no_room listing_numbers listing_row_count listing_crossings listed listed_up_to exceeds out_of_reach far wrong_reach
 ceilings_of_Q = refl

@@ -21,9 +21,7 @@ use Rattle.setting.specs.Setting.{shut, with_shut, with_open, ends}
 use Rattle.setting.proofs.Settings.{opening_opens_the_door, shutting_undoes_opening}
 use Rattle.stand.specs.Spot.{stood}
 use Rattle.stand.specs.Find.{strictly_within, first_inside, first_within, side_at, by_places, located}
-use Rattle.stand.specs.declared.spot.Spot.{Spot}
 use Rattle.stand.specs.declared.locate.Footing.{Footing}
-use Rattle.stand.specs.declared.locate.Found.TheVariants as F
 use Rattle.stand.proofs.Located.{Stands, found_place_holds_the_stand}
 use Rattle.fan.specs.Sight.{Row}
 use Rattle.reach.specs.Reach.{range}
@@ -32,12 +30,7 @@ use Rattle.fan.specs.Once.{At}
 use Rattle.sight.specs.Listing.{unreached, plan_floor, sight_from, viewed, refuse, no_room, rows_from, listing_rows, listing_numbers, listing_row_count, listing_crossings, listed_from, listed}
 use Rattle.fan.specs.Written.{written, row_at, OneRow}
 use Rattle.sight.specs.declared.view.Query.{Query}
-use Rattle.sight.specs.declared.view.View.{View}
-use Rattle.sight.specs.declared.view.View.TheVariants as O
-use Rattle.sight.specs.declared.list.Listed.{Listed}
-use Rattle.sight.specs.declared.list.Listed.TheVariants as L
 use Rattle.sight.specs.Ceiling.{listed_up_to}
-use Rattle.sight.specs.declared.ceiling.Ceiling.{Ceiling}
 use Rattle.sight.proofs.UpTo.{as_without}
 use Rattle.sight.proofs.Sightings as Sightings
 use Rattle.fan.proofs.Tables.{length_of_rows, row_stands_there, one_row_of_the_table}
@@ -55,6 +48,9 @@ use Rattle.manopluea.specs.Conditions.{inside_some, within_some, on_some_border,
 use Rattle.manopluea.specs.Demands.{Demand1, HoldsDirection, InReachOfStand, Says, Sighted, Demand2, while_open, once_shut, RunByRun, Demand3}
 use Rattle.manopluea.specs.Demands.Says.{wall_in_reach, out_of_reach}
 use Rattle.manopluea.proofs.Replies.{check_answers, read_answers, write_answers, find_answers, list_answers, draw_answers, change_answers, list_stands_answers, numbers_tell_refusals_apart}
+use Rattle.sight.specs.declared.list.Counts.{Counts}
+use Rattle.sight.specs.declared.view.View.{View}
+use Rattle.std.specs.Prelude.{Err, Ok, Option, Result}
 
 -- Every plan file, however damaged, every stand and every door setting gets an ending and one fixed reply. Each refusal has its own number and exact
 -- condition and writes nothing into lent memory.
@@ -75,7 +71,7 @@ demand_1 =
 -- ---- a listing that replies rows
 
 module _ (kind : ℕ) (cs : List ℤ) (ts ds : List ℕ) (a : Query) (table : List ℕ) where
-  module _ {x y : ℤ} {p : Footing} (view : viewed kind cs ts ds a ≡ O.From x y p) (room : no_room cs table ≡ false) where
+  module _ {x y : ℤ} {p : Footing} (view : viewed kind cs ts ds a ≡ Ok (record { x = x; y = y; footing = p })) (room : no_room cs table ≡ false) where
     abbrev q : Point
     q = record { x = x; y = y }
 
@@ -86,16 +82,16 @@ module _ (kind : ℕ) (cs : List ℤ) (ts ds : List ℕ) (a : Query) (table : Li
     stands_there = found_place_holds_the_stand cs (numbered kind ts) ds a.setting q says.spotted.stand_place
 
     -- count, crossings and the first numbers of the table are the expansion's
-    module _ {n k : ℕ} {t : List ℕ} (e : listed kind cs ts ds a table ≡ (L.Rows n k, t)) where
-      from_the_view : (L.Rows n k, t) ≡ rows_from cs (cells_of kind ts) ds a.setting (range a.reach) table q p
+    module _ {n k : ℕ} {t : List ℕ} (e : listed kind cs ts ds a table ≡ (Ok (record { rows = n; crossings = k }), t)) where
+      from_the_view : (Ok (record { rows = n; crossings = k }), t) ≡ rows_from cs (cells_of kind ts) ds a.setting (range a.reach) table q p
       unfolding listed
       from_the_view =
           sym e
           ∙ ap (listed_from cs (cells_of kind ts) ds a.setting (range a.reach) table) view
           ∙ ap (λ (r : Bool). refuse r Room table (rows_from cs (cells_of kind ts) ds a.setting (range a.reach) table q p)) room
 
-      answer_is : L.Rows n k ≡ L.Rows (listing_row_count cs (cells_of kind ts) ds a.setting (range a.reach) q p) (listing_crossings cs (cells_of kind ts) ds a.setting (range a.reach) q p)
-      answer_is = ap (λ (p : Listed × List ℕ). p.0) from_the_view
+      answer_is : ◌≡◌ {A = Result Counts Refusal} (Ok (record { rows = n; crossings = k })) (Ok (record { rows = listing_row_count cs (cells_of kind ts) ds a.setting (range a.reach) q p; crossings = listing_crossings cs (cells_of kind ts) ds a.setting (range a.reach) q p }))
+      answer_is = ap (λ (p : Result Counts Refusal × List ℕ). p.0) from_the_view
 
       pub row_count_is : n ≡ listing_row_count cs (cells_of kind ts) ds a.setting (range a.reach) q p
       row_count_is = let h = answer_is in cc
@@ -104,7 +100,7 @@ module _ (kind : ℕ) (cs : List ℤ) (ts ds : List ℕ) (a : Query) (table : Li
       crossings_are = let h = answer_is in cc
 
       pub first_numbers_are : take (4 * n) t ≡ listing_numbers cs (cells_of kind ts) ds a.setting (range a.reach) q p
-      first_numbers_are = listed_anew says.sound a.setting (range a.reach) q p says.spotted.stand_place table row_count_is (has_room cs table room) (ap (λ (p : Listed × List ℕ). p.1) from_the_view)
+      first_numbers_are = listed_anew says.sound a.setting (range a.reach) q p says.spotted.stand_place table row_count_is (has_room cs table room) (ap (λ (p : Result Counts Refusal × List ℕ). p.1) from_the_view)
 
 -- ---- demand 2
 
@@ -121,14 +117,14 @@ module _ (cs : List ℤ) (T : Cells) (ds : List ℕ) (w R : ℕ) (q : Point) whe
       by_reach true h = subst (Says cs T ds w R q f) (sym (out_of_reach_is_1 R _ _ h)) (out_of_reach (does_not_reach R _ _ h))
       by_reach false h = subst (Says cs T ds w R q f) (sym (in_reach_is_0 R _ _ h)) (wall_in_reach (as_a_wall h (one_true _ _ ends_there)) (reaches R _ _ h))
 
-module _ (kind : ℕ) (cs : List ℤ) (ts ds : List ℕ) (a : Query) (table : List ℕ) {n k : ℕ} (e : (listed kind cs ts ds a table).0 ≡ L.Rows n k) where
-  pub whole : listed kind cs ts ds a table ≡ (L.Rows n k, (listed kind cs ts ds a table).1)
+module _ (kind : ℕ) (cs : List ℤ) (ts ds : List ℕ) (a : Query) (table : List ℕ) {n k : ℕ} (e : (listed kind cs ts ds a table).0 ≡ Ok (record { rows = n; crossings = k })) where
+  pub whole : listed kind cs ts ds a table ≡ (Ok (record { rows = n; crossings = k }), (listed kind cs ts ds a table).1)
   whole = λ j. (e j, (listed kind cs ts ds a table).1)
 
   from_there : Seen kind cs ts ds a table
   from_there = rows_are_seen kind cs ts ds a table e
 
-  module _ {x y : ℤ} {p : Footing} (view : viewed kind cs ts ds a ≡ O.From x y p) (room : no_room cs table ≡ false) where
+  module _ {x y : ℤ} {p : Footing} (view : viewed kind cs ts ds a ≡ Ok (record { x = x; y = y; footing = p })) (room : no_room cs table ≡ false) where
     abbrev point : Point
     point = record { x = x; y = y }
 
@@ -169,27 +165,27 @@ module _ (kind : ℕ) (cs : List ℤ) (ts ds : List ℕ) (a : Query) (table : Li
         let few = Sightings.rows_never_outnumber_corners says.sound a.setting (range a.reach) point p (stands_there kind cs ts ds a table view room) in
         let count = row_count_is kind cs ts ds a table view room whole in
         let long = length_of_rows rows in
-        ap (λ (p : Listed × List ℕ). drop (4 * n) p.1) (list_writes_the_rows kind cs ts ds a table view room)
+        ap (λ (p : Result Counts Refusal × List ℕ). drop (4 * n) p.1) (list_writes_the_rows kind cs ts ds a table view room)
         ∙ rest_is_kept table (written rows) (4 * n) (omega (arith, count_is)) (omega (arith, has_room cs table room))
 
 -- On an accepted plan rows, order and crossings are those of the published triangular expansion, and every direction whose ray meets no corner is held
 -- by exactly one row, whose wall is the first met walking cell by cell; whichever ceiling they keep to.
-pub demand_2 : (kind : ℕ) (cs : List ℤ) (ts ds : List ℕ) (a : Query) (c : Ceiling) (table : List ℕ) → Demand2 kind cs ts ds a table (listed_up_to kind cs ts ds a c table).0 (listed_up_to kind cs ts ds a c table).1
+pub demand_2 : (kind : ℕ) (cs : List ℤ) (ts ds : List ℕ) (a : Query) (c : Option ℕ) (table : List ℕ) → Demand2 kind cs ts ds a table (listed_up_to kind cs ts ds a c table).0 (listed_up_to kind cs ts ds a c table).1
 demand_2 kind cs ts ds a c table =
     record {
       sighted = λ n k e.
           let same = as_without kind cs ts ds a c table (rows_are_no_refusal e) in
           let alone = sym (ap answer same) ∙ e in
           let v = from_there kind cs ts ds a table alone in
-          subst (λ (l : Listed × List ℕ). Sighted kind cs ts ds a n k l.1) (sym same) (sighted_from kind cs ts ds a table alone v.view v.room);
+          subst (λ (l : Result Counts Refusal × List ℕ). Sighted kind cs ts ds a n k l.1) (sym same) (sighted_from kind cs ts ds a table alone v.view v.room);
       beyond = λ n k e.
           let same = as_without kind cs ts ds a c table (rows_are_no_refusal e) in
           let alone = sym (ap answer same) ∙ e in
           let v = from_there kind cs ts ds a table alone in
-          ap (λ (l : Listed × List ℕ). drop (4 * n) l.1) same ∙ kept_beyond kind cs ts ds a table alone v.view v.room;
+          ap (λ (l : Result Counts Refusal × List ℕ). drop (4 * n) l.1) same ∙ kept_beyond kind cs ts ds a table alone v.view v.room;
     }
   where
-    answer : Listed × List ℕ → Listed
+    answer : Result Counts Refusal × List ℕ → Result Counts Refusal
     answer l = l.0
 
 -- ---- demand 3
@@ -200,17 +196,17 @@ module _ (kind : ℕ) (cs : List ℤ) (ts ds : List ℕ) (a : Query) (given : Li
     x : ℤ
     y : ℤ
     p : Footing
-    view : viewed kind cs ts ds a ≡ O.From x y p
+    view : viewed kind cs ts ds a ≡ Ok (record { x = x; y = y; footing = p })
     clear : underfoot cs (cells_of kind ts) ds i (record { x = x; y = y }) p ≡ false
     room : no_room cs table ≡ false
     exists : i < length ds
     otherwise : in_state b a.setting i ≡ false
     is_true : given ≡ listing_numbers cs (cells_of kind ts) ds a.setting (range a.reach) (record { x = x; y = y }) p
 
-  no_rows : {r : Refusal} {n k : ℕ} → (changed kind cs ts ds a given i b table).0 ≡ L.Rows n k → changed kind cs ts ds a given i b table ≡ (L.Refused r, table) → ⊥
-  no_rows e f = rows_are_no_refusal e (ap (λ (p : Listed × List ℕ). p.0) f)
+  no_rows : {r : Refusal} {n k : ℕ} → (changed kind cs ts ds a given i b table).0 ≡ Ok (record { rows = n; crossings = k }) → changed kind cs ts ds a given i b table ≡ (Err r, table) → ⊥
+  no_rows e f = rows_are_no_refusal e (ap (λ (p : Result Counts Refusal × List ℕ). p.0) f)
 
-  module _ {n k : ℕ} (e : (changed kind cs ts ds a given i b table).0 ≡ L.Rows n k) {x y : ℤ} {p : Footing} (view : viewed kind cs ts ds a ≡ O.From x y p) where
+  module _ {n k : ℕ} (e : (changed kind cs ts ds a given i b table).0 ≡ Ok (record { rows = n; crossings = k })) {x y : ℤ} {p : Footing} (view : viewed kind cs ts ds a ≡ Ok (record { x = x; y = y; footing = p })) where
     abbrev here : Point
     here = record { x = x; y = y }
 
@@ -237,21 +233,21 @@ module _ (kind : ℕ) (cs : List ℤ) (ts ds : List ℕ) (a : Query) (given : Li
     by_line true t = absurd (no_rows e (a_door_underfoot_is_refused kind cs ts ds a given i b table view t))
     by_line false t = by_room t (no_room cs table) refl
 
-  passed : {n k : ℕ} → (changed kind cs ts ds a given i b table).0 ≡ L.Rows n k → Passed
+  passed : {n k : ℕ} → (changed kind cs ts ds a given i b table).0 ≡ Ok (record { rows = n; crossings = k }) → Passed
   passed e = by_view (viewed kind cs ts ds a) refl
     where
-      by_view : (v : View) → viewed kind cs ts ds a ≡ v → Passed
-      by_view (O.From x y p) h = by_line e h (underfoot cs (cells_of kind ts) ds i (record { x = x; y = y }) p) refl
-      by_view (O.Refused r) h = absurd (no_rows e (sym (change_refused kind cs ts ds a given i b table h)))
+      by_view : (v : Result View Refusal) → viewed kind cs ts ds a ≡ v → Passed
+      by_view (Ok v) h = by_line e h (underfoot cs (cells_of kind ts) ds i (record { x = v.x; y = v.y }) v.footing) refl
+      by_view (Err r) h = absurd (no_rows e (sym (change_refused kind cs ts ds a given i b table h)))
 
-  module _ {x y : ℤ} {p : Footing} (view : viewed kind cs ts ds a ≡ O.From x y p) (clear : underfoot cs (cells_of kind ts) ds i (record { x = x; y = y }) p ≡ false) (room : no_room cs table ≡ false) (exists : i < length ds) (otherwise : in_state b a.setting i ≡ false) where
+  module _ {x y : ℤ} {p : Footing} (view : viewed kind cs ts ds a ≡ Ok (record { x = x; y = y; footing = p })) (clear : underfoot cs (cells_of kind ts) ds i (record { x = x; y = y }) p ≡ false) (room : no_room cs table ≡ false) (exists : i < length ds) (otherwise : in_state b a.setting i ≡ false) where
     abbrev q₀ : Point
     q₀ = record { x = x; y = y }
 
     holds : Viewed kind cs ts ds a x y p
     holds = view_says kind cs ts ds a view
 
-    new_view : viewed kind cs ts ds (wished_for b a i) ≡ O.From x y p
+    new_view : viewed kind cs ts ds (wished_for b a i) ≡ Ok (record { x = x; y = y; footing = p })
     new_view = same_view kind cs ts ds a given i b table view clear room exists otherwise
 
     -- it stands so under both settings
@@ -305,7 +301,7 @@ module _ (kind : ℕ) (cs : List ℤ) (ts ds : List ℕ) (a : Query) (given : Li
       fresh_from : changed kind cs ts ds a given i b table ≡ listed kind cs ts ds (wished_for b a i) table
       fresh_from = the_change_is_a_fresh_listing kind cs ts ds a given i b table view clear room exists otherwise is_true
 
-      run_by_run_from : {n k : ℕ} → (changed kind cs ts ds a given i b table).0 ≡ L.Rows n k → RunByRun kind cs ts ds a given i b n (changed kind cs ts ds a given i b table).1
+      run_by_run_from : {n k : ℕ} → (changed kind cs ts ds a given i b table).0 ≡ Ok (record { rows = n; crossings = k }) → RunByRun kind cs ts ds a given i b n (changed kind cs ts ds a given i b table).1
       run_by_run_from {n} {k} e =
           record {
             old = seen a.setting;
@@ -332,23 +328,23 @@ module _ (kind : ℕ) (cs : List ℤ) (ts ds : List ℕ) (a : Query) (given : Li
               subst (λ (v : ℕ). RowByRow false (seen v) (seen (with_open a.setting i))) back_again (sym untouched_stand, (runs_are, λ away. let (none, same) = kept away in (none, sym same)))
 
   -- the door of the line stood on, by where the stand is and by where it was found
-  found_clear : {x y : ℤ} {p : Footing} → viewed kind cs ts ds a ≡ O.From x y p → door_underfoot cs (cells_of kind ts) ds a.setting i (stood cs a.stand) ≡ false → underfoot cs (cells_of kind ts) ds i (record { x = x; y = y }) p ≡ false
+  found_clear : {x y : ℤ} {p : Footing} → viewed kind cs ts ds a ≡ Ok (record { x = x; y = y; footing = p }) → door_underfoot cs (cells_of kind ts) ds a.setting i (stood cs a.stand) ≡ false → underfoot cs (cells_of kind ts) ds i (record { x = x; y = y }) p ≡ false
   unfolding underfoot located
   found_clear {x} {y} {p} view e =
       let says = (view_says kind cs ts ds a view).spotted in
       by_place (inside_some cs (cells_of kind ts) q) (within_some cs (cells_of kind ts) ds a.setting q) (on_some_border cs (cells_of kind ts) q) p says.stand_place
-      (subst (λ (spot : Spot). door_underfoot cs (cells_of kind ts) ds a.setting i spot ≡ false) says.stand_is e)
+      (subst (λ (spot : Option (ℤ × ℤ)). door_underfoot cs (cells_of kind ts) ds a.setting i spot ≡ false) says.stand_is e)
     where
       q : Point
       q = record { x = x; y = y }
 
-      at_p : {a c : Footing} → F.At a ≡ F.At c → a ≡ c
+      at_p : {a c : Footing} → ◌≡◌ {A = Result Footing Refusal} (Ok a) (Ok c) → a ≡ c
       at_p e = cc
 
-      none : {r : Refusal} {f : Footing} → F.Refused r ≡ F.At f → ⊥
+      none : {r : Refusal} {f : Footing} → ◌≡◌ {A = Result Footing Refusal} (Err r) (Ok f) → ⊥
       none e = let z : ◌≡◌ {A = ℕ} 0 1 = cc in omega arith
 
-      by_place : (inside within border : Bool) (f : Footing) → by_places inside within border (first_inside cs (cells_of kind ts) (record { x = x; y = y })) (side_at (cells_of kind ts) (first_within cs (cells_of kind ts) ds a.setting (record { x = x; y = y }))) ≡ F.At f → (not inside && within && ltb i (length ds) && strictly_within cs (cells_of kind ts) (record { x = x; y = y }) (get_or ds i 0)) ≡ false → underfoot cs (cells_of kind ts) ds i (record { x = x; y = y }) f ≡ false
+      by_place : (inside within border : Bool) (f : Footing) → by_places inside within border (first_inside cs (cells_of kind ts) (record { x = x; y = y })) (side_at (cells_of kind ts) (first_within cs (cells_of kind ts) ds a.setting (record { x = x; y = y }))) ≡ Ok f → (not inside && within && ltb i (length ds) && strictly_within cs (cells_of kind ts) (record { x = x; y = y }) (get_or ds i 0)) ≡ false → underfoot cs (cells_of kind ts) ds i (record { x = x; y = y }) f ≡ false
       by_place true within border f at u = subst (λ (f : Footing). underfoot cs (cells_of kind ts) ds i (record { x = x; y = y }) f ≡ false) (at_p at) refl
       by_place false true border f at u = subst (λ (f : Footing). underfoot cs (cells_of kind ts) ds i (record { x = x; y = y }) f ≡ false) (at_p at) u
       by_place false false true f at u = absurd (none at)
@@ -367,12 +363,12 @@ demand_3 kind cs ts ds a given i b table =
       fresh = λ n k e. let p = passed kind cs ts ds a given i b table e in fresh_from kind cs ts ds a given i b table p.view p.clear p.room p.exists p.otherwise p.is_true;
       run_by_run = λ n k e. let p = passed kind cs ts ds a given i b table e in run_by_run_from kind cs ts ds a given i b table p.view p.clear p.room p.exists p.otherwise p.is_true e;
       from_the_true_list = λ n k t e u o same.
-          let v = rows_are_seen kind cs ts ds a table (ap (λ (p : Listed × List ℕ). p.0) e) in
+          let v = rows_are_seen kind cs ts ds a table (ap (λ (p : Result Counts Refusal × List ℕ). p.0) e) in
           let (exists, otherwise) = may_change kind cs ts ds a given i b table o in
           fresh_from kind cs ts ds a given i b table v.view (found_clear kind cs ts ds a given i b table v.view u) v.room exists otherwise
           (same ∙ first_numbers_are kind cs ts ds a table v.view v.room e);
       from_another_list = λ n k t e u o apart.
-          let v = rows_are_seen kind cs ts ds a table (ap (λ (p : Listed × List ℕ). p.0) e) in
+          let v = rows_are_seen kind cs ts ds a table (ap (λ (p : Result Counts Refusal × List ℕ). p.0) e) in
           let (exists, otherwise) = may_change kind cs ts ds a given i b table o in
           a_list_that_is_not_true_is_refused kind cs ts ds a given i b table v.view (found_clear kind cs ts ds a given i b table v.view u) v.room exists otherwise
           (λ same. apart (same ∙ sym (first_numbers_are kind cs ts ds a table v.view v.room e)));

@@ -21,15 +21,12 @@ use Rattle.limits.specs.declared.Refusal.TheVariants.{Far}
 use Rattle.cells.specs.Cut.{cells_of}
 use Rattle.reach.specs.Reach.{range}
 use Rattle.stand.specs.Spot.{stood}
-use Rattle.stand.specs.declared.spot.Spot.TheVariants.{At}
 use Rattle.fan.specs.Sight.{Row}
 use Rattle.fan.specs.Once as Once
 use Rattle.fan.specs.Written.{row_at}
 use Rattle.fan.proofs.Tables.{row_stands_there, place_is_within, one_at_a_place}
 use Rattle.sight.specs.Listing.{seen, no_room, listing_rows, listing_row_count, listing_crossings, listed}
 use Rattle.sight.specs.declared.view.Query.{Query}
-use Rattle.sight.specs.declared.list.Listed.{Listed}
-use Rattle.sight.specs.declared.list.Listed.TheVariants.{Rows, Refused}
 use Rattle.sight.proofs.Views.{view_says, has_room, Seen, rows_are_seen, refused_by_the_view}
 use Rattle.sight.proofs.Written.{the_count_is_the_rows, list_writes_the_rows, the_table_holds_the_rows}
 use Rattle.tablet.specs.Drawing.{far, row_far, any_far, row_offsets, offsets_of, drawn}
@@ -38,6 +35,9 @@ use Rattle.tablet.proofs.Rows.{not_far_right, not_far_left}
 use Rattle.tablet.proofs.Drawn.{view_refused, room_refused, far_refused, none_far_is_drawn, DrawnFrom, rows_are_drawn, seen_is_told}
 use Rattle.tablet.proofs.Numbers.{exact, no_minus_zero, length_of_offsets, number_stands, a_row_is_far, no_row_is_far, some_row_is_far}
 use Rattle.manopluea.specs.Drawings.{Drawn, RowDrawn, TooFar, NamesTooFar, RowsDrawn, DrawsTheListing}
+use Rattle.sight.specs.declared.list.Counts.{Counts}
+use Rattle.limits.specs.declared.Refusal.{Refusal}
+use Rattle.std.specs.Prelude.{Err, Ok, Result, Some, Option}
 
 -- ---- too far, by the definition's test and in words
 
@@ -104,50 +104,50 @@ module _ (kind : ℕ) (cs : List ℤ) (ts ds : List ℕ) (a : Query) (before : L
         subst (λ (t : List ℕ). Once.At (row_at t i) rs i) (sym (the_table_holds_the_rows kind cs ts ds a table s.view s.room))
         (row_stands_there rs (drop (4 * length rs) table) i h)
 
-    rows_are : {n c : ℕ} → (listed kind cs ts ds a table).0 ≡ Rows n c → Rows n c ≡ Rows (length rs) (listing_crossings cs (cells_of kind ts) ds a.setting (range a.reach) q s.p)
-    rows_are e = sym e ∙ ap (λ (p : Listed × List ℕ). p.0) (list_writes_the_rows kind cs ts ds a table s.view s.room)
+    rows_are : {n c : ℕ} → (listed kind cs ts ds a table).0 ≡ Ok (record { rows = n; crossings = c }) → ◌≡◌ {A = Result Counts Refusal} (Ok (record { rows = n; crossings = c })) (Ok (record { rows = length rs; crossings = listing_crossings cs (cells_of kind ts) ds a.setting (range a.reach) q s.p }))
+    rows_are e = sym e ∙ ap (λ (p : Result Counts Refusal × List ℕ). p.0) (list_writes_the_rows kind cs ts ds a table s.view s.room)
 
-    counted : {n c : ℕ} → (listed kind cs ts ds a table).0 ≡ Rows n c → n ≡ length rs
+    counted : {n c : ℕ} → (listed kind cs ts ds a table).0 ≡ Ok (record { rows = n; crossings = c }) → n ≡ length rs
     counted e = let h = rows_are e in cc
 
     -- the stand's own point
-    same_point : (x y : ℤ) → stood cs a.stand ≡ At x y → ◌≡◌ {A = Point} (record { x = x; y = y }) q
+    same_point : (x y : ℤ) → stood cs a.stand ≡ Some (x, y) → ◌≡◌ {A = Point} (record { x = x; y = y }) q
     same_point x y e =
-        let f : At s.x s.y ≡ At x y = sym (view_says kind cs ts ds a s.view).spotted.stand_is ∙ e in
+        let f : ◌≡◌ {A = Option (ℤ × ℤ)} (Some (s.x, s.y)) (Some (x, y)) = sym (view_says kind cs ts ds a s.view).spotted.stand_is ∙ e in
         let same_x : x ≡ s.x = cc in
         let same_y : y ≡ s.y = cc in
         ap₂ (λ (x y : ℤ). record { x = x; y = y }) same_x same_y
 
-    too_far_there : no_room cs before ≡ false → {i : ℕ} → i < length rs → NamesTooFar cs q (row_at (listed kind cs ts ds a table).1 i) → drawn kind cs ts ds a before ≡ (Refused Far, before)
+    too_far_there : no_room cs before ≡ false → {i : ℕ} → i < length rs → NamesTooFar cs q (row_at (listed kind cs ts ds a table).1 i) → drawn kind cs ts ds a before ≡ (Err Far, before)
     too_far_there room {i} h f =
         sym (far_refused kind cs ts ds a before s.view room (a_row_is_far cs q (row_there i h) (words_are_row cs q (row_at (listed kind cs ts ds a table).1 i) f)))
 
-    near_enough_there : {n c : ℕ} → (listed kind cs ts ds a table).0 ≡ Rows n c → no_room cs before ≡ false → ((i : ℕ) → i < n → NamesTooFar cs q (row_at (listed kind cs ts ds a table).1 i) → ⊥) → (b : Bool) → any_far cs q rs ≡ b → (drawn kind cs ts ds a before).0 ≡ Rows n c
+    near_enough_there : {n c : ℕ} → (listed kind cs ts ds a table).0 ≡ Ok (record { rows = n; crossings = c }) → no_room cs before ≡ false → ((i : ℕ) → i < n → NamesTooFar cs q (row_at (listed kind cs ts ds a table).1 i) → ⊥) → (b : Bool) → any_far cs q rs ≡ b → (drawn kind cs ts ds a before).0 ≡ Ok (record { rows = n; crossings = c })
     near_enough_there e room none true f =
         let r = some_row_is_far cs q rs f in
         let within : r.place < length rs = place_is_within r.stands in
         let same = one_at_a_place (row_there r.place within) r.stands in
         absurd (none r.place (omega (arith, within, counted e)) (subst (NamesTooFar cs q) (sym same) (row_in_words cs q r.row r.is_far)))
     near_enough_there e room none false f =
-        ap (λ (p : Listed × List Float). p.0) (sym (none_far_is_drawn kind cs ts ds a before s.view room f))
-        ∙ ap (λ (n : ℕ). Rows n (listing_crossings cs (cells_of kind ts) ds a.setting (range a.reach) q s.p)) count
+        ap (λ (p : Result Counts Refusal × List Float). p.0) (sym (none_far_is_drawn kind cs ts ds a before s.view room f))
+        ∙ ap (λ (n : ℕ). Ok (record { rows = n; crossings = listing_crossings cs (cells_of kind ts) ds a.setting (range a.reach) q s.p })) count
         ∙ sym (rows_are e)
 
   -- what was drawn
-  module _ (room : no_room cs table ≡ false) {n c : ℕ} {after : List Float} (e : drawn kind cs ts ds a before ≡ (Rows n c, after)) where
+  module _ (room : no_room cs table ≡ false) {n c : ℕ} {after : List Float} (e : drawn kind cs ts ds a before ≡ (Ok (record { rows = n; crossings = c }), after)) where
     abbrev from : DrawnFrom kind cs ts ds a before n c after
     from = rows_are_drawn kind cs ts ds a before e
 
     abbrev from_there : Seen kind cs ts ds a table
     from_there = record { x = from.x; y = from.y; p = from.p; view = from.view; room = room }
 
-    same_counts : Rows (listing_row_count cs (cells_of kind ts) ds a.setting (range a.reach) (q from_there) from.p) (listing_crossings cs (cells_of kind ts) ds a.setting (range a.reach) (q from_there) from.p) ≡ Rows n c
-    same_counts = ap (λ (p : Listed × List Float). p.0) from.is
+    same_counts : ◌≡◌ {A = Result Counts Refusal} (Ok (record { rows = listing_row_count cs (cells_of kind ts) ds a.setting (range a.reach) (q from_there) from.p; crossings = listing_crossings cs (cells_of kind ts) ds a.setting (range a.reach) (q from_there) from.p })) (Ok (record { rows = n; crossings = c }))
+    same_counts = ap (λ (p : Result Counts Refusal × List Float). p.0) from.is
 
-    listed_alike : (listed kind cs ts ds a table).0 ≡ Rows n c
+    listed_alike : (listed kind cs ts ds a table).0 ≡ Ok (record { rows = n; crossings = c })
     listed_alike =
-        ap (λ (p : Listed × List ℕ). p.0) (list_writes_the_rows kind cs ts ds a table from.view room)
-        ∙ ap (λ (n : ℕ). Rows n (listing_crossings cs (cells_of kind ts) ds a.setting (range a.reach) (q from_there) from.p)) (sym (count from_there))
+        ap (λ (p : Result Counts Refusal × List ℕ). p.0) (list_writes_the_rows kind cs ts ds a table from.view room)
+        ∙ ap (λ (n : ℕ). Ok (record { rows = n; crossings = listing_crossings cs (cells_of kind ts) ds a.setting (range a.reach) (q from_there) from.p })) (sym (count from_there))
         ∙ same_counts
 
     n_is : n ≡ length (rs from_there)
@@ -157,7 +157,7 @@ module _ (kind : ℕ) (cs : List ℤ) (ts ds : List ℕ) (a : Query) (before : L
     enough = omega (arith, has_room cs before from.room, (seen_is_told kind cs ts ds a from_there).few_rows)
 
     after_is : after ≡ sets before 0 (offsets_of cs (q from_there) (rs from_there))
-    after_is = ap (λ (p : Listed × List Float). p.1) (sym from.is)
+    after_is = ap (λ (p : Result Counts Refusal × List Float). p.1) (sym from.is)
 
     rows_there : RowsDrawn kind cs ts ds a n (listed kind cs ts ds a table).1 before after
     rows_there =
@@ -195,5 +195,5 @@ draws_the_listing kind cs ts ds a before table room =
     }
 
 -- the promise of the drawing leaves one reply and one list
-pub draw_has_one_reply : (kind : ℕ) (cs : List ℤ) (ts ds : List ℕ) (a : Query) (before : List Float) {r s : Listed × List Float} → r ≡ drawn kind cs ts ds a before → s ≡ drawn kind cs ts ds a before → r ≡ s
+pub draw_has_one_reply : (kind : ℕ) (cs : List ℤ) (ts ds : List ℕ) (a : Query) (before : List Float) {r s : Result Counts Refusal × List Float} → r ≡ drawn kind cs ts ds a before → s ≡ drawn kind cs ts ds a before → r ≡ s
 draw_has_one_reply kind cs ts ds a before h i = h ∙ sym i

@@ -10,8 +10,6 @@ use lib.IntN.{ℤ}
 use lib.Ieee.{Float}
 use Rattle.limits.specs.Limits.{most_stands, triangles, polygons}
 use Rattle.limits.specs.declared.Refusal.TheVariants.{Frame, Setting, Room}
-use Rattle.limits.specs.declared.Checked.{Checked}
-use Rattle.limits.specs.declared.Checked.TheVariants.{Accepted}
 use Rattle.cells.specs.Lists.{Cells, corner_count}
 use Rattle.cells.specs.Cut.{Cell, Cut, cut, is_whole, as_polygons, cells_of}
 use Rattle.cells.specs.Cut.Cut.{whole}
@@ -22,16 +20,18 @@ use Rattle.stand.specs.declared.spot.Stand.{Stand}
 use Rattle.sight.specs.Listing.{view_of_plan, viewed, listed_from, listed}
 use Rattle.reach.specs.Reach.{range}
 use Rattle.sight.specs.declared.view.Query.{Query}
-use Rattle.sight.specs.declared.ceiling.Ceiling.{Ceiling}
 use Rattle.sight.specs.Ceiling.{up_to, listed_up_to}
-use Rattle.sight.specs.declared.view.View.{View}
-use Rattle.sight.specs.declared.list.Listed.{Listed}
 use Rattle.tablet.specs.Drawing.{drawn_from, drawn}
 use Rattle.doors.specs.Change.{changed_from, changed}
 use Rattle.setting.specs.Setting.{wrong_setting}
 use Rattle.grant.specs.Asked.{too_many, no_room, then_asked, asked}
 use Rattle.morning.specs.declared.Morning.{Morning}
 use Rattle.morning.specs.Morning.{query_of, single, stands_from, listed_stands}
+use Rattle.sight.specs.declared.list.Counts.{Counts}
+use Rattle.limits.specs.declared.Plan.{Plan}
+use Rattle.limits.specs.declared.Refusal.{Refusal}
+use Rattle.sight.specs.declared.view.View.{View}
+use Rattle.std.specs.Prelude.{Ok, Option, Result}
 
 -- two lists of cells, each in its kind, that are the same cells and are framed alike
 module _ (k l : ℕ) (ts us : List ℕ) (cells : cells_of k ts ≡ cells_of l us) (alike : (cs : List ℤ) → framed k cs ts ≡ framed l cs us) where
@@ -41,37 +41,37 @@ module _ (k l : ℕ) (ts us : List ℕ) (cells : cells_of k ts ≡ cells_of l us
 
   same_finding : (cs : List ℤ) (ds : List ℕ) (w : ℕ) (s : Stand) → found k cs ts ds w s ≡ found l cs us ds w s
   unfolding found
-  same_finding cs ds w s = ap₂ (λ (T : Cells) (r : Checked). with_plan cs T ds w s r) cells (same_check cs ds)
+  same_finding cs ds w s = ap₂ (λ (T : Cells) (r : Result Plan Refusal). with_plan cs T ds w s r) cells (same_check cs ds)
 
   same_view : (cs : List ℤ) (ds : List ℕ) (a : Query) → viewed k cs ts ds a ≡ viewed l cs us ds a
   unfolding viewed
-  same_view cs ds a = ap₂ (λ (T : Cells) (r : Checked). view_of_plan cs T ds a r) cells (same_check cs ds)
+  same_view cs ds a = ap₂ (λ (T : Cells) (r : Result Plan Refusal). view_of_plan cs T ds a r) cells (same_check cs ds)
 
   same_listing : (cs : List ℤ) (ds : List ℕ) (a : Query) (table : List ℕ) → listed k cs ts ds a table ≡ listed l cs us ds a table
   unfolding listed
-  same_listing cs ds a table = ap₂ (λ (T : Cells) (v : View). listed_from cs T ds a.setting (range a.reach) table v) cells (same_view cs ds a)
+  same_listing cs ds a table = ap₂ (λ (T : Cells) (v : Result View Refusal). listed_from cs T ds a.setting (range a.reach) table v) cells (same_view cs ds a)
 
-  same_listing_up_to : (cs : List ℤ) (ds : List ℕ) (a : Query) (c : Ceiling) (table : List ℕ) → listed_up_to k cs ts ds a c table ≡ listed_up_to l cs us ds a c table
+  same_listing_up_to : (cs : List ℤ) (ds : List ℕ) (a : Query) (c : Option ℕ) (table : List ℕ) → listed_up_to k cs ts ds a c table ≡ listed_up_to l cs us ds a c table
   unfolding listed_up_to
   same_listing_up_to cs ds a c table = ap (up_to c table) (same_listing cs ds a table)
 
   same_drawing : (cs : List ℤ) (ds : List ℕ) (a : Query) (lent : List Float) → drawn k cs ts ds a lent ≡ drawn l cs us ds a lent
   unfolding drawn
-  same_drawing cs ds a lent = ap₂ (λ (T : Cells) (v : View). drawn_from cs T ds a.setting (range a.reach) lent v) cells (same_view cs ds a)
+  same_drawing cs ds a lent = ap₂ (λ (T : Cells) (v : Result View Refusal). drawn_from cs T ds a.setting (range a.reach) lent v) cells (same_view cs ds a)
 
   same_change : (cs : List ℤ) (ds : List ℕ) (a : Query) (given : List ℕ) (i : ℕ) (b : Bool) (table : List ℕ) → changed k cs ts ds a given i b table ≡ changed l cs us ds a given i b table
   unfolding changed
-  same_change cs ds a given i b table = ap₂ (λ (T : Cells) (v : View). changed_from cs T ds a.setting (range a.reach) given i b table v) cells (same_view cs ds a)
+  same_change cs ds a given i b table = ap₂ (λ (T : Cells) (v : Result View Refusal). changed_from cs T ds a.setting (range a.reach) given i b table v) cells (same_view cs ds a)
 
   same_asking : (cs : List ℤ) (ds : List ℕ) (w n room places : ℕ) → asked k cs ts ds w n room places ≡ asked l cs us ds w n room places
   unfolding asked
   same_asking cs ds w n room places =
-      ap₂ (λ (b : Bool) (r : Checked). refuse_if (ltb most_stands n) (too_many b) (then_asked r (λ p. refuse_if (wrong_setting w (length ds)) Setting (refuse_if (no_room (corner_count cs) n room places) Room (Accepted p))))) (alike cs) (same_check cs ds)
+      ap₂ (λ (b : Bool) (r : Result Plan Refusal). refuse_if (ltb most_stands n) (too_many b) (then_asked r (λ p. refuse_if (wrong_setting w (length ds)) Setting (refuse_if (no_room (corner_count cs) n room places) Room (Ok p))))) (alike cs) (same_check cs ds)
 
   same_morning : (cs : List ℤ) (ds : List ℕ) (m : Morning) (stands : List Stand) (table replies : List ℕ) → listed_stands k cs ts ds m stands table replies ≡ listed_stands l cs us ds m stands table replies
   unfolding listed_stands single
   same_morning cs ds m stands table replies =
-      ap₂ (λ (listing : Stand → Listed × List ℕ) (r : Checked). stands_from listing (take m.count stands) table replies r)
+      ap₂ (λ (listing : Stand → Result Counts Refusal × List ℕ) (r : Result Plan Refusal). stands_from listing (take m.count stands) table replies r)
       (fun_ext (λ s. same_listing_up_to cs ds (query_of m s) m.ceiling (replicate (4 * corner_count cs) 0)))
       (same_asking cs ds m.setting m.count (length table) (length replies))
 
@@ -79,7 +79,7 @@ module _ (k l : ℕ) (ts us : List ℕ) (cells : cells_of k ts ≡ cells_of l us
 pub record SameAnswers (ts us : List ℕ) : Type 0 where
   pub check : (cs : List ℤ) (ds : List ℕ) → checked triangles cs ts ds ≡ checked polygons cs us ds
   pub find : (cs : List ℤ) (ds : List ℕ) (w : ℕ) (s : Stand) → found triangles cs ts ds w s ≡ found polygons cs us ds w s
-  pub list : (cs : List ℤ) (ds : List ℕ) (a : Query) (c : Ceiling) (table : List ℕ) → listed_up_to triangles cs ts ds a c table ≡ listed_up_to polygons cs us ds a c table
+  pub list : (cs : List ℤ) (ds : List ℕ) (a : Query) (c : Option ℕ) (table : List ℕ) → listed_up_to triangles cs ts ds a c table ≡ listed_up_to polygons cs us ds a c table
   pub draw : (cs : List ℤ) (ds : List ℕ) (a : Query) (lent : List Float) → drawn triangles cs ts ds a lent ≡ drawn polygons cs us ds a lent
   pub change : (cs : List ℤ) (ds : List ℕ) (a : Query) (given : List ℕ) (i : ℕ) (b : Bool) (table : List ℕ) → changed triangles cs ts ds a given i b table ≡ changed polygons cs us ds a given i b table
   pub list_stands : (cs : List ℤ) (ds : List ℕ) (m : Morning) (stands : List Stand) (table replies : List ℕ) → listed_stands triangles cs ts ds m stands table replies ≡ listed_stands polygons cs us ds m stands table replies

@@ -10,8 +10,6 @@ use lib.ListN.{length, get_or, take, drop}
 use lib.Seq.{sets, get_or-take, get_or-drop}
 use lib.IntN.{ℤ}
 use Rattle.limits.specs.declared.Plan.{Plan}
-use Rattle.limits.specs.declared.Checked.{Checked}
-use Rattle.limits.specs.declared.Checked.TheVariants as C
 use Rattle.cells.specs.Lists.{corner_count}
 use Rattle.cells.specs.Cut.{cells_of}
 use Rattle.cells.specs.Check.{checked}
@@ -22,8 +20,6 @@ use Rattle.fan.specs.Sight.{Row}
 use Rattle.sight.specs.Ceiling.{up_to, listed_up_to}
 use Rattle.sight.specs.Reply.{listed_reply}
 use Rattle.fan.specs.Written.{row_at, OneRow}
-use Rattle.sight.specs.declared.list.Listed.{Listed}
-use Rattle.sight.specs.declared.list.Listed.TheVariants as L
 use Rattle.reach.specs.Reach.{range}
 use Rattle.sight.specs.declared.view.Query.{Query}
 use Rattle.morning.specs.declared.Morning.{Morning}
@@ -37,6 +33,9 @@ use Rattle.manopluea.specs.Demands.{Says, Sighted}
 use Rattle.manopluea.specs.Together.{SingleCalls}
 use Rattle.manopluea.proofs.Replies.{one_does_not_apply, list_by_stand}
 use Rattle.manopluea.proofs.Demands.{demand_2}
+use Rattle.sight.specs.declared.list.Counts.{Counts}
+use Rattle.limits.specs.declared.Refusal.{Refusal}
+use Rattle.std.specs.Prelude.{Err, Ok, Result}
 
 -- ---- what demand 2 asks of n rows it asks of the first 4·n numbers only
 
@@ -82,10 +81,10 @@ module _ (n : ℕ) (a b : List ℕ) (same : take (4 * n) a ≡ take (4 * n) b) w
 
 -- ---- a stand's own reply, by its condition
 
-stand_by_condition : (kind : ℕ) (cs : List ℤ) (ts ds : List ℕ) (m : Morning) {p : Plan} → checked kind cs ts ds ≡ C.Accepted p → wrong_setting m.setting (length ds) ≡ false → (s : Stand) (lent : List ℕ) → 4 * corner_count cs ≤ length lent → (listed_reply (listed_up_to kind cs ts ds (query_of m s) m.ceiling lent).0).number ≡ (lowest (single_conditions cs (cells_of kind ts) ds m s)).0
+stand_by_condition : (kind : ℕ) (cs : List ℤ) (ts ds : List ℕ) (m : Morning) {p : Plan} → checked kind cs ts ds ≡ Ok p → wrong_setting m.setting (length ds) ≡ false → (s : Stand) (lent : List ℕ) → 4 * corner_count cs ≤ length lent → (listed_reply (listed_up_to kind cs ts ds (query_of m s) m.ceiling lent).0).number ≡ (lowest (single_conditions cs (cells_of kind ts) ds m s)).0
 unfolding lowest listed_up_to
 stand_by_condition kind cs ts ds m accepted right s lent room =
-    ap (λ (l : Listed × List ℕ). (listed_reply (up_to m.ceiling lent l).0).number) (listed_by_spot kind cs ts ds m accepted right s lent)
+    ap (λ (l : Result Counts Refusal × List ℕ). (listed_reply (up_to m.ceiling lent l).0).number) (listed_by_spot kind cs ts ds m accepted right s lent)
     ∙ ap (λ (t : ℕ × ℕ). t.0)
     (list_by_stand cs (cells_of kind ts) ds m.setting m.reach m.ceiling lent (stood cs s)
     ∙ ap (λ (b : Bool). lowest (query_conditions cs (cells_of kind ts) ds m.setting m.reach (stood cs s) ++ (when 11 b 0 ∷ ceiling_conditions cs (cells_of kind ts) ds m.setting m.reach (stood cs s) m.ceiling))) (le-ltb _ _ room)
@@ -102,15 +101,15 @@ first_of_three l a e =
 module _ (kind : ℕ) (cs : List ℤ) (ts ds : List ℕ) (m : Morning) (stands : List Stand) (table replies : List ℕ) where
   -- whenever the call is done: each stand's reply, counts and rows are those of the listing called alone, the counts are the sums, and beyond what
   -- was written all is as it was
-  pub together_is_single_calls : {n k : ℕ} → (listed_stands kind cs ts ds m stands table replies).0 ≡ L.Rows n k → SingleCalls kind cs ts ds m (take m.count stands) n k table (listed_stands kind cs ts ds m stands table replies).1.0 replies (listed_stands kind cs ts ds m stands table replies).1.1
+  pub together_is_single_calls : {n k : ℕ} → (listed_stands kind cs ts ds m stands table replies).0 ≡ Ok (record { rows = n; crossings = k }) → SingleCalls kind cs ts ds m (take m.count stands) n k table (listed_stands kind cs ts ds m stands table replies).1.0 replies (listed_stands kind cs ts ds m stands table replies).1.1
   unfolding listed_stands
   together_is_single_calls {n} {k} e = by_asked (asked kind cs ts ds m.setting m.count (length table) (length replies)) refl e
     where
       ss : List Stand
       ss = take m.count stands
 
-      by_asked : (c : Checked) → asked kind cs ts ds m.setting m.count (length table) (length replies) ≡ c → (stands_from (single kind cs ts ds m) ss table replies c).0 ≡ L.Rows n k → SingleCalls kind cs ts ds m ss n k table (stands_from (single kind cs ts ds m) ss table replies c).1.0 replies (stands_from (single kind cs ts ds m) ss table replies c).1.1
-      by_asked (C.Accepted p) h answer =
+      by_asked : (c : Result Plan Refusal) → asked kind cs ts ds m.setting m.count (length table) (length replies) ≡ c → (stands_from (single kind cs ts ds m) ss table replies c).0 ≡ Ok (record { rows = n; crossings = k }) → SingleCalls kind cs ts ds m ss n k table (stands_from (single kind cs ts ds m) ss table replies c).1.0 replies (stands_from (single kind cs ts ds m) ss table replies c).1.1
+      by_asked (Ok p) h answer =
           let grant = grant_says kind cs ts ds m.setting m.count (length table) (length replies) (record { plan = p; accepted = h }) in
           let rows_added : n ≡ rows_in_all (single kind cs ts ds m) ss = cc in
           let crossings_added : k ≡ crossings_in_all (single kind cs ts ds m) ss = cc in
@@ -125,14 +124,14 @@ module _ (kind : ℕ) (cs : List ℤ) (ts ds : List ℕ) (m : Morning) (stands :
                       ∙ stand_by_condition kind cs ts ds m grant.plan_accepted grant.setting_right s lent room;
                   rows = rows;
                   sighted = λ a b alone.
-                      same_sighted a (listed_up_to kind cs ts ds (query_of m s) m.ceiling lent).1 (drop (4 * rows_in_all (single kind cs ts ds m) (take i ss)) (sets table 0 (all_rows (single kind cs ts ds m) ss))) (sym (subst (λ (l : Listed). take (4 * rows_of l) (drop (4 * rows_in_all (single kind cs ts ds m) (take i ss)) (sets table 0 (all_rows (single kind cs ts ds m) ss))) ≡ take (4 * rows_of l) (listed_up_to kind cs ts ds (query_of m s) m.ceiling lent).1) alone rows)) ((demand_2 kind cs ts ds (query_of m s) m.ceiling lent).sighted a b alone);
+                      same_sighted a (listed_up_to kind cs ts ds (query_of m s) m.ceiling lent).1 (drop (4 * rows_in_all (single kind cs ts ds m) (take i ss)) (sets table 0 (all_rows (single kind cs ts ds m) ss))) (sym (subst (λ (l : Result Counts Refusal). take (4 * rows_of l) (drop (4 * rows_in_all (single kind cs ts ds m) (take i ss)) (sets table 0 (all_rows (single kind cs ts ds m) ss))) ≡ take (4 * rows_of l) (listed_up_to kind cs ts ds (query_of m s) m.ceiling lent).1) alone rows)) ((demand_2 kind cs ts ds (query_of m s) m.ceiling lent).sighted a b alone);
                 };
             rows_added = rows_added;
             crossings_added = crossings_added;
             table_beyond = subst (λ (i : ℕ). drop (4 * i) (sets table 0 (all_rows (single kind cs ts ds m) ss)) ≡ drop (4 * i) table) (sym rows_added) (table_is_kept_beyond kind cs ts ds m stands table replies grant);
             replies_beyond = replies_are_kept_beyond kind cs ts ds m stands table replies grant;
           }
-      by_asked (C.Refused r) h answer = absurd (never answer)
+      by_asked (Err r) h answer = absurd (never answer)
         where
-          never : L.Refused r ≡ L.Rows n k → ⊥
+          never : ◌≡◌ {A = Result Counts Refusal} (Err r) (Ok (record { rows = n; crossings = k })) → ⊥
           never p = let z : ◌≡◌ {A = ℕ} 0 1 = cc in omega arith

@@ -16,8 +16,6 @@ use Rattle.stand.specs.declared.locate.Footing.{Footing}
 use Rattle.stand.proofs.Located.{Stands}
 use Rattle.stand.proofs.Unique.{a_stand_is_one_point, a_stand_has_one_place}
 use Rattle.reach.specs.Reach.{out_of_reach, far, range, Longer}
-use Rattle.reach.specs.declared.Reach.{Reach}
-use Rattle.reach.specs.declared.Reach.TheVariants.{NotStated}
 use Rattle.reach.proofs.Reaching.{in_reach_is_0, in_reach_by_its_number, still_in_reach}
 use Rattle.fan.specs.Sight.{Floor, Sight, Row, seen_from, rows, row_count, crossings, unentered}
 use Rattle.fan.specs.Once.{At}
@@ -34,8 +32,6 @@ use Rattle.runs.proofs.Further.{Stopped, passed, further_opens_the_stopped, furt
 use Rattle.runs.proofs.InThePlane.{stopped_in_the_plane}
 use Rattle.sight.specs.Listing.{unreached, plan_floor, standing, sight_from, listing_rows, listing_numbers, listing_row_count, listing_crossings, viewed, listed}
 use Rattle.sight.specs.declared.view.Query.{Query}
-use Rattle.sight.specs.declared.view.View.TheVariants as O
-use Rattle.sight.specs.declared.list.Listed.TheVariants as L
 use Rattle.sight.proofs.Views.{view_says, Seen, rows_are_seen}
 use Rattle.sight.proofs.PlanFloor.{plan_geometry, stands_on_the_floor}
 use Rattle.sight.proofs.Sightings.{row_is_seen}
@@ -44,6 +40,7 @@ use Rattle.doors.proofs.Fresh.{numbers_are_routed}
 use Rattle.manopluea.specs.Longer.{in_reach, Refined}
 use Rattle.manopluea.specs.Unlimited.{walls_alone, with_0_after_each, AsBefore}
 use Rattle.manopluea.proofs.Demands.{stands_there, whole, row_count_is, crossings_are, first_numbers_are}
+use Rattle.std.specs.Prelude.{None, Ok, Option}
 
 -- ---- on an accepted plan, from a place where the stand was found
 
@@ -104,25 +101,25 @@ written_with_0 (r ∷ rs) zeros =
 -- ---- from the input alone
 
 module _ (kind : ℕ) (cs : List ℤ) (ts ds : List ℕ) (w : ℕ) (s : Stand) where
-  abbrev within : Reach → Query
+  abbrev within : Option ℕ → Query
   within reach = record { setting = w; stand = s; reach = reach }
 
   -- the stand is the same point at the same place, however far is seen
-  same_view : (reach other : Reach) {x y x' y' : ℤ} {p p' : Footing} → viewed kind cs ts ds (within reach) ≡ O.From x y p → viewed kind cs ts ds (within other) ≡ O.From x' y' p' → viewed kind cs ts ds (within other) ≡ O.From x y p
+  same_view : (reach other : Option ℕ) {x y x' y' : ℤ} {p p' : Footing} → viewed kind cs ts ds (within reach) ≡ Ok (record { x = x; y = y; footing = p }) → viewed kind cs ts ds (within other) ≡ Ok (record { x = x'; y = y'; footing = p' }) → viewed kind cs ts ds (within other) ≡ Ok (record { x = x; y = y; footing = p })
   same_view reach other near further =
       let here = (view_says kind cs ts ds (within reach) near).spotted in
       let there = (view_says kind cs ts ds (within other) further).spotted in
       further
-      ∙ ap₂ (λ (q : Point) (p : Footing). O.From q.x q.y p)
+      ∙ ap₂ (λ (q : Point) (p : Footing). Ok (record { x = q.x; y = q.y; footing = p }))
       (a_stand_is_one_point cs s there.stand_is here.stand_is)
       (a_stand_has_one_place cs s there.stand_is here.stand_is (cells_of kind ts) ds w there.stand_place here.stand_place)
 
   -- a listing that replies rows: from where it is seen, and its numbers and counts
-  module _ (reach : Reach) (table : List ℕ) {n k : ℕ} (e : (listed kind cs ts ds (within reach) table).0 ≡ L.Rows n k) where
+  module _ (reach : Option ℕ) (table : List ℕ) {n k : ℕ} (e : (listed kind cs ts ds (within reach) table).0 ≡ Ok (record { rows = n; crossings = k })) where
     from : Seen kind cs ts ds (within reach) table
     from = rows_are_seen kind cs ts ds (within reach) table e
 
-    module _ {x y : ℤ} {p : Footing} (view : viewed kind cs ts ds (within reach) ≡ O.From x y p) where
+    module _ {x y : ℤ} {p : Footing} (view : viewed kind cs ts ds (within reach) ≡ Ok (record { x = x; y = y; footing = p })) where
       numbers_listed : take (4 * n) (listed kind cs ts ds (within reach) table).1 ≡ listing_numbers cs (cells_of kind ts) ds w (range reach) (record { x = x; y = y }) p
       numbers_listed = first_numbers_are kind cs ts ds (within reach) table view from.room (whole kind cs ts ds (within reach) table e)
 
@@ -133,7 +130,7 @@ module _ (kind : ℕ) (cs : List ℤ) (ts ds : List ℕ) (w : ℕ) (s : Stand) w
       crossings_counted = crossings_are kind cs ts ds (within reach) table view from.room (whole kind cs ts ds (within reach) table e)
 
   -- a longer reach only refines: what is listed as a wall in reach is listed so within every longer one
-  pub a_longer_reach_refines : (reach longer : Reach) → Longer (range reach) (range longer) → (table table' : List ℕ) {n k n' k' : ℕ} → (listed kind cs ts ds (within reach) table).0 ≡ L.Rows n k → (listed kind cs ts ds (within longer) table').0 ≡ L.Rows n' k' → Refined kind cs ts ds w s reach longer n k (listed kind cs ts ds (within reach) table).1 n' k' (listed kind cs ts ds (within longer) table').1
+  pub a_longer_reach_refines : (reach longer : Option ℕ) → Longer (range reach) (range longer) → (table table' : List ℕ) {n k n' k' : ℕ} → (listed kind cs ts ds (within reach) table).0 ≡ Ok (record { rows = n; crossings = k }) → (listed kind cs ts ds (within longer) table').0 ≡ Ok (record { rows = n'; crossings = k' }) → Refined kind cs ts ds w s reach longer n k (listed kind cs ts ds (within reach) table).1 n' k' (listed kind cs ts ds (within longer) table').1
   a_longer_reach_refines reach longer is_longer table table' e e' =
       let near = from reach table e in
       let says = view_says kind cs ts ds (within reach) near.view in
@@ -160,12 +157,12 @@ module _ (kind : ℕ) (cs : List ℤ) (ts ds : List ℕ) (w : ℕ) (s : Stand) w
       }
 
   -- where no reach is stated the rows are document 01's, with 0 after each
-  pub no_reach_is_as_before : (table : List ℕ) {n k : ℕ} → (listed kind cs ts ds (within NotStated) table).0 ≡ L.Rows n k → AsBefore kind cs ts ds w s n k (listed kind cs ts ds (within NotStated) table).1
+  pub no_reach_is_as_before : (table : List ℕ) {n k : ℕ} → (listed kind cs ts ds (within None) table).0 ≡ Ok (record { rows = n; crossings = k }) → AsBefore kind cs ts ds w s n k (listed kind cs ts ds (within None) table).1
   unfolding listing_rows listing_row_count listing_crossings
   no_reach_is_as_before table e =
-      let seen = from NotStated table e in
-      let says = view_says kind cs ts ds (within NotStated) seen.view in
-      let stands = stands_there kind cs ts ds (within NotStated) table seen.view seen.room in
+      let seen = from None table e in
+      let says = view_says kind cs ts ds (within None) seen.view in
+      let stands = stands_there kind cs ts ds (within None) table seen.view seen.room in
       let q : Point = record { x = seen.x; y = seen.y } in
       let on : Floor → Sight = λ F. seen_from F (cell_count (cells_of kind ts)) (standing (cells_of kind ts) seen.p) in
       let floor = unlimited_floor cs (cells_of kind ts) ds w q in
@@ -176,10 +173,10 @@ module _ (kind : ℕ) (cs : List ℤ) (ts ds : List ℕ) (w : ℕ) (s : Stand) w
         place = seen.p;
         its_place = says.spotted.stand_place;
         the_rows =
-            numbers_listed NotStated table e seen.view
+            numbers_listed None table e seen.view
             ∙ the_numbers_are_the_rows cs (cells_of kind ts) ds w 0 q seen.p
             ∙ written_with_0 (listing_rows cs (cells_of kind ts) ds w 0 q seen.p) (ends_in_0 says.sound w q seen.p stands)
             ∙ ap (λ (F : Floor). with_0_after_each (rows (on F))) floor;
-        the_row_count = rows_counted NotStated table e seen.view ∙ ap (λ (F : Floor). row_count (on F)) floor;
-        the_crossings = crossings_counted NotStated table e seen.view ∙ ap (λ (F : Floor). crossings (on F)) floor;
+        the_row_count = rows_counted None table e seen.view ∙ ap (λ (F : Floor). row_count (on F)) floor;
+        the_crossings = crossings_counted None table e seen.view ∙ ap (λ (F : Floor). crossings (on F)) floor;
       }

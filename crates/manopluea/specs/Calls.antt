@@ -1,5 +1,5 @@
 -- What each public call replies, in numbers (document 01, "Reply numbers"; document 02): number, place and values, with what stands in the lent memory at exit.
-use Rattle.std.specs.Prelude.{Bool, List, ℕ, ℤ, Float}
+use Rattle.std.specs.Prelude.{Bool, List, ℕ, ℤ, Float, Option}
 use Rattle.cells.specs.Check.{checked}
 use Rattle.limits.specs.Reply.{Reply, checked_reply}
 use Rattle.planfile.specs.Calls as File
@@ -9,7 +9,6 @@ use Rattle.stand.specs.Reply.{found_reply}
 use Rattle.stand.specs.declared.spot.Stand.{Stand}
 use Rattle.sight.specs.declared.view.Query.{Query}
 use Rattle.sight.specs.Ceiling.{listed_up_to}
-use Rattle.sight.specs.declared.ceiling.Ceiling.{Ceiling}
 use Rattle.sight.specs.Reply.{listed_reply}
 use Rattle.tablet.specs.Drawing.{drawn}
 use Rattle.doors.specs.Change.{changed}
@@ -32,7 +31,7 @@ write_replies kind cs ts ds file = in_numbers checked_reply (File.written kind c
 abbrev pub find_replies : ℕ → List ℤ → List ℕ → List ℕ → ℕ → Stand → Reply
 find_replies kind cs ts ds w s = found_reply (found kind cs ts ds w s)
 
-abbrev pub list_replies : ℕ → List ℤ → List ℕ → List ℕ → Query → Ceiling → List ℕ → Reply × List ℕ
+abbrev pub list_replies : ℕ → List ℤ → List ℕ → List ℕ → Query → Option ℕ → List ℕ → Reply × List ℕ
 list_replies kind cs ts ds a c table = in_numbers listed_reply (listed_up_to kind cs ts ds a c table)
 
 abbrev pub draw_replies : ℕ → List ℤ → List ℕ → List ℕ → Query → List Float → Reply × List Float

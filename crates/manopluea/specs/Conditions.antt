@@ -1,7 +1,7 @@
 -- The table of replies (document 01, "Reply numbers"; document 02), call by call: each number that the paper gives the call, when it applies, and its place. They
 -- stand in the order in which they are asked: that of the numbers, where 17 goes after 6 and before 7, and 15 after 8 and before 9. So the first that applies
 -- is the reply. `CheckAnswers` and the like are demand 1 of that call.
-use Rattle.std.specs.Prelude.{Bool, true, false, not, ◌&&◌, ◌||◌, List, [], ◌∷◌, ◌++◌, map, ◌≡◌, ℕ, ◌*◌, ltb, leb, length, get_or, ℤ, Float}
+use Rattle.std.specs.Prelude.{Bool, true, false, not, ◌&&◌, ◌||◌, List, [], ◌∷◌, ◌++◌, map, ◌≡◌, ℕ, ◌*◌, ltb, leb, length, get_or, ℤ, Float, None, Option, Some}
 use Rattle.plane.specs.Side.{Point}
 use Rattle.limits.specs.Limits.{most_stands, sized}
 use Rattle.cells.specs.Lists.{Cells, corner_count, cell_count, face_count}
@@ -17,12 +17,8 @@ use Rattle.stand.specs.Find.{strictly_within, first_inside, first_within, first_
 use Rattle.stand.specs.declared.locate.Footing.{Footing}
 use Rattle.stand.specs.declared.locate.Footing.TheVariants.{Inside}
 use Rattle.stand.specs.declared.spot.Stand.{Stand}
-use Rattle.stand.specs.declared.spot.Spot.{Spot}
-use Rattle.stand.specs.declared.spot.Spot.TheVariants.{At, Refused}
 use Rattle.reach.specs.Reach.{range, wrong_reach}
-use Rattle.reach.specs.declared.Reach.{Reach}
 use Rattle.sight.specs.declared.view.Query.{Query}
-use Rattle.sight.specs.declared.ceiling.Ceiling.{Ceiling}
 use Rattle.sight.specs.Ceiling.{exceeds}
 use Rattle.sight.specs.Listing.{listing_rows, listing_numbers, listing_crossings}
 use Rattle.tablet.specs.Drawing.{any_far}
@@ -95,9 +91,9 @@ WriteAnswers kind cs ts ds file =
 -- ---- the stand: finding
 
 -- 8: a number or corner not accepted
-abbrev pub not_accepted : Spot → Bool
-not_accepted (At x y) = false
-not_accepted Refused = true
+abbrev pub not_accepted : Option (ℤ × ℤ) → Bool
+not_accepted (Some (x, y)) = false
+not_accepted None = true
 
 -- strictly inside some cell; strictly within some free side; on some cell's border
 abbrev pub inside_some : List ℤ → Cells → Point → Bool
@@ -114,20 +110,20 @@ abbrev pub nowhere : List ℤ → Cells → List ℕ → ℕ → Point → Bool
 nowhere cs T ds w q = not (inside_some cs T q) && not (within_some cs T ds w q)
 
 -- 9: nowhere so, but on some cell's border
-abbrev pub on_a_line : List ℤ → Cells → List ℕ → ℕ → Spot → Bool
-on_a_line cs T ds w (At x y) = nowhere cs T ds w (record { x = x; y = y }) && on_some_border cs T (record { x = x; y = y })
-on_a_line cs T ds w Refused = false
+abbrev pub on_a_line : List ℤ → Cells → List ℕ → ℕ → Option (ℤ × ℤ) → Bool
+on_a_line cs T ds w (Some (x, y)) = nowhere cs T ds w (record { x = x; y = y }) && on_some_border cs T (record { x = x; y = y })
+on_a_line cs T ds w None = false
 
 -- 10: inside or on no cell
-abbrev pub off_every_cell : List ℤ → Cells → List ℕ → ℕ → Spot → Bool
-off_every_cell cs T ds w (At x y) = nowhere cs T ds w (record { x = x; y = y }) && not (on_some_border cs T (record { x = x; y = y }))
-off_every_cell cs T ds w Refused = false
+abbrev pub off_every_cell : List ℤ → Cells → List ℕ → ℕ → Option (ℤ × ℤ) → Bool
+off_every_cell cs T ds w (Some (x, y)) = nowhere cs T ds w (record { x = x; y = y }) && not (on_some_border cs T (record { x = x; y = y }))
+off_every_cell cs T ds w None = false
 
 -- with whatever else is LINE for the call
-abbrev pub place_conditions : Bool → List ℤ → Cells → List ℕ → ℕ → Spot → List Condition
+abbrev pub place_conditions : Bool → List ℤ → Cells → List ℕ → ℕ → Option (ℤ × ℤ) → List Condition
 place_conditions on_its_door cs T ds w spot = when 9 (on_its_door || on_a_line cs T ds w spot) 0 ∷ when 10 (off_every_cell cs T ds w spot) 0 ∷ []
 
-abbrev pub stand_conditions : List ℤ → Cells → List ℕ → ℕ → Spot → List Condition
+abbrev pub stand_conditions : List ℤ → Cells → List ℕ → ℕ → Option (ℤ × ℤ) → List Condition
 stand_conditions cs T ds w spot = when 8 (not_accepted spot) 0 ∷ place_conditions false cs T ds w spot
 
 -- a bit at or above the door count; the stand
@@ -142,11 +138,11 @@ FindAnswers kind cs ts ds w s =
 -- ---- listing and door change
 
 -- the stand, and a stated number that is no reach (document 02, A5), with whatever else is LINE for the call
-abbrev pub query_conditions_with : Bool → List ℤ → Cells → List ℕ → ℕ → Reach → Spot → List Condition
+abbrev pub query_conditions_with : Bool → List ℤ → Cells → List ℕ → ℕ → Option ℕ → Option (ℤ × ℤ) → List Condition
 query_conditions_with on_its_door cs T ds w reach spot =
     when 8 (not_accepted spot) 0 ∷ when 15 (wrong_reach reach) 0 ∷ place_conditions on_its_door cs T ds w spot
 
-abbrev pub query_conditions : List ℤ → Cells → List ℕ → ℕ → Reach → Spot → List Condition
+abbrev pub query_conditions : List ℤ → Cells → List ℕ → ℕ → Option ℕ → Option (ℤ × ℤ) → List Condition
 query_conditions = query_conditions_with false
 
 -- a bit at or above the door count; the stand and the reach; a table, or a list to draw into, shorter than 4·corners numbers
@@ -165,32 +161,32 @@ abbrev pub place_at : List ℤ → Cells → List ℕ → ℕ → Point → Foot
 place_at cs T ds w q = place_of (inside_some cs T q) (first_inside cs T q) (side_at T (first_within cs T ds w q))
 
 -- the true list under the setting and within the range, from there, and its crossings
-abbrev pub true_numbers : List ℤ → Cells → List ℕ → ℕ → ℕ → Spot → List ℕ
-true_numbers cs T ds w R (At x y) = listing_numbers cs T ds w R (record { x = x; y = y }) (place_at cs T ds w (record { x = x; y = y }))
-true_numbers cs T ds w R Refused = []
+abbrev pub true_numbers : List ℤ → Cells → List ℕ → ℕ → ℕ → Option (ℤ × ℤ) → List ℕ
+true_numbers cs T ds w R (Some (x, y)) = listing_numbers cs T ds w R (record { x = x; y = y }) (place_at cs T ds w (record { x = x; y = y }))
+true_numbers cs T ds w R None = []
 
-abbrev pub true_crossings : List ℤ → Cells → List ℕ → ℕ → ℕ → Spot → ℕ
-true_crossings cs T ds w R (At x y) = listing_crossings cs T ds w R (record { x = x; y = y }) (place_at cs T ds w (record { x = x; y = y }))
-true_crossings cs T ds w R Refused = 0
+abbrev pub true_crossings : List ℤ → Cells → List ℕ → ℕ → ℕ → Option (ℤ × ℤ) → ℕ
+true_crossings cs T ds w R (Some (x, y)) = listing_crossings cs T ds w R (record { x = x; y = y }) (place_at cs T ds w (record { x = x; y = y }))
+true_crossings cs T ds w R None = 0
 
 -- 19: they exceed the ceiling (document 02, A13)
-abbrev pub ceiling_conditions : List ℤ → Cells → List ℕ → ℕ → Reach → Spot → Ceiling → List Condition
+abbrev pub ceiling_conditions : List ℤ → Cells → List ℕ → ℕ → Option ℕ → Option (ℤ × ℤ) → Option ℕ → List Condition
 ceiling_conditions cs T ds w reach spot c = when 19 (exceeds (true_crossings cs T ds w (range reach) spot) c) 0 ∷ []
 
 -- and last the ceiling
-abbrev pub list_conditions : ℕ → List ℤ → List ℕ → List ℕ → Query → Ceiling → ℕ → List Condition
+abbrev pub list_conditions : ℕ → List ℤ → List ℕ → List ℕ → Query → Option ℕ → ℕ → List Condition
 list_conditions kind cs ts ds a c room =
     list_conditions_with false kind cs ts ds a room ++ ceiling_conditions cs (cells_of kind ts) ds a.setting a.reach (stood cs a.stand) c
 
-abbrev pub ListAnswers : ℕ → List ℤ → List ℕ → List ℕ → Query → Ceiling → List ℕ → Type 0
+abbrev pub ListAnswers : ℕ → List ℤ → List ℕ → List ℕ → Query → Option ℕ → List ℕ → Type 0
 ListAnswers kind cs ts ds a c table =
     Answers (1 ∷ 2 ∷ 3 ∷ 4 ∷ 5 ∷ 6 ∷ 17 ∷ 7 ∷ 8 ∷ 15 ∷ 9 ∷ 10 ∷ 11 ∷ 19 ∷ []) (list_conditions kind cs ts ds a c (length table)) (list_replies kind cs ts ds a c table).0 table (list_replies kind cs ts ds a c table).1
 
 -- 14: some corner that a row of the true list names is too far (document 02, A2)
-abbrev pub true_far : List ℤ → Cells → List ℕ → ℕ → ℕ → Spot → Bool
-true_far cs T ds w R (At x y) =
+abbrev pub true_far : List ℤ → Cells → List ℕ → ℕ → ℕ → Option (ℤ × ℤ) → Bool
+true_far cs T ds w R (Some (x, y)) =
     any_far cs (record { x = x; y = y }) (listing_rows cs T ds w R (record { x = x; y = y }) (place_at cs T ds w (record { x = x; y = y })))
-true_far cs T ds w R Refused = false
+true_far cs T ds w R None = false
 
 -- as the listing's, with room in the lent list; and last a corner too far
 abbrev pub draw_conditions : ℕ → List ℤ → List ℕ → List ℕ → Query → ℕ → List Condition
@@ -203,11 +199,11 @@ DrawAnswers kind cs ts ds a lent =
     Answers (1 ∷ 2 ∷ 3 ∷ 4 ∷ 5 ∷ 6 ∷ 17 ∷ 7 ∷ 8 ∷ 15 ∷ 9 ∷ 10 ∷ 11 ∷ 14 ∷ []) (draw_conditions kind cs ts ds a (length lent)) (draw_replies kind cs ts ds a lent).0 lent (draw_replies kind cs ts ds a lent).1
 
 -- the stand is on a side, and the door is there and its line holds the stand strictly within (document 02, A4)
-abbrev pub door_underfoot : List ℤ → Cells → List ℕ → ℕ → ℕ → Spot → Bool
-door_underfoot cs T ds w i (At x y) =
+abbrev pub door_underfoot : List ℤ → Cells → List ℕ → ℕ → ℕ → Option (ℤ × ℤ) → Bool
+door_underfoot cs T ds w i (Some (x, y)) =
     not (inside_some cs T (record { x = x; y = y })) && within_some cs T ds w (record { x = x; y = y })
     && ltb i (length ds) && strictly_within cs T (record { x = x; y = y }) (get_or ds i 0)
-door_underfoot cs T ds w i Refused = false
+door_underfoot cs T ds w i None = false
 
 -- LINE also for the door underfoot; no such door, or already in that state; the given list differs from the true one
 abbrev pub change_conditions : ℕ → List ℤ → List ℕ → List ℕ → Query → List ℕ → ℕ → Bool → ℕ → List Condition

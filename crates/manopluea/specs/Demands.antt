@@ -1,6 +1,6 @@
 -- The three demands, over the input alone. Demands 2 and 3 are of any answer and any table: what they ask of an answer, and of what stands in the table
 -- before and after.
-use Rattle.std.specs.Prelude.{Bool, true, false, List, [], map, ◌≡◌, ℕ, ◌*◌, ◌<◌, get_or, take, drop, ℤ, Float}
+use Rattle.std.specs.Prelude.{Bool, true, false, List, [], map, ◌≡◌, ℕ, ◌*◌, ◌<◌, get_or, take, drop, ℤ, Float, Err, Ok, Option, Result, Some}
 use Rattle.plane.specs.Side.{Point}
 use Rattle.plane.specs.Cone.{Meets, Direction}
 use Rattle.cells.specs.Lists.{Cells, corner_count, next, start, back}
@@ -13,23 +13,19 @@ use Rattle.reach.specs.Reach.{Reaches, range}
 use Rattle.stand.specs.Spot.{stood}
 use Rattle.stand.specs.Find.{located}
 use Rattle.stand.specs.declared.spot.Stand.{Stand}
-use Rattle.stand.specs.declared.spot.Spot.TheVariants.{At}
 use Rattle.stand.specs.declared.locate.Footing.{Footing}
-use Rattle.stand.specs.declared.locate.Found.TheVariants as F
 use Rattle.fan.specs.Sight.{Row}
 use Rattle.fan.specs.Walk.{RowHolds, WalkEnds}
 use Rattle.fan.specs.Written.{row_at, OneRow}
 use Rattle.sight.specs.Listing.{plan_floor, seen, standing, sight_from, listing_numbers, listing_row_count, listing_crossings, listed}
-use Rattle.sight.specs.declared.ceiling.Ceiling.{Ceiling}
 use Rattle.sight.specs.declared.view.Query.{Query}
-use Rattle.sight.specs.declared.list.Listed.{Listed}
-use Rattle.sight.specs.declared.list.Listed.TheVariants.{Rows, Refused}
 use Rattle.runs.specs.Route.{Routed, routed, row_numbers}
 use Rattle.runs.specs.Door.{on_door, untouched, those}
 use Rattle.runs.specs.Shutting.{runs, door_row}
 use Rattle.doors.specs.Change.{no_change, wished, wished_for}
 use Rattle.morning.specs.declared.Morning.{Morning}
 use Rattle.manopluea.specs.Conditions.{door_underfoot, CheckAnswers, ReadAnswers, WriteAnswers, FindAnswers, ListAnswers, DrawAnswers, ChangeAnswers, ListStandsAnswers}
+use Rattle.sight.specs.declared.list.Counts.{Counts}
 
 -- ---- demand 1
 
@@ -38,7 +34,7 @@ pub record Demand1 : Type 0 where
   pub read : (file : List ℕ) (corners : List ℤ) (cells doors : List ℕ) → ReadAnswers file corners cells doors
   pub write : (kind : ℕ) (cs : List ℤ) (ts ds file : List ℕ) → WriteAnswers kind cs ts ds file
   pub find : (kind : ℕ) (cs : List ℤ) (ts ds : List ℕ) (w : ℕ) (s : Stand) → FindAnswers kind cs ts ds w s
-  pub list : (kind : ℕ) (cs : List ℤ) (ts ds : List ℕ) (a : Query) (c : Ceiling) (table : List ℕ) → ListAnswers kind cs ts ds a c table
+  pub list : (kind : ℕ) (cs : List ℤ) (ts ds : List ℕ) (a : Query) (c : Option ℕ) (table : List ℕ) → ListAnswers kind cs ts ds a c table
   pub draw : (kind : ℕ) (cs : List ℤ) (ts ds : List ℕ) (a : Query) (lent : List Float) → DrawAnswers kind cs ts ds a lent
   pub change : (kind : ℕ) (cs : List ℤ) (ts ds : List ℕ) (a : Query) (given : List ℕ) (i : ℕ) (b : Bool) (table : List ℕ) → ChangeAnswers kind cs ts ds a given i b table
   pub list_stands : (kind : ℕ) (cs : List ℤ) (ts ds : List ℕ) (m : Morning) (stands : List Stand) (table replies : List ℕ) → ListStandsAnswers kind cs ts ds m stands table replies
@@ -82,9 +78,9 @@ module _ (kind : ℕ) (cs : List ℤ) (ts ds : List ℕ) (a : Query) where
   pub record Sighted (n k : ℕ) (table : List ℕ) : Type 0 where
     pub x : ℤ
     pub y : ℤ
-    pub the_stand : stood cs a.stand ≡ At x y
+    pub the_stand : stood cs a.stand ≡ Some (x, y)
     pub place : Footing
-    pub its_place : located cs (cells_of kind ts) ds a.setting (record { x = x; y = y }) ≡ F.At place
+    pub its_place : located cs (cells_of kind ts) ds a.setting (record { x = x; y = y }) ≡ Ok place
     -- rows, order and crossings are those of the published expansion
     pub expanded : take (4 * n) table ≡ listing_numbers cs (cells_of kind ts) ds a.setting (range a.reach) (record { x = x; y = y }) place
     pub counted : n ≡ listing_row_count cs (cells_of kind ts) ds a.setting (range a.reach) (record { x = x; y = y }) place
@@ -95,9 +91,9 @@ module _ (kind : ℕ) (cs : List ℤ) (ts ds : List ℕ) (a : Query) where
     pub said : (i : ℕ) → i < n → Says cs (cells_of kind ts) ds a.setting (range a.reach) (record { x = x; y = y }) (row_at table i).face (row_at table i).far
 
   -- whenever the answer is n rows, they are so, and beyond them the table is as it was
-  pub record Demand2 (before : List ℕ) (answer : Listed) (after : List ℕ) : Type 0 where
-    pub sighted : (n k : ℕ) → answer ≡ Rows n k → Sighted n k after
-    pub beyond : (n k : ℕ) → answer ≡ Rows n k → drop (4 * n) after ≡ drop (4 * n) before
+  pub record Demand2 (before : List ℕ) (answer : Result Counts Refusal) (after : List ℕ) : Type 0 where
+    pub sighted : (n k : ℕ) → answer ≡ Ok (record { rows = n; crossings = k }) → Sighted n k after
+    pub beyond : (n k : ℕ) → answer ≡ Ok (record { rows = n; crossings = k }) → drop (4 * n) after ≡ drop (4 * n) before
 
 -- ---- demand 3
 
@@ -129,9 +125,9 @@ module _ (kind : ℕ) (cs : List ℤ) (ts ds : List ℕ) (a : Query) (given : Li
     -- the rows and routes are those of the two listings
     pub x : ℤ
     pub y : ℤ
-    pub the_stand : stood cs a.stand ≡ At x y
+    pub the_stand : stood cs a.stand ≡ Some (x, y)
     pub place : Footing
-    pub its_place : located cs (cells_of kind ts) ds a.setting (record { x = x; y = y }) ≡ F.At place
+    pub its_place : located cs (cells_of kind ts) ds a.setting (record { x = x; y = y }) ≡ Ok place
     pub old_seen : old ≡ routed (sight_from cs (cells_of kind ts) ds a.setting (range a.reach) (record { x = x; y = y }) place)
     pub new_seen : new ≡ routed (sight_from cs (cells_of kind ts) ds (wished b a.setting i) (range a.reach) (record { x = x; y = y }) place)
     -- of a door in reach, each run through the open door is one row on the shut one
@@ -139,11 +135,11 @@ module _ (kind : ℕ) (cs : List ℤ) (ts ds : List ℕ) (a : Query) (given : Li
     -- one out of reach has no run behind it, and its rows are the same shut and open
     pub kept_out_of_reach : (InReachOfStand cs (cells_of kind ts) (range a.reach) (record { x = x; y = y }) face → ⊥) → (runs face other_face (while_open b old new) ≡ []) × (new ≡ old)
 
-  pub record Demand3 (before : List ℕ) (answer : Listed) (after : List ℕ) : Type 0 where
+  pub record Demand3 (before : List ℕ) (answer : Result Counts Refusal) (after : List ℕ) : Type 0 where
     -- whenever the answer is rows, answer and table are those of a fresh listing under the new setting
-    pub fresh : (n k : ℕ) → answer ≡ Rows n k → (answer, after) ≡ listed kind cs ts ds (wished_for b a i) before
-    pub run_by_run : (n k : ℕ) → answer ≡ Rows n k → RunByRun n after
+    pub fresh : (n k : ℕ) → answer ≡ Ok (record { rows = n; crossings = k }) → (answer, after) ≡ listed kind cs ts ds (wished_for b a i) before
+    pub run_by_run : (n k : ℕ) → answer ≡ Ok (record { rows = n; crossings = k }) → RunByRun n after
     -- and so it is from every true list of a door that is not yet so, unless the stand is on its line
-    pub from_the_true_list : (n k : ℕ) (t : List ℕ) → listed kind cs ts ds a before ≡ (Rows n k, t) → door_underfoot cs (cells_of kind ts) ds a.setting i (stood cs a.stand) ≡ false → no_change ds a.setting i b ≡ false → given ≡ take (4 * n) t → (answer, after) ≡ listed kind cs ts ds (wished_for b a i) before
+    pub from_the_true_list : (n k : ℕ) (t : List ℕ) → listed kind cs ts ds a before ≡ (Ok (record { rows = n; crossings = k }), t) → door_underfoot cs (cells_of kind ts) ds a.setting i (stood cs a.stand) ≡ false → no_change ds a.setting i b ≡ false → given ≡ take (4 * n) t → (answer, after) ≡ listed kind cs ts ds (wished_for b a i) before
     -- while a given list that is not the true one is 13, and the table is as it was
-    pub from_another_list : (n k : ℕ) (t : List ℕ) → listed kind cs ts ds a before ≡ (Rows n k, t) → door_underfoot cs (cells_of kind ts) ds a.setting i (stood cs a.stand) ≡ false → no_change ds a.setting i b ≡ false → (given ≡ take (4 * n) t → ⊥) → ◌≡◌ {A = Listed × List ℕ} (answer, after) (Refused Untrue, before)
+    pub from_another_list : (n k : ℕ) (t : List ℕ) → listed kind cs ts ds a before ≡ (Ok (record { rows = n; crossings = k }), t) → door_underfoot cs (cells_of kind ts) ds a.setting i (stood cs a.stand) ≡ false → no_change ds a.setting i b ≡ false → (given ≡ take (4 * n) t → ⊥) → ◌≡◌ {A = Result Counts Refusal × List ℕ} (answer, after) (Err Untrue, before)

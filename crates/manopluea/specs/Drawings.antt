@@ -1,5 +1,5 @@
 -- Request A2 of document 02: what a drawing is of the listing, and when a corner is too far for it.
-use Rattle.std.specs.Prelude.{true, false, List, ◌⊎◌, ◌≡◌, ℕ, ◌+◌, ◌*◌, ◌<◌, get_or, drop, ℤ, nat_abs, Float}
+use Rattle.std.specs.Prelude.{true, false, List, ◌⊎◌, ◌≡◌, ℕ, ◌+◌, ◌*◌, ◌<◌, get_or, drop, ℤ, nat_abs, Float, Err, Ok, Some}
 use Rattle.std.specs.Float.{nan}
 use Rattle.plane.specs.Side.{Point}
 use Rattle.limits.specs.Limits.{most_offset}
@@ -7,12 +7,10 @@ use Rattle.limits.specs.declared.Refusal.{Refusal}
 use Rattle.limits.specs.declared.Refusal.TheVariants.{Room, Far}
 use Rattle.number.specs.Whole.{Is, minus_zero}
 use Rattle.stand.specs.Spot.{stood}
-use Rattle.stand.specs.declared.spot.Spot.TheVariants.{At}
 use Rattle.fan.specs.Sight.{Row}
 use Rattle.fan.specs.Written.{row_at}
 use Rattle.sight.specs.Listing.{seen, no_room, listed}
 use Rattle.sight.specs.declared.view.Query.{Query}
-use Rattle.sight.specs.declared.list.Listed.TheVariants.{Rows, Refused}
 use Rattle.tablet.specs.Drawing.{drawn}
 
 -- number i of a list is exactly the whole number z, and it is no minus zero
@@ -40,20 +38,20 @@ module _ (kind : ℕ) (cs : List ℤ) (ts ds : List ℕ) (a : Query) where
   pub record RowsDrawn (n : ℕ) (table : List ℕ) (before after : List Float) : Type 0 where
     pub x : ℤ
     pub y : ℤ
-    pub the_stand : stood cs a.stand ≡ At x y
+    pub the_stand : stood cs a.stand ≡ Some (x, y)
     pub row : (i : ℕ) → i < n → RowDrawn cs (record { x = x; y = y }) (row_at table i) after i
     pub beyond : drop (4 * n) after ≡ drop (4 * n) before
 
   -- a drawing into a list, beside a listing into any table that has room
   pub record DrawsTheListing (before : List Float) (table : List ℕ) : Type 0 where
     -- whenever it replies rows, the listing replies the same counts, and its rows are drawn in their order
-    pub as_listed : (n c : ℕ) (after : List Float) → drawn kind cs ts ds a before ≡ (Rows n c, after) → (listed kind cs ts ds a table).0 ≡ Rows n c
-    pub rows : (n c : ℕ) (after : List Float) → drawn kind cs ts ds a before ≡ (Rows n c, after) → RowsDrawn n (listed kind cs ts ds a table).1 before after
+    pub as_listed : (n c : ℕ) (after : List Float) → drawn kind cs ts ds a before ≡ (Ok (record { rows = n; crossings = c }), after) → (listed kind cs ts ds a table).0 ≡ Ok (record { rows = n; crossings = c })
+    pub rows : (n c : ℕ) (after : List Float) → drawn kind cs ts ds a before ≡ (Ok (record { rows = n; crossings = c }), after) → RowsDrawn n (listed kind cs ts ds a table).1 before after
     -- what the listing refuses, it refuses
-    pub refused_as_listed : {r : Refusal} → (listed kind cs ts ds a table).0 ≡ Refused r → drawn kind cs ts ds a before ≡ (Refused r, before)
+    pub refused_as_listed : {r : Refusal} → (listed kind cs ts ds a table).0 ≡ Err r → drawn kind cs ts ds a before ≡ (Err r, before)
     -- of what the listing lists: a short list is ROOM
-    pub room_first : {n c : ℕ} → (listed kind cs ts ds a table).0 ≡ Rows n c → no_room cs before ≡ true → drawn kind cs ts ds a before ≡ (Refused Room, before)
+    pub room_first : {n c : ℕ} → (listed kind cs ts ds a table).0 ≡ Ok (record { rows = n; crossings = c }) → no_room cs before ≡ true → drawn kind cs ts ds a before ≡ (Err Room, before)
     -- with room, one row that names a corner too far is FAR
-    pub too_far : {n c : ℕ} → (listed kind cs ts ds a table).0 ≡ Rows n c → no_room cs before ≡ false → (x y : ℤ) → stood cs a.stand ≡ At x y → (i : ℕ) → i < n → NamesTooFar cs (record { x = x; y = y }) (row_at (listed kind cs ts ds a table).1 i) → drawn kind cs ts ds a before ≡ (Refused Far, before)
+    pub too_far : {n c : ℕ} → (listed kind cs ts ds a table).0 ≡ Ok (record { rows = n; crossings = c }) → no_room cs before ≡ false → (x y : ℤ) → stood cs a.stand ≡ Some (x, y) → (i : ℕ) → i < n → NamesTooFar cs (record { x = x; y = y }) (row_at (listed kind cs ts ds a table).1 i) → drawn kind cs ts ds a before ≡ (Err Far, before)
     -- and where no row does it is drawn, wherever other corners are
-    pub near_enough : {n c : ℕ} → (listed kind cs ts ds a table).0 ≡ Rows n c → no_room cs before ≡ false → (x y : ℤ) → stood cs a.stand ≡ At x y → ((i : ℕ) → i < n → NamesTooFar cs (record { x = x; y = y }) (row_at (listed kind cs ts ds a table).1 i) → ⊥) → (drawn kind cs ts ds a before).0 ≡ Rows n c
+    pub near_enough : {n c : ℕ} → (listed kind cs ts ds a table).0 ≡ Ok (record { rows = n; crossings = c }) → no_room cs before ≡ false → (x y : ℤ) → stood cs a.stand ≡ Some (x, y) → ((i : ℕ) → i < n → NamesTooFar cs (record { x = x; y = y }) (row_at (listed kind cs ts ds a table).1 i) → ⊥) → (drawn kind cs ts ds a before).0 ≡ Ok (record { rows = n; crossings = c })

@@ -1,7 +1,6 @@
 -- A hall whose far door, face 10, lies behind a corner: seen from (0, 5) its cell is entered on the corner's right and on its left, so there are two runs
 -- through the door, side by side.
-use Rattle.std.specs.Prelude.{List, [], ◌∷◌, ℕ, ℤ, pos, negsuc, replicate}
-use Rattle.reach.specs.declared.Reach.TheVariants.{NotStated}
+use Rattle.std.specs.Prelude.{List, [], ◌∷◌, ℕ, ℤ, pos, negsuc, replicate, None}
 use Rattle.sight.specs.declared.view.Query.{Query}
 use Rattle.stand.specs.declared.spot.Stand.{Stand}
 use Rattle.stand.specs.declared.spot.Stand.TheVariants.{Point}
@@ -28,7 +27,7 @@ stand_in_hall = Point (double 0) five
 
 -- what is asked there while the door is open; no reach is stated
 abbrev pub query_in_hall : Query
-query_in_hall = record { setting = 0; stand = Point (double 0) five; reach = NotStated }
+query_in_hall = record { setting = 0; stand = Point (double 0) five; reach = None }
 
 -- a table of 4·corners old values
 abbrev pub hall_table : List ℕ

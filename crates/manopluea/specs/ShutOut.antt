@@ -1,5 +1,5 @@
 -- Wrong versions, which the laws of proofs/ShutOut.antt shut out (document 01, "What the promises have to say").
-use Rattle.std.specs.Prelude.{true, false, ◌&&◌, List, [], ◌∷◌, ◌++◌, ℕ, ℤ}
+use Rattle.std.specs.Prelude.{true, false, ◌&&◌, List, [], ◌∷◌, ◌++◌, ℕ, ℤ, Err, Ok, Result}
 use Rattle.std.proofs.lemmas.List.Edits.{sets}
 use Rattle.limits.specs.declared.Refusal.TheVariants.{Room}
 use Rattle.cells.specs.Lists.{Cells, cell_count, next, start}
@@ -9,13 +9,12 @@ use Rattle.fan.specs.Sight.{Floor, Sight, follow, lines_around, unentered, numbe
 use Rattle.fan.specs.Sight.Sight.{row, both, cut}
 use Rattle.sight.specs.Listing.{plan_floor, standing, viewed, refuse, no_room}
 use Rattle.sight.specs.declared.view.Query.{Query}
-use Rattle.sight.specs.declared.view.View.{View}
-use Rattle.sight.specs.declared.view.View.TheVariants.{From, Refused}
-use Rattle.sight.specs.declared.list.Listed.{Listed}
-use Rattle.sight.specs.declared.list.Listed.TheVariants as L
 use Rattle.runs.specs.Route.{Routed}
 use Rattle.runs.specs.Door.{on_door}
 use Rattle.runs.specs.Shutting.{Piece, pieces, is_run, door_row, shut_rows}
+use Rattle.sight.specs.declared.list.Counts.{Counts}
+use Rattle.limits.specs.declared.Refusal.{Refusal}
+use Rattle.sight.specs.declared.view.View.{View}
 
 -- ---- a listing that expands the first of the lines around the stand fully and treats the others as walls
 
@@ -30,20 +29,20 @@ unfoldable pub first_line_alone : Floor → ℕ → Cells → List ℕ → Sight
 first_line_alone F n T [] = cut
 first_line_alone F n T (f ∷ fs) = both (follow F n f (start T f) (start T (next T f))) (as_walls T fs)
 
-abbrev pub sight_listed : Sight → List ℕ → Listed × List ℕ
-sight_listed t table = (L.Rows (row_count t) (crossings t), sets table 0 (numbers t))
+abbrev pub sight_listed : Sight → List ℕ → Result Counts Refusal × List ℕ
+sight_listed t table = (Ok (record { rows = row_count t; crossings = crossings t }), sets table 0 (numbers t))
 
-abbrev pub first_line_listed_from : List ℤ → Cells → List ℕ → ℕ → ℕ → List ℕ → View → Listed × List ℕ
-first_line_listed_from cs T ds w R table (From x y p) =
+abbrev pub first_line_listed_from : List ℤ → Cells → List ℕ → ℕ → ℕ → List ℕ → Result View Refusal → Result Counts Refusal × List ℕ
+first_line_listed_from cs T ds w R table (Ok v) =
     refuse (no_room cs table) Room table
     (sight_listed
-    (first_line_alone (plan_floor cs T ds w R (record { x = x; y = y })) (unentered (cell_count T) (standing T p)) T
-    (lines_around (plan_floor cs T ds w R (record { x = x; y = y })) (standing T p)))
+    (first_line_alone (plan_floor cs T ds w R (record { x = v.x; y = v.y })) (unentered (cell_count T) (standing T v.footing)) T
+    (lines_around (plan_floor cs T ds w R (record { x = v.x; y = v.y })) (standing T v.footing)))
     table)
-first_line_listed_from cs T ds w R table (Refused r) = (L.Refused r, table)
+first_line_listed_from cs T ds w R table (Err r) = (Err r, table)
 
 -- it refuses as the listing does
-abbrev pub other_sides_as_walls : ℕ → List ℤ → List ℕ → List ℕ → Query → List ℕ → Listed × List ℕ
+abbrev pub other_sides_as_walls : ℕ → List ℤ → List ℕ → List ℕ → Query → List ℕ → Result Counts Refusal × List ℕ
 other_sides_as_walls kind cs ts ds a table =
     first_line_listed_from cs (cells_of kind ts) ds a.setting (range a.reach) table (viewed kind cs ts ds a)
 

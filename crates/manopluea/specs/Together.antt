@@ -1,12 +1,11 @@
 -- Request A1 of document 02, of any counts, table and replies: they are those of single calls, one after another, each with the one setting, the one reach
 -- and the one ceiling.
-use Rattle.std.specs.Prelude.{List, ◌≡◌, ℕ, ◌*◌, ◌≤◌, length, get_or, take, drop, ℤ}
+use Rattle.std.specs.Prelude.{List, ◌≡◌, ℕ, ◌*◌, ◌≤◌, length, get_or, take, drop, ℤ, Ok}
 use Rattle.cells.specs.Lists.{corner_count}
 use Rattle.cells.specs.Cut.{cells_of}
 use Rattle.stand.specs.declared.spot.Stand.{Stand}
 use Rattle.sight.specs.Ceiling.{listed_up_to}
 use Rattle.fan.specs.Once.{At}
-use Rattle.sight.specs.declared.list.Listed.TheVariants.{Rows}
 use Rattle.morning.specs.declared.Morning.{Morning}
 use Rattle.morning.specs.Morning.{rows_of, three_of, query_of, single, rows_in_all, crossings_in_all}
 use Rattle.manopluea.specs.Conditions.{lowest, single_conditions}
@@ -26,7 +25,7 @@ module _ (kind : ℕ) (cs : List ℤ) (ts ds : List ℕ) (m : Morning) (ss : Lis
     -- its rows, behind those of the stands before
     pub rows : take (4 * rows_of (listed_up_to kind cs ts ds (query_of m s) m.ceiling lent).0) (drop (4 * rows_before i) table) ≡ take (4 * rows_of (listed_up_to kind cs ts ds (query_of m s) m.ceiling lent).0) (listed_up_to kind cs ts ds (query_of m s) m.ceiling lent).1
     -- so demand 2 holds for them
-    pub sighted : (n k : ℕ) → (listed_up_to kind cs ts ds (query_of m s) m.ceiling lent).0 ≡ Rows n k → Sighted kind cs ts ds (query_of m s) n k (drop (4 * rows_before i) table)
+    pub sighted : (n k : ℕ) → (listed_up_to kind cs ts ds (query_of m s) m.ceiling lent).0 ≡ Ok (record { rows = n; crossings = k }) → Sighted kind cs ts ds (query_of m s) n k (drop (4 * rows_before i) table)
 
   pub record SingleCalls (n k : ℕ) (table₀ table replies₀ replies : List ℕ) : Type 0 where
     -- each stand, with any table of 4·corners numbers

@@ -1,5 +1,5 @@
 -- Where no reach is stated the rows are document 01's, with 0 after each (document 02, A5), of any count and table.
-use Rattle.std.specs.Prelude.{List, [], ◌∷◌, ◌≡◌, ℕ, ◌*◌, take, ℤ}
+use Rattle.std.specs.Prelude.{List, [], ◌∷◌, ◌≡◌, ℕ, ◌*◌, take, ℤ, Ok, Some}
 use Rattle.plane.specs.Side.{Point}
 use Rattle.cells.specs.Lists.{Cells, cell_count}
 use Rattle.cells.specs.Cut.{cells_of}
@@ -7,9 +7,7 @@ use Rattle.setting.specs.Setting.{ends}
 use Rattle.stand.specs.Spot.{stood}
 use Rattle.stand.specs.Find.{located}
 use Rattle.stand.specs.declared.spot.Stand.{Stand}
-use Rattle.stand.specs.declared.spot.Spot.TheVariants.{At}
 use Rattle.stand.specs.declared.locate.Footing.{Footing}
-use Rattle.stand.specs.declared.locate.Found.TheVariants as F
 use Rattle.fan.specs.Sight.{Floor, Row, seen_from, rows, row_count, crossings}
 use Rattle.runs.specs.Floors.{ending}
 use Rattle.sight.specs.Listing.{plan_floor, standing}
@@ -27,9 +25,9 @@ with_0_after_each (r ∷ rs) = r.face ∷ r.right ∷ r.left ∷ 0 ∷ with_0_af
 pub record AsBefore (kind : ℕ) (cs : List ℤ) (ts ds : List ℕ) (w : ℕ) (s : Stand) (n k : ℕ) (table : List ℕ) : Type 0 where
   pub x : ℤ
   pub y : ℤ
-  pub the_stand : stood cs s ≡ At x y
+  pub the_stand : stood cs s ≡ Some (x, y)
   pub place : Footing
-  pub its_place : located cs (cells_of kind ts) ds w (record { x = x; y = y }) ≡ F.At place
+  pub its_place : located cs (cells_of kind ts) ds w (record { x = x; y = y }) ≡ Ok place
   pub the_rows : take (4 * n) table ≡ with_0_after_each (rows (seen_from (walls_alone cs (cells_of kind ts) ds w (record { x = x; y = y })) (cell_count (cells_of kind ts)) (standing (cells_of kind ts) place)))
   pub the_row_count : n ≡ row_count (seen_from (walls_alone cs (cells_of kind ts) ds w (record { x = x; y = y })) (cell_count (cells_of kind ts)) (standing (cells_of kind ts) place))
   pub the_crossings : k ≡ crossings (seen_from (walls_alone cs (cells_of kind ts) ds w (record { x = x; y = y })) (cell_count (cells_of kind ts)) (standing (cells_of kind ts) place))

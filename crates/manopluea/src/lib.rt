@@ -27,14 +27,12 @@ ghost use Rattle.stand.specs.Reply.{found_reply};
 ghost use Rattle.sight.specs.Reply.{listed_reply};
 ghost use Rattle.manopluea.specs.Calls.{check_replies, read_replies, write_replies, find_replies, list_replies, draw_replies, change_replies, list_stands_replies};
 
-pub use limits::{Checked, Plan, Refusal};
+pub use limits::{Plan, Refusal};
 pub use morning::Morning;
 pub use planfile::ReadPlan;
-pub use reach::Reach;
-pub use sight::ceiling::Ceiling;
-pub use sight::list::Listed;
+pub use sight::list::Counts;
 pub use sight::view::Query;
-pub use stand::locate::{Footing, Found};
+pub use stand::locate::Footing;
 pub use stand::spot::Stand;
 
 // What a call is told of its lists: which kind the list of cells is in, 2 or 12; every other number is FRAME.
@@ -47,13 +45,13 @@ pub struct Terms {
 #[derive(Clone, Copy)]
 pub struct Listing {
     pub query: Query,
-    pub ceiling: Ceiling,
+    pub ceiling: Option<u64>,
 }
 
 // The plan check. Accepted with the counts of corners, cells and doors; else FRAME, SIZE, CORNER, CELL, NEIGHBOUR or DOOR, the lowest number that applies,
 // at its least place; and after them OVERLAP, where some point, whole or fractional, is strictly inside two cells, at the least cell of any such pair
 // (document 02, A7).
-pub fn check(corners: &[i32], cells: &[u16], doors: &[u16], terms: Terms) -> Checked
+pub fn check(corners: &[i32], cells: &[u16], doors: &[u16], terms: Terms) -> Result<Plan, Refusal>
     ensures answer { result ≡ checked terms.kind corners.now cells.now doors.now }
     ensures numbers { checked_reply result ≡ check_replies terms.kind corners.now cells.now doors.now }
 {
@@ -63,7 +61,7 @@ pub fn check(corners: &[i32], cells: &[u16], doors: &[u16], terms: Terms) -> Che
 
 // The reader: the three lists of a plan file go into the lent lists, from their beginning. Accepted with the counts, which kind the list of cells is in,
 // and how many numbers that list has; else 1 to 6 and 17 as the check has them, or ROOM where any list is shorter than its numbers.
-pub fn read(file: &[u8], corners: &mut [i32], cells: &mut [u16], doors: &mut [u16]) -> ReadPlan
+pub fn read(file: &[u8], corners: &mut [i32], cells: &mut [u16], doors: &mut [u16]) -> Result<ReadPlan, Refusal>
     ensures answer { (result, (corners.new, (cells.new, doors.new))) ≡ Calls·read file.now corners.old cells.old doors.old }
     ensures numbers { (read_numbers result, (corners.new, (cells.new, doors.new))) ≡ read_replies file.now corners.old cells.old doors.old }
 {
@@ -79,7 +77,7 @@ pub fn write(
     doors: &[u16],
     terms: Terms,
     file: &mut [u8],
-) -> Checked
+) -> Result<Plan, Refusal>
     ensures answer { (result, file.new) ≡ written terms.kind corners.now cells.now doors.now file.old }
     ensures numbers { (checked_reply result, file.new) ≡ write_replies terms.kind corners.now cells.now doors.now file.old }
 {
@@ -97,7 +95,7 @@ pub fn find(
     terms: Terms,
     setting: u64,
     stand: Stand,
-) -> Found
+) -> Result<Footing, Refusal>
     ensures answer { result ≡ found terms.kind corners.now cells.now doors.now setting stand }
     ensures numbers { found_reply result ≡ find_replies terms.kind corners.now cells.now doors.now setting stand }
 {
@@ -118,7 +116,7 @@ pub fn list(
     terms: Terms,
     listing: Listing,
     table: &mut [u16],
-) -> Listed
+) -> Result<Counts, Refusal>
     ensures answer { (result, table.new) ≡ listed_up_to terms.kind corners.now cells.now doors.now listing.query listing.ceiling table.old }
     ensures numbers { (listed_reply result, table.new) ≡ list_replies terms.kind corners.now cells.now doors.now listing.query listing.ceiling table.old }
 {
@@ -139,7 +137,7 @@ pub fn draw(
     terms: Terms,
     query: Query,
     offsets: &mut [f32],
-) -> Listed
+) -> Result<Counts, Refusal>
     ensures answer { (result, offsets.new) ≡ drawn terms.kind corners.now cells.now doors.now query offsets.old }
     ensures numbers { (listed_reply result, offsets.new) ≡ draw_replies terms.kind corners.now cells.now doors.now query offsets.old }
 {
@@ -160,7 +158,7 @@ pub fn change(
     door: usize,
     shut: bool,
     table: &mut [u16],
-) -> Listed
+) -> Result<Counts, Refusal>
     ensures answer { (result, table.new) ≡ changed terms.kind corners.now cells.now doors.now query given.now door shut table.old }
     ensures numbers { (listed_reply result, table.new) ≡ change_replies terms.kind corners.now cells.now doors.now query given.now door shut table.old }
 {
@@ -182,7 +180,7 @@ pub fn list_stands(
     stands: [Stand; Plan::MOST_STANDS],
     table: &mut [u16],
     replies: &mut [u64],
-) -> Listed
+) -> Result<Counts, Refusal>
     ensures answer { (result, (table.new, replies.new)) ≡ listed_stands terms.kind corners.now cells.now doors.now morning stands table.old replies.old }
     ensures numbers { (listed_reply result, (table.new, replies.new)) ≡ list_stands_replies terms.kind corners.now cells.now doors.now morning stands table.old replies.old }
 {

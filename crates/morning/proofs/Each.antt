@@ -14,13 +14,13 @@ use Rattle.limits.specs.Limits.{most_corners, most_cells}
 use Rattle.cells.specs.Lists.{Cells, corner_count}
 use Rattle.cells.specs.Sound.{Sound}
 use Rattle.cells.proofs.Plans.{counts}
-use Rattle.reach.specs.declared.Reach.{Reach}
-use Rattle.sight.specs.declared.ceiling.Ceiling.{Ceiling}
 use Rattle.stand.specs.declared.spot.Stand.{Stand}
-use Rattle.sight.specs.declared.list.Listed.{Listed}
 use Rattle.morning.specs.Morning.{rows_of, crossings_of, three_of, rows_in, one_after_another, in_all, rows_in_all, crossings_in_all, all_rows, all_replies}
 use Rattle.morning.specs.OverLines.{listed_on, single_on, RoomFor}
 use Rattle.morning.proofs.Single.{Small, AsSingle, listed_on_as_single, single_on_is_small}
+use Rattle.sight.specs.declared.list.Counts.{Counts}
+use Rattle.limits.specs.declared.Refusal.{Refusal}
+use Rattle.std.specs.Prelude.{Option, Result}
 
 -- ---- one after another, and in all
 
@@ -68,7 +68,7 @@ one_each (s ∷ ss) = omega (arith, one_each ss)
 
 -- ---- small listings
 
-module _ {cs : List ℤ} {listing : Stand → Listed × List ℕ} (small : (s : Stand) → Small cs (listing s)) where
+module _ {cs : List ℤ} {listing : Stand → Result Counts Refusal × List ℕ} (small : (s : Stand) → Small cs (listing s)) where
   pub few_rows_in_all : (ss : List Stand) → rows_in_all listing ss ≤ corner_count cs * length ss
   few_rows_in_all = at_most_each (λ s. rows_of (listing s).0) (corner_count cs) (λ s. (small s).few_rows)
 
@@ -78,7 +78,7 @@ module _ {cs : List ℤ} {listing : Stand → Listed × List ℕ} (small : (s : 
   pub rows_are_four_numbers : (ss : List Stand) → length (all_rows listing ss) ≡ 4 * rows_in_all listing ss
   rows_are_four_numbers = long_in_all (λ s. rows_in (listing s)) (λ s. rows_of (listing s).0) 4 (λ s. (small s).four_a_row)
 
-pub replies_are_three_numbers : (listing : Stand → Listed × List ℕ) (ss : List Stand) → length (all_replies listing ss) ≡ 3 * length ss
+pub replies_are_three_numbers : (listing : Stand → Result Counts Refusal × List ℕ) (ss : List Stand) → length (all_replies listing ss) ≡ 3 * length ss
 replies_are_three_numbers listing ss = long_in_all (λ s. three_of (listing s).0) (λ s. 1) 3 (λ s. refl) ss ∙ ap (λ (n : ℕ). 3 * n) (one_each ss)
 
 -- before stand i: few rows and crossings yet, and room for its own
@@ -88,7 +88,7 @@ pub record Next (cs : List ℤ) (i rows crossings : ℕ) (table replies : List �
   pub room_left : 4 * rows + 4 * corner_count cs ≤ length table
   pub places_left : 3 * i + 3 ≤ length replies
 
-module _ (listing : Stand → Listed × List ℕ) (stands : List Stand) where
+module _ (listing : Stand → Result Counts Refusal × List ℕ) (stands : List Stand) where
   -- rows, crossings, table and replies after the first i stands
   pub record SoFar (i rows crossings : ℕ) (table₀ table replies₀ replies : List ℕ) : Type 0 where
     pub rows_are : rows ≡ rows_in_all listing (take i stands)
@@ -100,7 +100,7 @@ module _ (listing : Stand → Listed × List ℕ) (stands : List Stand) where
   unfolding one_after_another in_all
   none_yet table replies = record { rows_are = refl; crossings_are = refl; table_is = refl; replies_are = refl }
 
-module _ {listing : Stand → Listed × List ℕ} {stands : List Stand} {i rows crossings : ℕ} {table₀ table replies₀ replies : List ℕ} (so : SoFar listing stands i rows crossings table₀ table replies₀ replies) where
+module _ {listing : Stand → Result Counts Refusal × List ℕ} {stands : List Stand} {i rows crossings : ℕ} {table₀ table replies₀ replies : List ℕ} (so : SoFar listing stands i rows crossings table₀ table replies₀ replies) where
   pub table_keeps_its_length : length table ≡ length table₀
   table_keeps_its_length = ap length so.table_is ∙ length-sets table₀ 0 (all_rows listing (take i stands))
 
@@ -118,8 +118,8 @@ module _ {listing : Stand → Listed × List ℕ} {stands : List Stand} {i rows 
 
 -- ---- on an accepted plan: room for n stands is room for stand i
 
-module _ {cs : List ℤ} {T : Cells} {ds : List ℕ} (sound : Sound cs T ds) (w : ℕ) (r : Reach) (c : Ceiling) where
-  abbrev listing : Stand → Listed × List ℕ
+module _ {cs : List ℤ} {T : Cells} {ds : List ℕ} (sound : Sound cs T ds) (w : ℕ) (r : Option ℕ) (c : Option ℕ) where
+  abbrev listing : Stand → Result Counts Refusal × List ℕ
   listing = single_on cs T ds w r c
 
   small : (s : Stand) → Small cs (listing s)
@@ -158,7 +158,7 @@ module _ {cs : List ℤ} {T : Cells} {ds : List ℕ} (sound : Sound cs T ds) (w 
       abbrev stand : Stand
       stand = get_or stands i d
 
-      abbrev here : Listed × List ℕ
+      abbrev here : Result Counts Refusal × List ℕ
       here = listed_on cs T ds w r c stand part
 
       one : AsSingle cs part (listing stand) here
@@ -197,7 +197,7 @@ module _ {cs : List ℤ} {T : Cells} {ds : List ℕ} (sound : Sound cs T ds) (w 
                 ∙ ap (sets table₀ 0) (sym (and_the_last (λ s. rows_in (listing s)) ss stand) ∙ ap (all_rows listing) (sym one_more_taken));
             replies_are =
                 h.1.1.1
-                ∙ ap (λ (a : Listed). sets replies (3 * i) (three_of a)) one.same_answer
+                ∙ ap (λ (a : Result Counts Refusal). sets replies (3 * i) (three_of a)) one.same_answer
                 ∙ ap (λ (t : List ℕ). sets t (3 * i) (three_of (listing stand).0)) so.replies_are
                 ∙ ap (λ (a : ℕ). sets (sets replies₀ 0 (all_replies listing ss)) a (three_of (listing stand).0)) (sym places_here)
                 ∙ sets_append replies₀ 0 (all_replies listing ss) (three_of (listing stand).0)

@@ -17,7 +17,6 @@ use Rattle.limits.specs.declared.Refusal.TheVariants.{Room}
 use Rattle.cells.specs.Lists.{Cells, corner_count, face_count}
 use Rattle.cells.specs.Sound.{CornersNear, Numbered, Sound}
 use Rattle.reach.specs.Reach.{range}
-use Rattle.reach.specs.declared.Reach.{Reach}
 use Rattle.reach.proofs.Reaching.{right_reach}
 use Rattle.stand.specs.Spot.{stood}
 use Rattle.stand.specs.declared.spot.Stand.{Stand}
@@ -31,15 +30,13 @@ use Rattle.sight.specs.CellTree.{stand_tree, StandsIn}
 use Rattle.sight.specs.Seen.{SeenFrom}
 use Rattle.sight.specs.Listing.{view_of_spot, refuse, rows_from, listed_from}
 use Rattle.sight.specs.Ceiling.{enough, up_to, tree_up_to}
-use Rattle.sight.specs.declared.ceiling.Ceiling.{Ceiling}
-use Rattle.sight.specs.declared.view.View.{View}
-use Rattle.sight.specs.declared.view.View.TheVariants as O
 use Rattle.sight.proofs.Lister.{tables_serve, tree_listed}
 use Rattle.sight.proofs.Views.{Spotted, spot_says, is_long}
-use Rattle.sight.specs.declared.list.Listed.{Listed}
-use Rattle.sight.specs.declared.list.Listed.TheVariants as L
 use Rattle.morning.specs.Morning.{rows_of, crossings_of, three_of}
 use Rattle.morning.specs.OverLines.{listed_on}
+use Rattle.sight.specs.declared.list.Counts.{Counts}
+use Rattle.sight.specs.declared.view.View.{View}
+use Rattle.std.specs.Prelude.{Err, Ok, Option, Result}
 
 -- three stores one behind the other
 pub three_put : (l : List ℕ) (at a b c : ℕ) → set (set (set l at a) (at + 1) b) (at + 2) c ≡ sets l at (a ∷ b ∷ c ∷ [])
@@ -52,17 +49,17 @@ three_put l at a b c =
 abbrev seen_from : ℤ → ℤ → Point
 seen_from x y = point (to_z w64 (of_z w64 x) ∷ to_z w64 (of_z w64 y) ∷ [])
 
-module _ (cs : List ℤ) (T : Cells) (ds : List ℕ) (w : ℕ) (r : Reach) (c : Ceiling) (s : Stand) (table : List ℕ) where
-  by_view : {v : View} → view_of_spot cs T ds w r (stood cs s) ≡ v → up_to c table (listed_from cs T ds w (range r) table v) ≡ listed_on cs T ds w r c s table
+module _ (cs : List ℤ) (T : Cells) (ds : List ℕ) (w : ℕ) (r : Option ℕ) (c : Option ℕ) (s : Stand) (table : List ℕ) where
+  by_view : {v : Result View Refusal} → view_of_spot cs T ds w r (stood cs s) ≡ v → up_to c table (listed_from cs T ds w (range r) table v) ≡ listed_on cs T ds w r c s table
   unfolding listed_on
-  by_view e = ap (λ (v : View). up_to c table (listed_from cs T ds w (range r) table v)) (sym e)
+  by_view e = ap (λ (v : Result View Refusal). up_to c table (listed_from cs T ds w (range r) table v)) (sym e)
 
-  pub stand_refused : {x : Refusal} → view_of_spot cs T ds w r (stood cs s) ≡ O.Refused x → (L.Refused x, table) ≡ listed_on cs T ds w r c s table
+  pub stand_refused : {x : Refusal} → view_of_spot cs T ds w r (stood cs s) ≡ Err x → (Err x, table) ≡ listed_on cs T ds w r c s table
   stand_refused view = by_view view
 
 -- ---- a stand that is found
 
-module _ {cs : List ℤ} {T : Cells} {ds : List ℕ} (sound : Sound cs T ds) (w : ℕ) (r : Reach) (s : Stand) {x y : ℤ} {p : Footing} (view : view_of_spot cs T ds w r (stood cs s) ≡ O.From x y p) where
+module _ {cs : List ℤ} {T : Cells} {ds : List ℕ} (sound : Sound cs T ds) (w : ℕ) (r : Option ℕ) (s : Stand) {x y : ℤ} {p : Footing} (view : view_of_spot cs T ds w r (stood cs s) ≡ Ok (record { x = x; y = y; footing = p })) where
   abbrev q : Point
   q = seen_from x y
 
@@ -89,7 +86,7 @@ module _ {cs : List ℤ} {T : Cells} {ds : List ℕ} (sound : Sound cs T ds) (w 
     pub lines_asked : (Lines zs ls × Starts zs ls T.faces × (R ≤ most_reach) × Numbered T) × ((StandsIn ls T p × (length ls ≡ 4 * face_count T)) × (Whole tree × ((4 * row_count tree ≤ length table) × ((row_count tree ≤ most_corners) × (crossings tree < enough)))))
     lines_asked = tables_serve sound w R q near lined seen p stands (subst (λ (n : ℕ). n ≤ most_reach) (sym in_range) (right_reach r spot.reach_right)) (length table) room
 
-    pub stand_listed : (c : Ceiling) {a : Listed × List ℕ} → a ≡ tree_up_to c table tree → a ≡ listed_on cs T ds w r c s table
+    pub stand_listed : (c : Option ℕ) {a : Result Counts Refusal × List ℕ} → a ≡ tree_up_to c table tree → a ≡ listed_on cs T ds w r c s table
     stand_listed c e =
         let said =
         tree_listed sound w R q near lined seen p stands table
@@ -100,15 +97,15 @@ module _ {cs : List ℤ} {T : Cells} {ds : List ℕ} (sound : Sound cs T ds) (w 
 -- ---- the stand's reply
 
 -- counts, table and replies are left by the stand's listing
-abbrev Left : ℕ → List ℕ → ℕ → ℕ → List ℕ → List ℕ → Listed × List ℕ → Type 0
+abbrev Left : ℕ → List ℕ → ℕ → ℕ → List ℕ → List ℕ → Result Counts Refusal × List ℕ → Type 0
 Left at old i j new new_replies l =
     (i ≡ rows_of l.0) × ((j ≡ crossings_of l.0) × ((new ≡ l.1) × (new_replies ≡ sets old at (three_of l.0))))
 
-module _ (at : ℕ) (old : List ℕ) {l : Listed × List ℕ} {a : Listed} {new new_replies : List ℕ} (listed : (a, new) ≡ l) where
-  pub refusal_left : {x : Refusal} {n : ℕ} → a ≡ L.Refused x → n ≡ number x → new_replies ≡ sets old at (n ∷ 0 ∷ 0 ∷ []) → Left at old 0 0 new new_replies l
+module _ (at : ℕ) (old : List ℕ) {l : Result Counts Refusal × List ℕ} {a : Result Counts Refusal} {new new_replies : List ℕ} (listed : (a, new) ≡ l) where
+  pub refusal_left : {x : Refusal} {n : ℕ} → a ≡ Err x → n ≡ number x → new_replies ≡ sets old at (n ∷ 0 ∷ 0 ∷ []) → Left at old 0 0 new new_replies l
   refusal_left is e h =
       subst (Left at old 0 0 new new_replies) listed
-      (subst (λ (a : Listed). Left at old 0 0 new new_replies (a, new)) (sym is) (refl, (refl, (refl, h ∙ ap (λ (n : ℕ). sets old at (n ∷ 0 ∷ 0 ∷ [])) e))))
+      (subst (λ (a : Result Counts Refusal). Left at old 0 0 new new_replies (a, new)) (sym is) (refl, (refl, (refl, h ∙ ap (λ (n : ℕ). sets old at (n ∷ 0 ∷ 0 ∷ [])) e))))
 
-  pub rows_left : {i j : ℕ} → a ≡ L.Rows i j → new_replies ≡ sets old at (0 ∷ i ∷ j ∷ []) → Left at old i j new new_replies l
-  rows_left {i} {j} is h = subst (Left at old i j new new_replies) listed (subst (λ (a : Listed). Left at old i j new new_replies (a, new)) (sym is) (refl, (refl, (refl, h))))
+  pub rows_left : {i j : ℕ} → a ≡ Ok (record { rows = i; crossings = j }) → new_replies ≡ sets old at (0 ∷ i ∷ j ∷ []) → Left at old i j new new_replies l
+  rows_left {i} {j} is h = subst (Left at old i j new new_replies) listed (subst (λ (a : Result Counts Refusal). Left at old i j new new_replies (a, new)) (sym is) (refl, (refl, (refl, h))))

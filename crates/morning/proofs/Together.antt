@@ -10,8 +10,6 @@ use lib.IntN.{ℤ}
 use Rattle.exact.proofs.Lent.{written_from_the_beginning, first_is_new, rest_is_kept}
 use Rattle.limits.specs.Limits.{most_stands}
 use Rattle.limits.specs.declared.Refusal.{Refusal}
-use Rattle.limits.specs.declared.Checked.{Checked}
-use Rattle.limits.specs.declared.Checked.TheVariants as C
 use Rattle.cells.specs.Lists.{Cells, corner_count}
 use Rattle.cells.specs.Cut.{cells_of}
 use Rattle.cells.specs.Sound.{Sound}
@@ -19,8 +17,6 @@ use Rattle.stand.specs.declared.spot.Stand.{Stand}
 use Rattle.sight.specs.Ceiling.{listed_up_to}
 use Rattle.fan.specs.Once.{At}
 use Rattle.fan.specs.Once.At.{first, later}
-use Rattle.sight.specs.declared.list.Listed.{Listed}
-use Rattle.sight.specs.declared.list.Listed.TheVariants as L
 use Rattle.fan.proofs.Tables.{place_is_within}
 use Rattle.morning.specs.declared.Morning.{Morning}
 use Rattle.morning.specs.Morning.{rows_of, three_of, rows_in, one_after_another, query_of, single, rows_in_all, crossings_in_all, all_rows, all_replies, stands_from, listed_stands}
@@ -29,9 +25,12 @@ use Rattle.grant.specs.Asked.{asked, Granted}
 use Rattle.grant.proofs.Grants.{Grant, grant_says}
 use Rattle.morning.proofs.Single.{Small, AsSingle, single_by_spot, listed_as_single}
 use Rattle.morning.proofs.Each.{followed_by, rows_are_four_numbers, replies_are_three_numbers, few_rows_in_all}
+use Rattle.sight.specs.declared.list.Counts.{Counts}
+use Rattle.limits.specs.declared.Plan.{Plan}
+use Rattle.std.specs.Prelude.{Err, Ok, Result}
 
 module _ (k : ℕ) (cs : List ℤ) (ts ds : List ℕ) (m : Morning) (stands : List Stand) (table replies : List ℕ) where
-  pub call_refused : {r : Refusal} → asked k cs ts ds m.setting m.count (length table) (length replies) ≡ C.Refused r → ◌≡◌ {A = Listed × (List ℕ × List ℕ)} (L.Refused r, (table, replies)) (listed_stands k cs ts ds m stands table replies)
+  pub call_refused : {r : Refusal} → asked k cs ts ds m.setting m.count (length table) (length replies) ≡ Err r → ◌≡◌ {A = Result Counts Refusal × (List ℕ × List ℕ)} (Err r, (table, replies)) (listed_stands k cs ts ds m stands table replies)
   unfolding listed_stands
   call_refused e = ap (stands_from (single k cs ts ds m) (take m.count stands) table replies) (sym e)
 
@@ -49,14 +48,14 @@ module _ (k : ℕ) (cs : List ℤ) (ts ds : List ℕ) (m : Morning) (stands : Li
     on_the_tables : single_on cs T ds m.setting m.reach m.ceiling ≡ single k cs ts ds m
     on_the_tables = λ i s. (ap (λ (T : Cells). single_on cs T ds m.setting m.reach m.ceiling s) is_T ∙ sym (single_by_spot k cs ts ds m grant.plan_accepted grant.setting_right s)) i
 
-    pub call_done : {i j : ℕ} {new new_replies : List ℕ} → (i ≡ rows_in_all (single_on cs T ds m.setting m.reach m.ceiling) (take m.count stands)) × ((j ≡ crossings_in_all (single_on cs T ds m.setting m.reach m.ceiling) (take m.count stands)) × ((new ≡ sets table 0 (all_rows (single_on cs T ds m.setting m.reach m.ceiling) (take m.count stands))) × (new_replies ≡ sets replies 0 (all_replies (single_on cs T ds m.setting m.reach m.ceiling) (take m.count stands))))) → ◌≡◌ {A = Listed × (List ℕ × List ℕ)} (L.Rows i j, (new, new_replies)) (listed_stands k cs ts ds m stands table replies)
+    pub call_done : {i j : ℕ} {new new_replies : List ℕ} → (i ≡ rows_in_all (single_on cs T ds m.setting m.reach m.ceiling) (take m.count stands)) × ((j ≡ crossings_in_all (single_on cs T ds m.setting m.reach m.ceiling) (take m.count stands)) × ((new ≡ sets table 0 (all_rows (single_on cs T ds m.setting m.reach m.ceiling) (take m.count stands))) × (new_replies ≡ sets replies 0 (all_replies (single_on cs T ds m.setting m.reach m.ceiling) (take m.count stands))))) → ◌≡◌ {A = Result Counts Refusal × (List ℕ × List ℕ)} (Ok (record { rows = i; crossings = j }), (new, new_replies)) (listed_stands k cs ts ds m stands table replies)
     unfolding listed_stands
     call_done h =
-        (λ i. (L.Rows (h.0 i) (h.1.0 i), (h.1.1.0 i, h.1.1.1 i)))
-        ∙ ap₂ (λ (listing : Stand → Listed × List ℕ) (a : Checked). stands_from listing (take m.count stands) table replies a) on_the_tables (sym granted.accepted)
+        (λ i. (Ok (record { rows = h.0 i; crossings = h.1.0 i }), (h.1.1.0 i, h.1.1.1 i)))
+        ∙ ap₂ (λ (listing : Stand → Result Counts Refusal × List ℕ) (a : Result Plan Refusal). stands_from listing (take m.count stands) table replies a) on_the_tables (sym granted.accepted)
 
   -- the promise of the call leaves one answer, one table and one list of replies
-  pub list_stands_has_one_reply : {r s : Listed × (List ℕ × List ℕ)} → r ≡ listed_stands k cs ts ds m stands table replies → s ≡ listed_stands k cs ts ds m stands table replies → r ≡ s
+  pub list_stands_has_one_reply : {r s : Result Counts Refusal × (List ℕ × List ℕ)} → r ≡ listed_stands k cs ts ds m stands table replies → s ≡ listed_stands k cs ts ds m stands table replies → r ≡ s
   list_stands_has_one_reply h e = h ∙ sym e
 
 -- stands beyond the first n are not looked at, and where there are more than 32 none is
@@ -64,11 +63,11 @@ pub only_the_first_are_read : (k : ℕ) (cs : List ℤ) (ts ds : List ℕ) (m : 
 unfolding listed_stands
 only_the_first_are_read k cs ts ds m ss us table replies same = by_asked (asked k cs ts ds m.setting m.count (length table) (length replies)) refl
   where
-    by_asked : (a : Checked) → asked k cs ts ds m.setting m.count (length table) (length replies) ≡ a → stands_from (single k cs ts ds m) (take m.count ss) table replies a ≡ stands_from (single k cs ts ds m) (take m.count us) table replies a
-    by_asked (C.Accepted p) e =
+    by_asked : (a : Result Plan Refusal) → asked k cs ts ds m.setting m.count (length table) (length replies) ≡ a → stands_from (single k cs ts ds m) (take m.count ss) table replies a ≡ stands_from (single k cs ts ds m) (take m.count us) table replies a
+    by_asked (Ok p) e =
         let few = (grant_says k cs ts ds m.setting m.count (length table) (length replies) (record { plan = p; accepted = e })).few_stands in
-        ap (λ (l : List Stand). stands_from (single k cs ts ds m) l table replies (C.Accepted p)) (same few)
-    by_asked (C.Refused r) e = refl
+        ap (λ (l : List Stand). stands_from (single k cs ts ds m) l table replies (Ok p)) (same few)
+    by_asked (Err r) e = refl
 
 -- ---- each stand's part
 
@@ -126,7 +125,7 @@ module _ (k : ℕ) (cs : List ℤ) (ts ds : List ℕ) (m : Morning) (stands : Li
     -- the numbers behind the rows of the stands before are the rows of the single listing
     pub rows_are_the_single_ones : take (4 * rows_of (listed_up_to k cs ts ds (query_of m s) m.ceiling lent).0) (drop (4 * rows_in_all (single k cs ts ds m) (take i ss)) (sets table 0 (all_rows (single k cs ts ds m) ss))) ≡ take (4 * rows_of (listed_up_to k cs ts ds (query_of m s) m.ceiling lent).0) (listed_up_to k cs ts ds (query_of m s) m.ceiling lent).1
     rows_are_the_single_ones =
-        let as_many : length (rows_in (single k cs ts ds m s)) ≡ 4 * rows_of (listed_up_to k cs ts ds (query_of m s) m.ceiling lent).0 = alone.small.four_a_row ∙ ap (λ (a : Listed). 4 * rows_of a) (sym alone.same_answer) in
+        let as_many : length (rows_in (single k cs ts ds m s)) ≡ 4 * rows_of (listed_up_to k cs ts ds (query_of m s) m.ceiling lent).0 = alone.small.four_a_row ∙ ap (λ (a : Result Counts Refusal). 4 * rows_of a) (sym alone.same_answer) in
         part_of (λ s. rows_in (single k cs ts ds m s)) at table (omega (arith, rows_have_room, rows_are_four_numbers small ss)) (4 * rows_in_all (single k cs ts ds m) (take i ss)) (4 * rows_of (listed_up_to k cs ts ds (query_of m s) m.ceiling lent).0) (rows_are_four_numbers small (take i ss)) as_many
         ∙ sym
         (ap (take (4 * rows_of (listed_up_to k cs ts ds (query_of m s) m.ceiling lent).0)) alone.same_rows

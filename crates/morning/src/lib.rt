@@ -12,19 +12,15 @@ ghost use Rattle.cells.specs.Sound.{Sound};
 ghost use Rattle.boxes.specs.Boxes.{Boxed};
 ghost use Rattle.lines.specs.Lined.{Lined};
 ghost use Rattle.checking.specs.Sizes.{sizes_of};
-ghost use Rattle.checking.specs.declared.Sizes.TheVariants.{Of};
 ghost use Rattle.morning.specs.OverLines.{listed_on, single_on, RoomFor};
 ghost use Rattle.morning.specs.Morning.{rows_of, crossings_of, three_of, rows_in_all, crossings_in_all, all_rows, all_replies, listed_stands};
 
-use checking::Sizes;
 use grant::{asked_in, measure_for};
-use limits::{Checked, Plan, reply};
+use limits::{Plan, Refusal, reply};
 use lines::lines_of;
-use reach::Reach;
-use sight::ceiling::Ceiling;
-use sight::list::{Counts, Listed, list_up_to};
+use sight::list::{Counts, list_up_to};
 use sight::seen::see;
-use sight::view::{View, view_of_stand};
+use sight::view::view_of_stand;
 use stand::spot::Stand;
 
 // What the stands of a morning share: the door setting, how many of the stands are asked for, the reach, and the ceiling, which each of them has for itself.
@@ -32,8 +28,8 @@ use stand::spot::Stand;
 pub struct Morning {
     pub setting: u64,
     pub count: usize,
-    pub reach: Reach,
-    pub ceiling: Ceiling,
+    pub reach: Option<u64>,
+    pub ceiling: Option<u64>,
 }
 
 // A stand's reply, from a place on: its number, row count and crossings.
@@ -55,29 +51,34 @@ fn list_one(
     boxes: &[i32],
     doors: &[u16],
     setting: u64,
-    reach: Reach,
-    ceiling: Ceiling,
+    reach: Option<u64>,
+    ceiling: Option<u64>,
     lines: &[u16],
     stand: Stand,
     table: &mut [u16],
     seen: &mut [i32],
-) -> Listed
+) -> Result<Counts, Refusal>
     requires sound { Sound corners.now (tabled faces.now firsts.now) doors.now × Backed (tabled faces.now firsts.now) backs.now × Boxed corners.now (tabled faces.now firsts.now) boxes.now }
     requires lined { Lined (tabled faces.now firsts.now) doors.now setting lines.now }
     requires corners_in_bounds { 4 * corner_count corners.now ≤ length table.old }
     requires seen_len { length seen.old ≡ length corners.now }
     ensures { (result, table.new) ≡ listed_on corners.now (tabled faces.now firsts.now) doors.now setting reach ceiling stand table.old }
 {
-    match view_of_stand(
+    let view = view_of_stand(
         corners, faces, firsts, backs, boxes, doors, setting, stand, reach,
-    ) {
-        View::Refused(r) => Listed::Refused(r),
-        View::From(x, y, p) => {
-            see(corners, [x, y], seen);
-            let range = reach::range(reach);
-            list_up_to(seen, lines, faces, firsts, range, table, p, ceiling)
-        }
-    }
+    )?;
+    see(corners, [view.x, view.y], seen);
+    let range = reach::range(reach);
+    list_up_to(
+        seen,
+        lines,
+        faces,
+        firsts,
+        range,
+        table,
+        view.footing,
+        ceiling,
+    )
 }
 
 // One stand with its reply, which goes to the replies from `at` on. A refused stand has counts 0 and writes no row.
@@ -89,8 +90,8 @@ fn list_stand(
     boxes: &[i32],
     doors: &[u16],
     setting: u64,
-    reach: Reach,
-    ceiling: Ceiling,
+    reach: Option<u64>,
+    ceiling: Option<u64>,
     lines: &[u16],
     stand: Stand,
     table: &mut [u16],
@@ -111,14 +112,14 @@ fn list_stand(
         corners, faces, firsts, backs, boxes, doors, setting, reach, ceiling, lines, stand, table,
         seen,
     ) {
-        Listed::Refused(r) => {
+        Err(r) => {
             put(replies, at, reply::number(r), 0, 0);
             Counts {
                 rows: 0,
                 crossings: 0,
             }
         }
-        Listed::Rows(rows, crossings) => {
+        Ok(Counts { rows, crossings }) => {
             put(replies, at, 0, rows as u64, crossings as u64);
             Counts { rows, crossings }
         }
@@ -134,8 +135,8 @@ fn list_each(
     boxes: &[i32],
     doors: &[u16],
     setting: u64,
-    reach: Reach,
-    ceiling: Ceiling,
+    reach: Option<u64>,
+    ceiling: Option<u64>,
     stands: [Stand; Plan::MOST_STANDS],
     count: usize,
     table: &mut [u16],
@@ -197,7 +198,7 @@ fn list_in(
     backs: &mut [u16],
     lines: &mut [u16],
     seen: &mut [i32],
-) -> Listed
+) -> Result<Counts, Refusal>
     requires cells_value { (framed kind corners.now cells.now ≡ true) × (sized (corner_count corners.now) (cell_count (cells_of kind cells.now)) (length doors.now) ≡ true) }
     requires count_le_most_stands { morning.count ≤ most_stands }
     requires faces_len { length faces.old ≡ 2 * face_count (cells_of kind cells.now) }
@@ -211,7 +212,7 @@ fn list_in(
     let reach = morning.reach;
     let ceiling = morning.ceiling;
     let mut boxes = [0i32; 4 * Plan::MOST_CELLS];
-    match asked_in(
+    asked_in(
         corners,
         cells,
         doors,
@@ -224,141 +225,11 @@ fn list_in(
         firsts,
         backs,
         &mut boxes,
-    ) {
-        Checked::Refused(r) => Listed::Refused(r),
-        Checked::Accepted(_) => {
-            let counts = list_each(
-                corners, faces, firsts, backs, &boxes, doors, setting, reach, ceiling, stands,
-                count, table, replies, lines, seen,
-            );
-            Listed::Rows(counts.rows, counts.crossings)
-        }
-    }
-}
-
-// Lists on m cells with n faces in as much of the room lent as they need.
-fn list_cut(
-    corners: &[i32],
-    cells: &[u16],
-    doors: &[u16],
-    kind: u16,
-    morning: Morning,
-    stands: [Stand; Plan::MOST_STANDS],
-    table: &mut [u16],
-    replies: &mut [u64],
-    m: usize,
-    n: usize,
-    faces: &mut [u16],
-    firsts: &mut [u16],
-    backs: &mut [u16],
-    lines: &mut [u16],
-    seen: &mut [i32],
-) -> Listed
-    requires doors_value { (sizes_of kind corners.now cells.now doors.now ≡ Of m n) × (morning.count ≤ most_stands) }
-    requires n_in_bounds { (2 * n ≤ length faces.old) × (m < length firsts.old) × (n ≤ length backs.old) × (4 * n ≤ length lines.old) }
-    requires most_corners_in_bounds { 2 * most_corners ≤ length seen.old }
-    ensures { (result, (table.new, replies.new)) ≡ listed_stands kind corners.now cells.now doors.now morning stands table.old replies.old }
-{
-    let twice = 2 * n;
-    let after = m + 1;
-    let fourfold = 4 * n;
-    let numbers = corners.len();
-    list_in(
-        corners,
-        cells,
-        doors,
-        kind,
-        morning,
-        stands,
-        table,
-        replies,
-        &mut faces[..twice],
-        &mut firsts[..after],
-        &mut backs[..n],
-        &mut lines[..fourfold],
-        &mut seen[..numbers],
-    )
-}
-
-// Lends room for no more faces than triangles have: the larger tables need not be cleared for them.
-fn list_few(
-    corners: &[i32],
-    cells: &[u16],
-    doors: &[u16],
-    kind: u16,
-    morning: Morning,
-    stands: [Stand; Plan::MOST_STANDS],
-    table: &mut [u16],
-    replies: &mut [u64],
-    m: usize,
-    n: usize,
-) -> Listed
-    requires doors_value { (sizes_of kind corners.now cells.now doors.now ≡ Of m n) × (morning.count ≤ most_stands) }
-    requires n_bound { n ≤ 3 * most_cells }
-    ensures { (result, (table.new, replies.new)) ≡ listed_stands kind corners.now cells.now doors.now morning stands table.old replies.old }
-{
-    let mut faces = [0u16; 6 * Plan::MOST_CELLS];
-    let mut firsts = [0u16; 1 + Plan::MOST_CELLS];
-    let mut backs = [0u16; 3 * Plan::MOST_CELLS];
-    let mut lines = [0u16; 12 * Plan::MOST_CELLS];
-    let mut seen = [0i32; 2 * Plan::MOST_CORNERS];
-    list_cut(
-        corners,
-        cells,
-        doors,
-        kind,
-        morning,
-        stands,
-        table,
-        replies,
-        m,
-        n,
-        &mut faces,
-        &mut firsts,
-        &mut backs,
-        &mut lines,
-        &mut seen,
-    )
-}
-
-// Lends room for every plan.
-fn list_many(
-    corners: &[i32],
-    cells: &[u16],
-    doors: &[u16],
-    kind: u16,
-    morning: Morning,
-    stands: [Stand; Plan::MOST_STANDS],
-    table: &mut [u16],
-    replies: &mut [u64],
-    m: usize,
-    n: usize,
-) -> Listed
-    requires { (sizes_of kind corners.now cells.now doors.now ≡ Of m n) × (morning.count ≤ most_stands) }
-    ensures { (result, (table.new, replies.new)) ≡ listed_stands kind corners.now cells.now doors.now morning stands table.old replies.old }
-{
-    let mut faces = [0u16; 16 * Plan::MOST_CELLS];
-    let mut firsts = [0u16; 1 + Plan::MOST_CELLS];
-    let mut backs = [0u16; 8 * Plan::MOST_CELLS];
-    let mut lines = [0u16; 32 * Plan::MOST_CELLS];
-    let mut seen = [0i32; 2 * Plan::MOST_CORNERS];
-    list_cut(
-        corners,
-        cells,
-        doors,
-        kind,
-        morning,
-        stands,
-        table,
-        replies,
-        m,
-        n,
-        &mut faces,
-        &mut firsts,
-        &mut backs,
-        &mut lines,
-        &mut seen,
-    )
+    )?;
+    Ok(list_each(
+        corners, faces, firsts, backs, &boxes, doors, setting, reach, ceiling, stands, count,
+        table, replies, lines, seen,
+    ))
 }
 
 // As many of the stands as are asked for, listed one after another: plan, the kind of its list of cells, what the stands share, stands, table and replies;
@@ -372,21 +243,28 @@ pub fn list_stands(
     stands: [Stand; Plan::MOST_STANDS],
     table: &mut [u16],
     replies: &mut [u64],
-) -> Listed
+) -> Result<Counts, Refusal>
     ensures { (result, (table.new, replies.new)) ≡ listed_stands kind corners.now cells.now doors.now morning stands table.old replies.old }
 {
-    let count = morning.count;
-    match measure_for(corners, cells, doors, kind, count) {
-        Sizes::Refused(r) => Listed::Refused(r),
-        Sizes::Of(m, n) => {
-            if n <= 3 * Plan::MOST_CELLS {
-                return list_few(
-                    corners, cells, doors, kind, morning, stands, table, replies, m, n,
-                );
-            }
-            list_many(
-                corners, cells, doors, kind, morning, stands, table, replies, m, n,
-            )
-        }
-    }
+    let sizes = measure_for(corners, cells, doors, kind, morning.count)?;
+    let mut faces = [0u16; 16 * Plan::MOST_CELLS];
+    let mut firsts = [0u16; 1 + Plan::MOST_CELLS];
+    let mut backs = [0u16; 8 * Plan::MOST_CELLS];
+    let mut lines = [0u16; 32 * Plan::MOST_CELLS];
+    let mut seen = [0i32; 2 * Plan::MOST_CORNERS];
+    list_in(
+        corners,
+        cells,
+        doors,
+        kind,
+        morning,
+        stands,
+        table,
+        replies,
+        &mut faces[..2 * sizes.faces],
+        &mut firsts[..=sizes.cells],
+        &mut backs[..sizes.faces],
+        &mut lines[..4 * sizes.faces],
+        &mut seen[..corners.len()],
+    )
 }

@@ -9,8 +9,8 @@ use lib.Ieee.Fits.{down_pos, of_int-fits}
 use Rattle.exact.specs.Within.{Within}
 use Rattle.plane.specs.Side.{limit}
 use Rattle.number.specs.Whole.{is_whole, size, signed, accepted, whole, Is, minus_zero}
-use Rattle.number.specs.declared.Millimetres.TheVariants.{Whole}
 use Rattle.number.proofs.Size.{whole_is_its_size, size_within, size_is, is_whole_number}
+use Rattle.std.specs.Prelude.{Some}
 
 -- ---- what was accepted
 
@@ -25,13 +25,13 @@ TakenAs nan z = ⊥
 TakenAs (inf s) z = ⊥
 TakenAs (fin s m e) z = Taken s m e z
 
-taken : (x : Float) {z : ℤ} → whole x ≡ Whole z → TakenAs x z
+taken : (x : Float) {z : ℤ} → whole x ≡ Some z → TakenAs x z
 unfolding whole
 taken nan h = let o : ◌≡◌ {A = ℕ} 0 1 = cc in omega arith
 taken (inf s) h = let o : ◌≡◌ {A = ℕ} 0 1 = cc in omega arith
 taken (fin s m e) {z} h = by_tests (is_whole (fin s m e)) (leb (m * up e) (limit * down e)) refl refl h
   where
-    by_tests : (t u : Bool) → is_whole (fin s m e) ≡ t → leb (m * up e) (limit * down e) ≡ u → accepted (t && u) (signed s (size m e)) ≡ Whole z
+    by_tests : (t u : Bool) → is_whole (fin s m e) ≡ t → leb (m * up e) (limit * down e) ≡ u → accepted (t && u) (signed s (size m e)) ≡ Some z
         → Taken s m e z
     by_tests true true k l h =
         record { sized = whole_is_its_size s m e k; near = size_within s m e limit (leb-true _ _ l); number = cc }
@@ -74,21 +74,21 @@ sign_of_multiple true k d (negsuc n) p h = refl
 
 -- ---- accepted exactly when it is z and z is within the limits
 
-pub accepted_is_within : (x : Float) {z : ℤ} → whole x ≡ Whole z → Within limit z
+pub accepted_is_within : (x : Float) {z : ℤ} → whole x ≡ Some z → Within limit z
 accepted_is_within nan h = absurd (taken nan h)
 accepted_is_within (inf s) h = absurd (taken (inf s) h)
 accepted_is_within (fin s m e) h =
     let k = taken (fin s m e) h in
     record { size = rw (k.number, size_of_signed s (size m e)) k.near }
 
-pub accepted_is_exact : (x : Float) {z : ℤ} → whole x ≡ Whole z → Is x z
+pub accepted_is_exact : (x : Float) {z : ℤ} → whole x ≡ Some z → Is x z
 accepted_is_exact nan h = absurd (taken nan h)
 accepted_is_exact (inf s) h = absurd (taken (inf s) h)
 accepted_is_exact (fin s m e) h =
     let k = taken (fin s m e) h in
     rw (k.number, k.sized) (signed_times s (size m e) (down e))
 
-pub exact_and_within_is_accepted : (x : Float) {z : ℤ} → Is x z → Within limit z → whole x ≡ Whole z
+pub exact_and_within_is_accepted : (x : Float) {z : ℤ} → Is x z → Within limit z → whole x ≡ Some z
 unfolding whole
 exact_and_within_is_accepted nan h w = absurd h
 exact_and_within_is_accepted (inf s) h w = absurd h
@@ -124,7 +124,7 @@ module _ (f : Format) where
       let none : 0 ≡ suc n * 1 = (subst (λ (x : Float). HasValue x true (suc n) 1) e (round_whole f true (suc n) w.size)).1 in
       absurd (omega arith)
 
-pub double_of_whole_number_is_accepted : (z : ℤ) → Within limit z → whole (of_int binary64 z) ≡ Whole z
+pub double_of_whole_number_is_accepted : (z : ℤ) → Within limit z → whole (of_int binary64 z) ≡ Some z
 double_of_whole_number_is_accepted z w =
     let h : nat_abs z ≤ limit = w.size in
     exact_and_within_is_accepted (of_int binary64 z) (float_is binary64 z (record { size = omega arith })) w
@@ -138,7 +138,7 @@ by_sign true m e zero f l v = inr (whole_unique binary64 _ minus_zero true 0 f t
 by_sign true m e (suc n) f l v =
     inl (whole_unique binary64 _ _ true (suc n) f (of_int-fits binary64 (negsuc n)) v (round_whole binary64 true (suc n) (omega arith)))
 
-pub accepted_is_the_double_or_minus_zero : (x : Float) {z : ℤ} → T (fits binary64 x) → whole x ≡ Whole z
+pub accepted_is_the_double_or_minus_zero : (x : Float) {z : ℤ} → T (fits binary64 x) → whole x ≡ Some z
     → (x ≡ of_int binary64 z) ⊎ ((x ≡ minus_zero) × (z ≡ pos 0))
 accepted_is_the_double_or_minus_zero nan f h = absurd (taken nan h)
 accepted_is_the_double_or_minus_zero (inf s) f h = absurd (taken (inf s) h)

@@ -1,10 +1,8 @@
 -- A double as whole millimetres (document 01, "The stand"). A finite double is ±m·2^e, and 2^e is the fraction up e / down e.
-use Rattle.std.specs.Prelude.{◌≡◌, ℕ, ◌*◌, ◌/◌, ◌%◌, Bool, true, false, ◌&&◌, ℤ, pos, ◌*ℤ◌, neg_ℤ, ◌==◌, nat_le, Float}
+use Rattle.std.specs.Prelude.{◌≡◌, ℕ, ◌*◌, ◌/◌, ◌%◌, Bool, true, false, ◌&&◌, ℤ, pos, ◌*ℤ◌, neg_ℤ, ◌==◌, nat_le, Float, None, Option, Some}
 use Rattle.std.specs.Float.{nan, inf, fin}
 use Rattle.std.specs.Float.Ieee.{up, down}
 use Rattle.plane.specs.Side.{limit}
-use Rattle.number.specs.declared.Millimetres.{Millimetres}
-use Rattle.number.specs.declared.Millimetres.TheVariants.{Whole, Refused}
 
 -- neither a NaN nor an infinity
 unfoldable pub is_finite : Float → Bool
@@ -41,12 +39,12 @@ integer (inf s) = pos 0
 integer (fin s m e) = signed s (size m e)
 
 -- z where it is accepted, and a refusal where it is not
-abbrev pub accepted : Bool → ℤ → Millimetres
-accepted true z = Whole z
-accepted false z = Refused
+abbrev pub accepted : Bool → ℤ → Option ℤ
+accepted true z = Some z
+accepted false z = None
 
 -- a double is accepted exactly when it is finite, a whole number of millimetres and within the coordinate limits; it is read as that number
-unfoldable pub whole : Float → Millimetres
+unfoldable pub whole : Float → Option ℤ
 unfolding is_finite is_whole is_within integer
 whole x = accepted (is_finite x && is_whole x && is_within x) (integer x)
 

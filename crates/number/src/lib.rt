@@ -6,13 +6,6 @@ ghost use Rattle.number.specs.Whole.{is_finite, is_whole, is_within, whole};
 
 use limits::Plan;
 
-// What a double reads as: a whole number of millimetres, or nothing that is accepted.
-#[derive(Clone, Copy)]
-pub enum Millimetres {
-    Whole(i64),
-    Refused,
-}
-
 // Is x neither a NaN nor an infinity? Every finite double lies between the infinities, and no comparison holds of a NaN.
 fn is_finite(x: f64) -> bool
     ensures { result ≡ is_finite x }
@@ -46,19 +39,19 @@ fn is_within(x: f64) -> bool
     -limit <= x && x <= limit
 }
 
-// Accepted exactly when x is a whole number of millimetres within the coordinate limits (document 01, "The stand").
+// What a double reads as: accepted exactly when x is a whole number of millimetres within the coordinate limits (document 01, "The stand").
 // Only a double that passed the three tests becomes an integer, so nothing is cut off.
-pub fn whole_millimetres(x: f64) -> Millimetres
+pub fn whole_millimetres(x: f64) -> Option<i64>
     ensures { result ≡ whole x }
 {
     if !is_finite(x) {
-        return Millimetres::Refused;
+        return None;
     }
     if !is_whole(x) {
-        return Millimetres::Refused;
+        return None;
     }
     if !is_within(x) {
-        return Millimetres::Refused;
+        return None;
     }
-    Millimetres::Whole(std::num::truncating_f64_to_i64(x))
+    Some(std::num::truncating_f64_to_i64(x))
 }

@@ -14,39 +14,37 @@ use Rattle.cells.specs.Sound.{Sound}
 use Rattle.limits.specs.declared.Plan.{Plan}
 use Rattle.limits.specs.declared.Refusal.{Refusal}
 use Rattle.limits.specs.declared.Refusal.TheVariants.{Frame}
-use Rattle.limits.specs.declared.Checked.{Checked}
-use Rattle.limits.specs.declared.Checked.TheVariants.{Accepted, Refused}
 use Rattle.cells.proofs.Accepted.{passed, accepted_is_sound}
 use Rattle.cells.proofs.Plans.{counts}
 use Rattle.checking.proofs.Measures.{whole_in_frame}
 use Rattle.planfile.specs.Calls.{given_room, told}
-use Rattle.planfile.specs.declared.ReadPlan.TheVariants.{Accepted as ReadAccepted}
 use Rattle.planfile.proofs.CellLists.{Whole, by_kind, few_numbers}
+use Rattle.std.specs.Prelude.{Err, Ok, Result}
 
 -- a refusal does not ask for room
-pub refused_stays : (b : Bool) (r : Refusal) → given_room b (Refused r) ≡ Refused r
+pub refused_stays : (b : Bool) (r : Refusal) → given_room b (Err r) ≡ Err r
 refused_stays true r = refl
 refused_stays false r = refl
 
 -- what is accepted where there is room was accepted
-pub roomed : (b : Bool) (c : Checked) {p : Plan} → given_room b c ≡ Accepted p → c ≡ Accepted p
-roomed true (Accepted q) e = e
-roomed true (Refused r) e = e
-roomed false (Accepted q) e = let z : ◌≡◌ {A = ℕ} 0 1 = cc in absurd (omega arith)
-roomed false (Refused r) e = e
+pub roomed : (b : Bool) (c : Result Plan Refusal) {p : Plan} → given_room b c ≡ Ok p → c ≡ Ok p
+roomed true (Ok q) e = e
+roomed true (Err r) e = e
+roomed false (Ok q) e = let z : ◌≡◌ {A = ℕ} 0 1 = cc in absurd (omega arith)
+roomed false (Err r) e = e
 
 -- and there was room
-pub had_room : (b : Bool) (c : Checked) {p : Plan} → given_room b c ≡ Accepted p → b ≡ true
+pub had_room : (b : Bool) (c : Result Plan Refusal) {p : Plan} → given_room b c ≡ Ok p → b ≡ true
 had_room true c e = refl
-had_room false (Accepted q) e = let z : ◌≡◌ {A = ℕ} 0 1 = cc in absurd (omega arith)
-had_room false (Refused r) e = let z : ◌≡◌ {A = ℕ} 0 1 = cc in absurd (omega arith)
+had_room false (Ok q) e = let z : ◌≡◌ {A = ℕ} 0 1 = cc in absurd (omega arith)
+had_room false (Err r) e = let z : ◌≡◌ {A = ℕ} 0 1 = cc in absurd (omega arith)
 
 -- the reader's answer is an acceptance where the lists were accepted, and it has their list of cells' kind and length
-pub was_told : (k m : ℕ) (c : Checked) {p : Plan} {j n : ℕ} → told k m c ≡ ReadAccepted p j n → (c ≡ Accepted p) × ((k ≡ j) × (m ≡ n))
-was_told k m (Accepted q) e = (cc, (cc, cc))
-was_told k m (Refused r) e = let z : ◌≡◌ {A = ℕ} 0 1 = cc in absurd (omega arith)
+pub was_told : (k m : ℕ) (c : Result Plan Refusal) {p : Plan} {j n : ℕ} → told k m c ≡ Ok (record { counts = p; kind = j; numbers = n }) → (c ≡ Ok p) × ((k ≡ j) × (m ≡ n))
+was_told k m (Ok q) e = (cc, (cc, cc))
+was_told k m (Err r) e = let z : ◌≡◌ {A = ℕ} 0 1 = cc in absurd (omega arith)
 
-module _ (k : ℕ) (cs : List ℤ) (ts ds : List ℕ) {p : Plan} (ok : checked k cs ts ds ≡ Accepted p) where
+module _ (k : ℕ) (cs : List ℤ) (ts ds : List ℕ) {p : Plan} (ok : checked k cs ts ds ≡ Ok p) where
   -- an accepted plan's list of cells is cut into whole cells
   pub accepted_is_whole : Whole k ts
   unfolding checked

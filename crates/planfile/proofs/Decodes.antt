@@ -10,8 +10,6 @@ use lib.IntN.{ℤ}
 use Rattle.limits.specs.Limits.{sized}
 use Rattle.limits.specs.declared.Refusal.{Refusal}
 use Rattle.limits.specs.declared.Refusal.TheVariants.{Frame, Size}
-use Rattle.limits.specs.declared.Checked.{Checked}
-use Rattle.limits.specs.declared.Checked.TheVariants.{Refused}
 use Rattle.cells.specs.Check.{checked}
 use Rattle.checking.proofs.Measures.{whole_in_frame, no_whole_cells, not_in_size, all_counted, refused_likewise, counted_fit}
 use Rattle.draw.specs.Counted.{counted}
@@ -22,11 +20,12 @@ use Rattle.records.specs.Record.{framed}
 use Rattle.records.proofs.Spelled.{length_numbers_at}
 use Rattle.planfile.specs.File.{corners_in, cells_in, doors_in, kind_in}
 use Rattle.planfile.specs.Calls.{given_room, has_room, lists_checked, file_checked, told, lists_left, read}
-use Rattle.planfile.specs.declared.ReadPlan.{ReadPlan}
-use Rattle.planfile.specs.declared.ReadPlan.TheVariants.{Refused as ReadRefused}
 use Rattle.planfile.proofs.Accepts.{refused_stays}
 use Rattle.planfile.proofs.CellLists.{by_kind, few_numbers}
 use Rattle.planfile.proofs.Places.{Places}
+use Rattle.limits.specs.declared.Plan.{Plan}
+use Rattle.planfile.specs.declared.ReadPlan.{ReadPlan}
+use Rattle.std.specs.Prelude.{Err, Result}
 
 -- ---- a list decoded into the beginning of another
 
@@ -81,7 +80,7 @@ module _ {s : List ℕ} {b c : ℕ} (p : Places s b c) where
 -- ---- the replies
 
 -- what is not framed is refused, and what is framed goes by its lists
-pub unframed : (s : List ℕ) (n m k : ℕ) → framed s ≡ false → file_checked s n m k ≡ Refused Frame
+pub unframed : (s : List ℕ) (n m k : ℕ) → framed s ≡ false → file_checked s n m k ≡ Err Frame
 unfolding file_checked
 unframed s n m k h = simp h
 
@@ -90,18 +89,18 @@ unfolding file_checked
 by_its_lists s n m k h = simp h
 
 module _ (s : List ℕ) (corners : List ℤ) (cells doors : List ℕ) where
-  abbrev reply : Checked
+  abbrev reply : Result Plan Refusal
   reply = file_checked s (length corners) (length cells) (length doors)
 
   abbrev room : Bool
   room = has_room (corners_in s) (cells_in s) (doors_in s) (length corners) (length cells) (length doors)
 
   -- a reply, told, with the lists that it leaves
-  replied : {q : Checked} → q ≡ reply → (told (kind_in s) (length (cells_in s)) q, lists_left q (corners_in s) (cells_in s) (doors_in s) corners cells doors) ≡ read s corners cells doors
+  replied : {q : Result Plan Refusal} → q ≡ reply → (told (kind_in s) (length (cells_in s)) q, lists_left q (corners_in s) (cells_in s) (doors_in s) corners cells doors) ≡ read s corners cells doors
   replied e =
-      ap (λ (q : Checked). (told (kind_in s) (length (cells_in s)) q, lists_left q (corners_in s) (cells_in s) (doors_in s) corners cells doors)) e
+      ap (λ (q : Result Plan Refusal). (told (kind_in s) (length (cells_in s)) q, lists_left q (corners_in s) (cells_in s) (doors_in s) corners cells doors)) e
 
-  pub not_framed : framed s ≡ false → (ReadRefused Frame, (corners, (cells, doors))) ≡ read s corners cells doors
+  pub not_framed : framed s ≡ false → (Err Frame, (corners, (cells, doors))) ≡ read s corners cells doors
   not_framed h = replied (sym (unframed s (length corners) (length cells) (length doors) h))
 
   module _ (fr : framed s ≡ true) where
@@ -109,7 +108,7 @@ module _ (s : List ℕ) (corners : List ℤ) (cells doors : List ℕ) where
     its_lists = by_its_lists s (length corners) (length cells) (length doors) fr
 
     -- what the check refuses is refused, with room or without
-    refused : {r : Refusal} → Refused r ≡ checked (kind_in s) (corners_in s) (cells_in s) (doors_in s) → (ReadRefused r, (corners, (cells, doors))) ≡ read s corners cells doors
+    refused : {r : Refusal} → Err r ≡ checked (kind_in s) (corners_in s) (cells_in s) (doors_in s) → (Err r, (corners, (cells, doors))) ≡ read s corners cells doors
     refused {r} e = replied (sym (its_lists ∙ ap (given_room room) (sym e) ∙ refused_stays room r))
 
     module _ {b c : ℕ} (p : Places s b c) {k : ℕ} (is_k : k ≡ kind_in s) {r : Counted} (is_r : r ≡ counted k (cells_in s)) where
@@ -121,7 +120,7 @@ module _ (s : List ℕ) (corners : List ℤ) (cells doors : List ℕ) where
           let e = p.eight in
           omega (arith, corners_long p)
 
-      pub not_cut : r ≡ Broken → (ReadRefused Frame, (corners, (cells, doors))) ≡ read s corners cells doors
+      pub not_cut : r ≡ Broken → (Err Frame, (corners, (cells, doors))) ≡ read s corners cells doors
       not_cut h =
           refused (refused_likewise (kind_in s) (corners_in s) (cells_in s) (doors_in s) (no_whole_cells (kind_in s) (corners_in s) (cells_in s) (doors_in s) even_corners its_counts h) refl)
 
@@ -129,7 +128,7 @@ module _ (s : List ℕ) (corners : List ℤ) (cells doors : List ℕ) where
         its_size : q ≡ sized (length (corners_in s) / 2) n (length (doors_in s))
         its_size = is_q ∙ ap₂ (λ (i j : ℕ). sized (i / 2) n j) (sym (corners_long p)) (sym (doors_long p))
 
-        pub wrong_size : q ≡ false → (ReadRefused Size, (corners, (cells, doors))) ≡ read s corners cells doors
+        pub wrong_size : q ≡ false → (Err Size, (corners, (cells, doors))) ≡ read s corners cells doors
         wrong_size h =
             refused (refused_likewise (kind_in s) (corners_in s) (cells_in s) (doors_in s) (not_in_size (kind_in s) (corners_in s) (cells_in s) (doors_in s) even_corners its_counts w its_size h) refl)
 
@@ -139,7 +138,7 @@ module _ (s : List ℕ) (corners : List ℤ) (cells doors : List ℕ) where
             let fit = counted_fit (kind_in s) (corners_in s) (cells_in s) (doors_in s) (all_counted (kind_in s) (corners_in s) (cells_in s) (doors_in s) even_corners its_counts w its_size h) refl in
             omega (arith, fit.cells, cells_long p, few_numbers (by_kind (kind_in s) (cells_in s) (whole_in_frame (kind_in s) (corners_in s) (cells_in s) fit.in_frame)))
 
-    pub lists_read : {k : ℕ} {cs : List ℤ} {ts ds : List ℕ} → k ≡ kind_in s → cs ≡ corners_in s → ts ≡ cells_in s → ds ≡ doors_in s → {m : ℕ} → m ≡ length (cells_in s) → {q : Checked} → q ≡ lists_checked k cs ts ds (length corners) (length cells) (length doors) → {l : List ℤ × (List ℕ × List ℕ)} → l ≡ lists_left q cs ts ds corners cells doors → {r : ReadPlan} → r ≡ told k m q → (r, l) ≡ read s corners cells doors
+    pub lists_read : {k : ℕ} {cs : List ℤ} {ts ds : List ℕ} → k ≡ kind_in s → cs ≡ corners_in s → ts ≡ cells_in s → ds ≡ doors_in s → {m : ℕ} → m ≡ length (cells_in s) → {q : Result Plan Refusal} → q ≡ lists_checked k cs ts ds (length corners) (length cells) (length doors) → {l : List ℤ × (List ℕ × List ℕ)} → l ≡ lists_left q cs ts ds corners cells doors → {r : Result ReadPlan Refusal} → r ≡ told k m q → (r, l) ≡ read s corners cells doors
     lists_read {k} {cs} {ts} {ds} is_k e f g {m} is_m {q} is_q {l} is_l {r} is_r =
         let its = its_lists in
         cc

@@ -11,7 +11,6 @@ use Rattle.cells.specs.Cut.{cells_of}
 use Rattle.cells.specs.Check.{checked}
 use Rattle.cells.specs.Sound.{Sound}
 use Rattle.limits.specs.declared.Plan.{Plan}
-use Rattle.limits.specs.declared.Checked.TheVariants.{Accepted}
 use Rattle.records.specs.Bytes.{all_bytes, numbers_at, complement, signed}
 use Rattle.records.specs.Record.{record_of, corner_record, cell_record, door_record, body_length, second, third, framed}
 use Rattle.records.proofs.Spelled.{length_all_bytes}
@@ -21,12 +20,13 @@ use Rattle.planfile.specs.File.{file_of, corners_in, cells_in, doors_in, kind_in
 use Rattle.planfile.proofs.CellLists.{InTwoBytes, in_a_record, short_kind, numbers_in_two_bytes}
 use Rattle.planfile.proofs.Accepts.{accepted_is_whole, accepted_sound, small}
 use Rattle.planfile.proofs.Widths.{coordinate_in_width, face_in_width, door_in_width}
+use Rattle.std.specs.Prelude.{Ok}
 
 complement_small : (z : ℤ) → mag z < 2 ^ 31 → complement z < 2 ^ 32
 complement_small (pos n) h = omega arith
 complement_small (negsuc n) h = omega arith
 
-module _ (k : ℕ) (cs : List ℤ) (ts ds : List ℕ) {p : Plan} (ok : checked k cs ts ds ≡ Accepted p) where
+module _ (k : ℕ) (cs : List ℤ) (ts ds : List ℕ) {p : Plan} (ok : checked k cs ts ds ≡ Ok p) where
   abbrev a : List ℕ
   a = all_bytes 4 (map complement cs)
 

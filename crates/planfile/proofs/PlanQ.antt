@@ -7,7 +7,6 @@ use native.Mathlib.Omega.{arith}
 use lib.IntN.{negsuc}
 use Rattle.plane.specs.Side.{side}
 use Rattle.limits.specs.Limits.{triangles, polygons, sized}
-use Rattle.limits.specs.declared.Checked.TheVariants.{Accepted}
 use Rattle.cells.specs.Least.{least}
 use Rattle.cells.specs.Lists.{home, next, start, neighbour}
 use Rattle.cells.specs.Cut.{cell_of, cut_polygons, cut, pairs, faces_of, firsts_from, tables, cells_of}
@@ -17,8 +16,8 @@ use Rattle.records.specs.Bytes.{bytes, number_at, all_bytes, numbers_at, complem
 use Rattle.records.specs.Record.{record_of, corner_record, cell_record, door_record, end_of, is_record, is_cells, framed}
 use Rattle.planfile.specs.File.{file_of, corners_in}
 use Rattle.planfile.specs.Calls.{read_reply}
-use Rattle.planfile.specs.declared.ReadPlan.TheVariants.{Accepted as ReadAccepted}
 use Rattle.planfile.proofs.RoundTrip.{the_file_is_told}
+use Rattle.std.specs.Prelude.{Ok}
 
 abbrev corner_bytes : List ℕ
 corner_bytes =
@@ -67,11 +66,11 @@ pub the_frame_of_one_cell : framed file_of_one_cell ≡ true
 unfolding framed is_cells is_record end_of number_at
 the_frame_of_one_cell = refl
 
-pub one_cell_is_accepted : checked polygons corners_of_Q one_cell [] ≡ Accepted (record { corners = 4; cells = 1; doors = 0 })
+pub one_cell_is_accepted : checked polygons corners_of_Q one_cell [] ≡ Ok (record { corners = 4; cells = 1; doors = 0 })
 unfolding checked Check·framed cut cut_polygons cell_of cells_of tables faces_of pairs firsts_from checked_cells sized wrong_corner outside wrong_cell some_face missing_corner wrong_side wrong_for_side wrong_neighbour wrong_door strictly_left separates overlapping in_a_pair least start next home neighbour side
 one_cell_is_accepted = refl
 
-pub the_reply_to_one_cell : read_reply file_of_one_cell 8 9 0 ≡ ReadAccepted (record { corners = 4; cells = 1; doors = 0 }) polygons 9
+pub the_reply_to_one_cell : read_reply file_of_one_cell 8 9 0 ≡ Ok (record { counts = record { corners = 4; cells = 1; doors = 0 }; kind = polygons; numbers = 9 })
 the_reply_to_one_cell =
     ap (λ (s : List ℕ). read_reply s 8 9 0) (sym the_file_of_one_cell)
     ∙ the_file_is_told polygons corners_of_Q one_cell [] one_cell_is_accepted 8 9 0 (omega arith) (omega arith) (omega arith)

@@ -12,8 +12,6 @@ use Rattle.cells.specs.Check.{checked}
 use Rattle.limits.specs.declared.Plan.{Plan}
 use Rattle.limits.specs.declared.Refusal.{Refusal}
 use Rattle.limits.specs.declared.Refusal.TheVariants.{Room}
-use Rattle.limits.specs.declared.Checked.{Checked}
-use Rattle.limits.specs.declared.Checked.TheVariants.{Accepted, Refused}
 use Rattle.records.specs.Bytes.{all_bytes}
 use Rattle.records.specs.Record.{record_of, corner_record, cell_record, door_record}
 use Rattle.records.proofs.Spelled.{length_corner_record, length_number_record}
@@ -21,6 +19,7 @@ use Rattle.exact.proofs.Lent.{sets_then}
 use Rattle.planfile.specs.File.{file_of}
 use Rattle.planfile.specs.Calls.{given_room, left_by, written_reply, written}
 use Rattle.planfile.proofs.Accepts.{refused_stays}
+use Rattle.std.specs.Prelude.{Err, Ok, Result}
 
 -- ---- lengths
 
@@ -35,23 +34,23 @@ length_file k cs ts ds =
 -- ---- the replies
 
 module _ (k : ℕ) (cs : List ℤ) (ts ds file : List ℕ) where
-  told : {q : Checked} {l : List ℕ} → written_reply k cs ts ds (length file) ≡ q → l ≡ left_by q file (file_of k cs ts ds) → (q, l) ≡ written k cs ts ds file
+  told : {q : Result Plan Refusal} {l : List ℕ} → written_reply k cs ts ds (length file) ≡ q → l ≡ left_by q file (file_of k cs ts ds) → (q, l) ≡ written k cs ts ds file
   told {q} e f =
-      ap (λ (l : List ℕ). (q, l)) f ∙ sym (ap (λ (p : Checked). (p, left_by p file (file_of k cs ts ds))) e)
+      ap (λ (l : List ℕ). (q, l)) f ∙ sym (ap (λ (p : Result Plan Refusal). (p, left_by p file (file_of k cs ts ds))) e)
 
-  module _ {reply : Checked} (is_reply : reply ≡ checked k cs ts ds) where
-    pub not_accepted : {r : Refusal} → reply ≡ Refused r → (reply, file) ≡ written k cs ts ds file
+  module _ {reply : Result Plan Refusal} (is_reply : reply ≡ checked k cs ts ds) where
+    pub not_accepted : {r : Refusal} → reply ≡ Err r → (reply, file) ≡ written k cs ts ds file
     unfolding written_reply
     not_accepted {r} e =
-        let refused : checked k cs ts ds ≡ Refused r = sym is_reply ∙ e in
-        ap (λ (q : Checked). (q, file)) e
+        let refused : checked k cs ts ds ≡ Err r = sym is_reply ∙ e in
+        ap (λ (q : Result Plan Refusal). (q, file)) e
         ∙ told (ap (given_room (leb (length (file_of k cs ts ds)) (length file))) refused ∙ refused_stays (leb (length (file_of k cs ts ds)) (length file)) r) refl
 
-    module _ {p : Plan} (e : reply ≡ Accepted p) where
-      accepted : checked k cs ts ds ≡ Accepted p
+    module _ {p : Plan} (e : reply ≡ Ok p) where
+      accepted : checked k cs ts ds ≡ Ok p
       accepted = sym is_reply ∙ e
 
-      pub no_room : {n : ℕ} → n ≡ length (file_of k cs ts ds) → length file < n → (Refused Room, file) ≡ written k cs ts ds file
+      pub no_room : {n : ℕ} → n ≡ length (file_of k cs ts ds) → length file < n → (Err Room, file) ≡ written k cs ts ds file
       unfolding written_reply
       no_room is_n h =
           told (ap₂ given_room (lt-leb (length (file_of k cs ts ds)) (length file) (omega arith)) accepted) refl
@@ -59,7 +58,7 @@ module _ (k : ℕ) (cs : List ℤ) (ts ds file : List ℕ) where
       pub all_written : {n : ℕ} → n ≡ length (file_of k cs ts ds) → n ≤ length file → {l : List ℕ} → l ≡ sets file 0 (file_of k cs ts ds) → (reply, l) ≡ written k cs ts ds file
       unfolding written_reply
       all_written is_n h {l} is_l =
-          ap (λ (q : Checked). (q, l)) e
+          ap (λ (q : Result Plan Refusal). (q, l)) e
           ∙ told (ap₂ given_room (le-leb (length (file_of k cs ts ds)) (length file) (omega arith)) accepted) is_l
 
 -- the three records, by what was left by each

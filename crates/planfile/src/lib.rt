@@ -10,34 +10,32 @@ ghost use Rattle.planfile.specs.File.{cells_in, kind_in};
 ghost use Rattle.planfile.specs.Calls.{written, lists_checked, lists_left, told as Calls·told, read as Calls·read};
 
 use draw::Counted;
-use limits::{Checked, Plan, Refusal};
+use limits::{Plan, Refusal};
 use records::{bytes, list, record};
 
 // The counts of the plan that was read, the kind of its list of cells, and how many numbers that list has.
 #[derive(Clone, Copy)]
-pub enum ReadPlan {
-    Accepted(Plan, u16, usize),
-    Refused(Refusal),
+pub struct ReadPlan {
+    pub counts: Plan,
+    pub kind: u16,
+    pub numbers: usize,
 }
 
 // Writes the one file of three lists, the cells in a list of the kind told.
-pub fn write(corners: &[i32], cells: &[u16], doors: &[u16], kind: u16, file: &mut [u8]) -> Checked
+pub fn write(corners: &[i32], cells: &[u16], doors: &[u16], kind: u16, file: &mut [u8]) -> Result<Plan, Refusal>
     ensures { (result, file.new) ≡ written kind corners.now cells.now doors.now file.old }
 {
-    let reply = checking::check(corners, cells, doors, kind);
-    let Checked::Accepted(_) = reply else {
-        return reply;
-    };
+    let plan = checking::check(corners, cells, doors, kind)?;
     let second = 6 + 4 * corners.len();
     let third = second + 6 + 2 * cells.len();
     let end = third + 6 + 2 * doors.len();
     if file.len() < end {
-        return Checked::Refused(Refusal::Room);
+        return Err(Refusal::Room);
     }
     record::put_corners(file, corners);
     record::put_numbers(file, second, kind as usize, cells);
     record::put_numbers(file, third, 3, doors);
-    reply
+    Ok(plan)
 }
 
 // The cells and faces of the m numbers in the bytes from `at` on, a list of kind 12: each cell says how many corners it has, and so where the next one
@@ -93,37 +91,18 @@ fn hand_over(
     corners: &mut [i32],
     cells: &mut [u16],
     doors: &mut [u16],
-) -> Checked
+) -> Result<Plan, Refusal>
     ensures value { result ≡ lists_checked kind cs.now ts.now ds.now (length corners.old) (length cells.old) (length doors.old) }
     ensures doors_after { (corners.new, (cells.new, doors.new)) ≡ lists_left result cs.now ts.now ds.now corners.old cells.old doors.old }
 {
-    let checked = checking::check(cs, ts, ds, kind);
-    let Checked::Accepted(_) = checked else {
-        return checked;
-    };
-    if corners.len() < cs.len() {
-        return Checked::Refused(Refusal::Room);
-    }
-    if cells.len() < ts.len() {
-        return Checked::Refused(Refusal::Room);
-    }
-    if doors.len() < ds.len() {
-        return Checked::Refused(Refusal::Room);
+    let plan = checking::check(cs, ts, ds, kind)?;
+    if corners.len() < cs.len() || cells.len() < ts.len() || doors.len() < ds.len() {
+        return Err(Refusal::Room);
     }
     list::copy_corners(cs, corners);
     list::copy_numbers(ts, cells);
     list::copy_numbers(ds, doors);
-    checked
-}
-
-// The answer to lists that were checked: the list of cells is of this kind and has m numbers.
-fn told(kind: u16, m: usize, checked: Checked) -> ReadPlan
-    ensures { result ≡ Calls·told kind m checked }
-{
-    match checked {
-        Checked::Accepted(plan) => ReadPlan::Accepted(plan, kind, m),
-        Checked::Refused(refusal) => ReadPlan::Refused(refusal),
-    }
+    Ok(plan)
 }
 
 // Reads a framed file: its cells are counted, its lists are decoded into lists of their own, checked, and then handed over.
@@ -135,7 +114,7 @@ fn read_framed(
     corners: &mut [i32],
     cells: &mut [u16],
     doors: &mut [u16],
-) -> ReadPlan
+) -> Result<ReadPlan, Refusal>
     requires file_value { framed file.now ≡ true }
     requires most_corners_in_bounds { 2 * most_corners ≤ length cs.old }
     requires most_cells_in_bounds { 17 * most_cells ≤ length ts.old }
@@ -150,29 +129,33 @@ fn read_framed(
     let k = (file.len() - third - 6) / 2;
     let counted = count(file, second + 6, m, kind);
     let Counted::Whole(c, _) = counted else {
-        return ReadPlan::Refused(Refusal::Frame);
+        return Err(Refusal::Frame);
     };
-    let counts = Plan {
+    let told = Plan {
         corners: n / 2,
         cells: c,
         doors: k,
     };
-    if !counts.is_sized() {
-        return ReadPlan::Refused(Refusal::Size);
+    if !told.is_sized() {
+        return Err(Refusal::Size);
     }
     list::get_corners(file, 6, &mut cs[..n]);
     list::get_numbers(file, second + 6, &mut ts[..m]);
     list::get_numbers(file, third + 6, &mut ds[..k]);
-    let checked = hand_over(&cs[..n], &ts[..m], &ds[..k], kind, corners, cells, doors);
-    told(kind, m, checked)
+    let counts = hand_over(&cs[..n], &ts[..m], &ds[..k], kind, corners, cells, doors)?;
+    Ok(ReadPlan {
+        counts,
+        kind,
+        numbers: m,
+    })
 }
 
 // Reads the three lists of a file.
-pub fn read(file: &[u8], corners: &mut [i32], cells: &mut [u16], doors: &mut [u16]) -> ReadPlan
+pub fn read(file: &[u8], corners: &mut [i32], cells: &mut [u16], doors: &mut [u16]) -> Result<ReadPlan, Refusal>
     ensures { (result, (corners.new, (cells.new, doors.new))) ≡ Calls·read file.now corners.old cells.old doors.old }
 {
     if !record::is_framed(file) {
-        return ReadPlan::Refused(Refusal::Frame);
+        return Err(Refusal::Frame);
     }
     // a cell of 8 corners is 17 numbers: its corner count, its corners and its neighbours
     let mut cs = [0i32; 2 * Plan::MOST_CORNERS];

@@ -18,17 +18,17 @@ use Rattle.stand.specs.declared.spot.Stand.TheVariants.{Point, Offset}
 use Rattle.text.specs.Text.{refusal_line}
 use Rattle.printing.specs.Print.{most_input, most_text, begins, double_at, file_listed, blank_table, lines, printed, answered}
 use Rattle.text.specs.Wrote.{Wrote}
-use Rattle.printing.specs.declared.Printed.{Printed}
-use Rattle.printing.specs.declared.Printed.TheVariants.{Text, Refused}
+use Rattle.limits.specs.declared.Refusal.{Refusal}
+use Rattle.std.specs.Prelude.{Err, Ok, Result}
 
 module _ (s text : List ℕ) where
-  pub no_room : length text < most_text → (Refused R.Room, text) ≡ answered s text
+  pub no_room : length text < most_text → (Err R.Room, text) ≡ answered s text
   unfolding answered
   no_room h = rw (lt-ltb _ _ h, answered) refl
 
-  pub all_printed : {new : List ℕ} {end : ℕ} → most_text ≤ length text → Wrote text 0 (printed s) new end → (Text end, new) ≡ answered s text
+  pub all_printed : {new : List ℕ} {end : ℕ} → most_text ≤ length text → Wrote text 0 (printed s) new end → (Ok end, new) ≡ answered s text
   unfolding answered
-  all_printed h w = rw (le-ltb _ _ h, answered) (ap₂ (λ (n : ℕ) (l : List ℕ). (Text n, l)) (w.ends ∙ zero-add (length (printed s))) w.is)
+  all_printed h w = rw (le-ltb _ _ h, answered) (ap₂ (λ (n : ℕ) (l : List ℕ). (Ok n, l)) (w.ends ∙ zero-add (length (printed s))) w.is)
 
 -- ---- the lines, way out by way out
 
@@ -62,5 +62,5 @@ module _ (s : List ℕ) {text new : List ℕ} {end : ℕ} where
     no_query a b w = rw (le-ltb _ _ h, a, b, printed) w
 
 -- the promise leaves one answer and one text
-pub print_has_one_reply : (s text : List ℕ) {p q : Printed × List ℕ} → p ≡ answered s text → q ≡ answered s text → p ≡ q
+pub print_has_one_reply : (s text : List ℕ) {p q : Result ℕ Refusal × List ℕ} → p ≡ answered s text → q ≡ answered s text → p ≡ q
 print_has_one_reply s text h k = h ∙ sym k

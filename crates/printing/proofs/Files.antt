@@ -14,44 +14,40 @@ use Rattle.cells.specs.Check.{checked}
 use Rattle.limits.specs.declared.Plan.{Plan}
 use Rattle.limits.specs.declared.Refusal.{Refusal}
 use Rattle.limits.specs.declared.Refusal.TheVariants as R
-use Rattle.limits.specs.declared.Checked.{Checked}
-use Rattle.limits.specs.declared.Checked.TheVariants.{Accepted, Refused}
 use Rattle.cells.proofs.Accepted.{accepted_is_sound, accepted_corners, accepted_doors}
 use Rattle.records.specs.Record.{framed}
 use Rattle.planfile.specs.File.{kind_in, corners_in, cells_in, doors_in}
 use Rattle.planfile.specs.Calls.{given_room, has_room, file_checked, told, left_by, read}
-use Rattle.planfile.specs.declared.ReadPlan.{ReadPlan}
-use Rattle.planfile.specs.declared.ReadPlan.TheVariants.{Accepted as ReadAccepted, Refused as ReadRefused}
 use Rattle.planfile.proofs.Accepts.{refused_stays, was_told, small}
 use Rattle.planfile.proofs.Decodes.{unframed, by_its_lists}
 use Rattle.stand.specs.declared.spot.Stand.{Stand}
 use Rattle.sight.specs.Listing.{listed}
 use Rattle.sight.specs.Ceiling.{listed_up_to}
-use Rattle.sight.specs.declared.ceiling.Ceiling.TheVariants.{NotStated}
 use Rattle.sight.proofs.UpTo.{no_ceiling}
-use Rattle.sight.specs.declared.list.Listed.{Listed}
-use Rattle.sight.specs.declared.list.Listed.TheVariants as L
 use Rattle.sight.proofs.Views.{plan_refused, listing_refused}
 use Rattle.printing.specs.Print.{asks, file_listed}
+use Rattle.sight.specs.declared.list.Counts.{Counts}
+use Rattle.planfile.specs.declared.ReadPlan.{ReadPlan}
+use Rattle.std.specs.Prelude.{Err, None, Ok, Result}
 
 module _ (file : List ℕ) (w : ℕ) (s : Stand) (table : List ℕ) where
   pub framed_is_listed : framed file ≡ true → file_listed file w s table ≡ listed (kind_in file) (corners_in file) (cells_in file) (doors_in file) (asks w s) table
   unfolding file_listed
   framed_is_listed fr = rw (fr, file_listed) refl
 
-  pub unframed_is_refused : framed file ≡ false → file_listed file w s table ≡ (L.Refused R.Frame, table)
+  pub unframed_is_refused : framed file ≡ false → file_listed file w s table ≡ (Err R.Frame, table)
   unfolding file_listed
   unframed_is_refused fr = rw (fr, file_listed) refl
 
 module _ (file : List ℕ) (cs₀ : List ℤ) (ts₀ ds₀ : List ℕ) (room : (2 * most_corners ≤ length cs₀) × ((17 * most_cells ≤ length ts₀) × (most_doors ≤ length ds₀))) where
-  abbrev reply : Checked
+  abbrev reply : Result Plan Refusal
   reply = file_checked file (length cs₀) (length ts₀) (length ds₀)
 
-  abbrev check_of_lists : Checked
+  abbrev check_of_lists : Result Plan Refusal
   check_of_lists = checked (kind_in file) (corners_in file) (cells_in file) (doors_in file)
 
   -- lists that the check accepts have room
-  has_all : {p : Plan} → check_of_lists ≡ Accepted p → has_room (corners_in file) (cells_in file) (doors_in file) (length cs₀) (length ts₀) (length ds₀) ≡ true
+  has_all : {p : Plan} → check_of_lists ≡ Ok p → has_room (corners_in file) (cells_in file) (doors_in file) (length cs₀) (length ts₀) (length ds₀) ≡ true
   has_all ok =
       let short = small (kind_in file) (corners_in file) (cells_in file) (doors_in file) ok in
       let i : length (corners_in file) ≤ length cs₀ = omega (arith, short.0, room.0) in
@@ -63,38 +59,38 @@ module _ (file : List ℕ) (cs₀ : List ℤ) (ts₀ ds₀ : List ℕ) (room : (
   by_the_check : framed file ≡ true → reply ≡ check_of_lists
   by_the_check fr = by_its_lists file (length cs₀) (length ts₀) (length ds₀) fr ∙ roomy check_of_lists refl
     where
-      roomy : (c : Checked) → check_of_lists ≡ c → given_room (has_room (corners_in file) (cells_in file) (doors_in file) (length cs₀) (length ts₀) (length ds₀)) c ≡ c
-      roomy (Accepted p) e = ap (λ (b : Bool). given_room b (Accepted p)) (has_all e)
-      roomy (Refused r) e = refused_stays (has_room (corners_in file) (cells_in file) (doors_in file) (length cs₀) (length ts₀) (length ds₀)) r
+      roomy : (c : Result Plan Refusal) → check_of_lists ≡ c → given_room (has_room (corners_in file) (cells_in file) (doors_in file) (length cs₀) (length ts₀) (length ds₀)) c ≡ c
+      roomy (Ok p) e = ap (λ (b : Bool). given_room b (Ok p)) (has_all e)
+      roomy (Err r) e = refused_stays (has_room (corners_in file) (cells_in file) (doors_in file) (length cs₀) (length ts₀) (length ds₀)) r
 
   module _ (w : ℕ) (s : Stand) (table : List ℕ) where
     -- a refusal of the reader is the listing's
-    pub refused_is_listed : {r : Refusal} → reply ≡ Refused r → (L.Refused r, table) ≡ file_listed file w s table
+    pub refused_is_listed : {r : Refusal} → reply ≡ Err r → (Err r, table) ≡ file_listed file w s table
     refused_is_listed {r} e = by_frame (framed file) refl
       where
-        by_frame : (b : Bool) → framed file ≡ b → (L.Refused r, table) ≡ file_listed file w s table
+        by_frame : (b : Bool) → framed file ≡ b → (Err r, table) ≡ file_listed file w s table
         by_frame true fr =
             listing_refused (kind_in file) (corners_in file) (cells_in file) (doors_in file) (asks w s) table
             (sym (plan_refused (kind_in file) (corners_in file) (cells_in file) (doors_in file) (asks w s) (sym (by_the_check fr) ∙ e)))
             ∙ sym (framed_is_listed file w s table fr)
         by_frame false fr =
-            let both : Refused R.Frame ≡ Refused r = sym (unframed file (length cs₀) (length ts₀) (length ds₀) fr) ∙ e in
+            let both : ◌≡◌ {A = Result ReadPlan Refusal} (Err R.Frame) (Err r) = sym (unframed file (length cs₀) (length ts₀) (length ds₀) fr) ∙ e in
             let same : R.Frame ≡ r = cc in
-            ap (λ (q : Refusal). (L.Refused q, table)) (sym same) ∙ sym (unframed_is_refused file w s table fr)
+            ap (λ (q : Refusal). (Err q, table)) (sym same) ∙ sym (unframed_is_refused file w s table fr)
 
   -- what the reader accepts stands in the lists, from their beginning
-  module _ {p : Plan} (e : reply ≡ Accepted p) where
+  module _ {p : Plan} (e : reply ≡ Ok p) where
     is_framed : framed file ≡ true
     is_framed = by_frame (framed file) refl
       where
         by_frame : (b : Bool) → framed file ≡ b → framed file ≡ true
         by_frame true fr = fr
         by_frame false fr =
-            let both : Refused R.Frame ≡ Accepted p = sym (unframed file (length cs₀) (length ts₀) (length ds₀) fr) ∙ e in
+            let both : ◌≡◌ {A = Result ReadPlan Refusal} (Err R.Frame) (Ok p) = sym (unframed file (length cs₀) (length ts₀) (length ds₀) fr) ∙ e in
             let z : ◌≡◌ {A = ℕ} 0 1 = cc in
             absurd (omega arith)
 
-    sound : check_of_lists ≡ Accepted p
+    sound : check_of_lists ≡ Ok p
     sound = sym (by_the_check is_framed) ∙ e
 
     -- how long the lists are, and that each is within the limits
@@ -120,33 +116,33 @@ module _ (file : List ℕ) (cs₀ : List ℤ) (ts₀ ds₀ : List ℕ) (room : (
         }
 
 -- what was told as a refusal was refused
-was_refused : (k m : ℕ) (c : Checked) {r : Refusal} → told k m c ≡ ReadRefused r → c ≡ Refused r
-was_refused k m (Accepted p) e = let z : ◌≡◌ {A = ℕ} 0 1 = cc in absurd (omega arith)
-was_refused k m (Refused q) {r} e = let same : q ≡ r = cc in ap Refused same
+was_refused : (k m : ℕ) (c : Result Plan Refusal) {r : Refusal} → told k m c ≡ Err r → c ≡ Err r
+was_refused k m (Ok p) e = let z : ◌≡◌ {A = ℕ} 0 1 = cc in absurd (omega arith)
+was_refused k m (Err q) {r} e = let same : q ≡ r = cc in ap Err same
 
-module _ (file : List ℕ) (cs₀ : List ℤ) (ts₀ ds₀ : List ℕ) (room : (2 * most_corners ≤ length cs₀) × ((17 * most_cells ≤ length ts₀) × (most_doors ≤ length ds₀))) {said : ReadPlan} {cs : List ℤ} {ts ds : List ℕ} (done : (said, (cs, (ts, ds))) ≡ read file cs₀ ts₀ ds₀) where
+module _ (file : List ℕ) (cs₀ : List ℤ) (ts₀ ds₀ : List ℕ) (room : (2 * most_corners ≤ length cs₀) × ((17 * most_cells ≤ length ts₀) × (most_doors ≤ length ds₀))) {said : Result ReadPlan Refusal} {cs : List ℤ} {ts ds : List ℕ} (done : (said, (cs, (ts, ds))) ≡ read file cs₀ ts₀ ds₀) where
   replied : said ≡ told (kind_in file) (length (cells_in file)) (reply file cs₀ ts₀ ds₀ room)
-  replied = ap (λ (q : ReadPlan × (List ℤ × (List ℕ × List ℕ))). q.0) done
+  replied = ap (λ (q : Result ReadPlan Refusal × (List ℤ × (List ℕ × List ℕ))). q.0) done
 
   -- the way out of a refusal
-  pub refused_by_the_reader : (w : ℕ) (s : Stand) (table : List ℕ) {r : Refusal} → said ≡ ReadRefused r → (L.Refused r, table) ≡ file_listed file w s table
+  pub refused_by_the_reader : (w : ℕ) (s : Stand) (table : List ℕ) {r : Refusal} → said ≡ Err r → (Err r, table) ≡ file_listed file w s table
   refused_by_the_reader w s table e = refused_is_listed file cs₀ ts₀ ds₀ room w s table (was_refused (kind_in file) (length (cells_in file)) _ (sym replied ∙ e))
 
-  module _ {p : Plan} {kind m : ℕ} (e : said ≡ ReadAccepted p kind m) where
-    was : (reply file cs₀ ts₀ ds₀ room ≡ Accepted p) × ((kind_in file ≡ kind) × (length (cells_in file) ≡ m))
+  module _ {p : Plan} {kind m : ℕ} (e : said ≡ Ok (record { counts = p; kind = kind; numbers = m })) where
+    was : (reply file cs₀ ts₀ ds₀ room ≡ Ok p) × ((kind_in file ≡ kind) × (length (cells_in file) ≡ m))
     was = was_told (kind_in file) (length (cells_in file)) _ (sym replied ∙ e)
 
-    pub accepted : reply file cs₀ ts₀ ds₀ room ≡ Accepted p
+    pub accepted : reply file cs₀ ts₀ ds₀ room ≡ Ok p
     accepted = was.0
 
     corners_are : cs ≡ sets cs₀ 0 (corners_in file)
-    corners_are = ap (λ (q : ReadPlan × (List ℤ × (List ℕ × List ℕ))). q.1.0) done ∙ ap (λ (q : Checked). left_by q cs₀ (corners_in file)) accepted
+    corners_are = ap (λ (q : Result ReadPlan Refusal × (List ℤ × (List ℕ × List ℕ))). q.1.0) done ∙ ap (λ (q : Result Plan Refusal). left_by q cs₀ (corners_in file)) accepted
 
     cells_are : ts ≡ sets ts₀ 0 (cells_in file)
-    cells_are = ap (λ (q : ReadPlan × (List ℤ × (List ℕ × List ℕ))). q.1.1.0) done ∙ ap (λ (q : Checked). left_by q ts₀ (cells_in file)) accepted
+    cells_are = ap (λ (q : Result ReadPlan Refusal × (List ℤ × (List ℕ × List ℕ))). q.1.1.0) done ∙ ap (λ (q : Result Plan Refusal). left_by q ts₀ (cells_in file)) accepted
 
     doors_are : ds ≡ sets ds₀ 0 (doors_in file)
-    doors_are = ap (λ (q : ReadPlan × (List ℤ × (List ℕ × List ℕ))). q.1.1.1) done ∙ ap (λ (q : Checked). left_by q ds₀ (doors_in file)) accepted
+    doors_are = ap (λ (q : Result ReadPlan Refusal × (List ℤ × (List ℕ × List ℕ))). q.1.1.1) done ∙ ap (λ (q : Result Plan Refusal). left_by q ds₀ (doors_in file)) accepted
 
     pub long : Lengths file cs₀ ts₀ ds₀ room accepted
     long = lengths file cs₀ ts₀ ds₀ room accepted
@@ -162,7 +158,7 @@ module _ (file : List ℕ) (cs₀ : List ℤ) (ts₀ ds₀ : List ℕ) (room : (
         )
 
     -- the way out of an acceptance: what the listing of those numbers leaves
-    pub listed_from_the_reader : (w : ℕ) (s : Stand) (table : List ℕ) {left : Listed × List ℕ} → left ≡ listed_up_to kind (take (2 * p.corners) cs) (take m ts) (take p.doors ds) (asks w s) NotStated table → left ≡ file_listed file w s table
+    pub listed_from_the_reader : (w : ℕ) (s : Stand) (table : List ℕ) {left : Result Counts Refusal × List ℕ} → left ≡ listed_up_to kind (take (2 * p.corners) cs) (take m ts) (take p.doors ds) (asks w s) None table → left ≡ file_listed file w s table
     listed_from_the_reader w s table {left} is =
         let n = ap (take (2 * p.corners)) corners_are ∙ first_is_new cs₀ (corners_in file) (2 * p.corners) long.corners (omega (arith, long.few_corners, room.0)) in
         let j = ap (take m) cells_are ∙ first_is_new ts₀ (cells_in file) m was.1.1 (omega (arith, long.few_cells, room.1.0, was.1.1)) in

@@ -1,5 +1,5 @@
 -- What is printed for an input (document 01, "Printing program"), and what the call leaves in the lent text.
-use Rattle.std.specs.Prelude.{Bool, true, false, ◌&&◌, List, ◌++◌, ℕ, ◌+◌, ◌*◌, ◌≤◌, eqb, ltb, leb, Float, length, drop, replicate}
+use Rattle.std.specs.Prelude.{Bool, true, false, ◌&&◌, List, ◌++◌, ℕ, ◌+◌, ◌*◌, ◌≤◌, eqb, ltb, leb, Float, length, drop, replicate, Err, None, Ok, Result}
 use Rattle.std.specs.Float.{binary64}
 use Rattle.std.specs.Float.Ieee.{of_bits}
 use Rattle.std.proofs.lemmas.List.Edits.{sets}
@@ -11,14 +11,11 @@ use Rattle.planfile.specs.File.{kind_in, corners_in, cells_in, doors_in}
 use Rattle.records.specs.Bits.{bits_at}
 use Rattle.stand.specs.declared.spot.Stand.{Stand}
 use Rattle.stand.specs.declared.spot.Stand.TheVariants.{Point, Offset}
-use Rattle.reach.specs.declared.Reach.TheVariants.{NotStated}
 use Rattle.sight.specs.Listing.{listed}
 use Rattle.sight.specs.declared.view.Query.{Query}
-use Rattle.sight.specs.declared.list.Listed.{Listed}
-use Rattle.sight.specs.declared.list.Listed.TheVariants as L
 use Rattle.text.specs.Text.{refusal_line, count_line, row_lines}
-use Rattle.printing.specs.declared.Printed.{Printed}
-use Rattle.printing.specs.declared.Printed.TheVariants.{Text, Refused}
+use Rattle.sight.specs.declared.list.Counts.{Counts}
+use Rattle.limits.specs.declared.Refusal.{Refusal}
 
 -- longer input is refused before all else
 abbrev pub most_input : ℕ
@@ -42,20 +39,20 @@ double_at s at = of_bits binary64 (bits_at s at)
 
 -- what is asked under a setting, from a stand; no reach is stated, and no ceiling
 abbrev pub asks : ℕ → Stand → Query
-asks w s = record { setting = w; stand = s; reach = NotStated }
+asks w s = record { setting = w; stand = s; reach = None }
 
 -- the listing of a plan file so asked
-unfoldable pub file_listed : List ℕ → ℕ → Stand → List ℕ → Listed × List ℕ
+unfoldable pub file_listed : List ℕ → ℕ → Stand → List ℕ → Result Counts Refusal × List ℕ
 file_listed file w s table =
     elim (framed file) [
       | true ↦ listed (kind_in file) (corners_in file) (cells_in file) (doors_in file) (asks w s) table
-      | false ↦ (L.Refused R.Frame, table)
+      | false ↦ (Err R.Frame, table)
     ]
 
 -- the lines of a listing or of a refusal
-abbrev pub lines : Listed × List ℕ → List ℕ
-lines (L.Rows n k, table) = count_line n k ++ row_lines table n
-lines (L.Refused r, table) = refusal_line r
+abbrev pub lines : Result Counts Refusal × List ℕ → List ℕ
+lines (Ok n, table) = count_line n.rows n.crossings ++ row_lines table n.rows
+lines (Err r, table) = refusal_line r
 
 -- a query record, then a plan. Kind 4: setting, x, y. Kind 5: setting, corner, dx, dy
 unfoldable pub printed : List ℕ → List ℕ
@@ -72,14 +69,14 @@ printed s =
     ]
 
 -- the answer and the text at exit: written from its beginning, where it has room for every answer
-unfoldable pub answered : List ℕ → List ℕ → Printed × List ℕ
+unfoldable pub answered : List ℕ → List ℕ → Result ℕ Refusal × List ℕ
 answered s text =
     elim (ltb (length text) most_text) [
-      | true ↦ (Refused R.Room, text)
-      | false ↦ (Text (length (printed s)), sets text 0 (printed s))
+      | true ↦ (Err R.Room, text)
+      | false ↦ (Ok (length (printed s)), sets text 0 (printed s))
     ]
 
 -- the lines stand within the text
-abbrev pub Within : Printed → ℕ → Type 0
-Within (Text n) room = n ≤ room
-Within (Refused r) room = Unit {0}
+abbrev pub Within : Result ℕ Refusal → ℕ → Type 0
+Within (Ok n) room = n ≤ room
+Within (Err r) room = Unit {0}

@@ -7,22 +7,14 @@ ghost use Rattle.printing.specs.Print.{most_text, begins as Print·begins, file_
 ghost use Rattle.printing.specs.Reply.{printed_reply, print_replies};
 ghost use Rattle.text.specs.Wrote.{Wrote};
 
-use manopluea::{Ceiling, Listed, Listing, Plan, Query, Reach, ReadPlan, Refusal, Stand, Terms};
+use manopluea::{Counts, Listing, Plan, Query, Refusal, Stand, Terms};
 use records::{bits, bytes};
 
-// How many bytes the lines take, or ROOM where the text could not hold every answer.
-#[derive(Clone, Copy)]
-pub enum Printed {
-    Text(usize),
-    Refused(Refusal),
-}
+// Longer input is refused before all else.
+pub const MOST_INPUT: usize = 65536;
 
-impl Printed {
-    // Longer input is refused before all else.
-    pub const MOST_INPUT: usize = 65536;
-    // A text of so many bytes has room for every answer.
-    pub const MOST_TEXT: usize = 64 + 24 * Plan::MOST_CORNERS;
-}
+// A text of so many bytes has room for every answer.
+pub const MOST_TEXT: usize = 64 + 24 * Plan::MOST_CORNERS;
 
 // Does the input begin with a record of this kind, with a body of so many bytes?
 fn begins(input: &[u8], kind: usize, size: usize) -> bool
@@ -47,36 +39,30 @@ fn list_read(
     setting: u64,
     stand: Stand,
     table: &mut [u16],
-) -> Listed
+) -> Result<Counts, Refusal>
     requires { (2 * most_corners ≤ length corners.old) × ((17 * most_cells ≤ length cells.old) × (most_doors ≤ length doors.old)) }
     ensures { (result, table.new) ≡ file_listed file.now setting stand table.old }
 {
-    match manopluea::read(file, corners, cells, doors) {
-        ReadPlan::Refused(r) => Listed::Refused(r),
-        ReadPlan::Accepted(plan, kind, m) => {
-            let n = 2 * plan.corners;
-            let k = plan.doors;
-            manopluea::list(
-                &corners[..n],
-                &cells[..m],
-                &doors[..k],
-                Terms { kind },
-                Listing {
-                    query: Query {
-                        setting,
-                        stand,
-                        reach: Reach::NotStated,
-                    },
-                    ceiling: Ceiling::NotStated,
-                },
-                table,
-            )
-        }
-    }
+    let plan = manopluea::read(file, corners, cells, doors)?;
+    manopluea::list(
+        &corners[..2 * plan.counts.corners],
+        &cells[..plan.numbers],
+        &doors[..plan.counts.doors],
+        Terms { kind: plan.kind },
+        Listing {
+            query: Query {
+                setting,
+                stand,
+                reach: None,
+            },
+            ceiling: None,
+        },
+        table,
+    )
 }
 
 // Lists a plan file.
-fn list_file(file: &[u8], setting: u64, stand: Stand, table: &mut [u16]) -> Listed
+fn list_file(file: &[u8], setting: u64, stand: Stand, table: &mut [u16]) -> Result<Counts, Refusal>
     ensures { (result, table.new) ≡ file_listed file.now setting stand table.old }
 {
     let mut corners = [0i32; 2 * Plan::MOST_CORNERS];
@@ -100,8 +86,8 @@ fn print_file(file: &[u8], setting: u64, stand: Stand, text: &mut [u8]) -> usize
 {
     let mut table = [0u16; 4 * Plan::MOST_CORNERS];
     match list_file(file, setting, stand, &mut table) {
-        Listed::Refused(r) => text::put_refusal(text, r),
-        Listed::Rows(n, k) => text::put_listing(text, &table, n, k),
+        Err(r) => text::put_refusal(text, r),
+        Ok(counts) => text::put_listing(text, &table, counts.rows, counts.crossings),
     }
 }
 
@@ -110,7 +96,7 @@ fn print_input(input: &[u8], text: &mut [u8]) -> usize
     requires { most_text ≤ length text.old }
     ensures { Wrote text.old 0 (printed input.now) text.new result }
 {
-    if Printed::MOST_INPUT < input.len() {
+    if MOST_INPUT < input.len() {
         return text::put_refusal(text, Refusal::Size);
     }
     if begins(input, 4, 24) {
@@ -125,15 +111,15 @@ fn print_input(input: &[u8], text: &mut [u8]) -> usize
     text::put_refusal(text, Refusal::Frame)
 }
 
-// Bytes in, bytes out: what is printed for this input.
-pub fn print(input: &[u8], text: &mut [u8]) -> Printed
+// Bytes in, bytes out: what is printed for this input; how many bytes its lines take, or ROOM where the text could not hold every answer.
+pub fn print(input: &[u8], text: &mut [u8]) -> Result<usize, Refusal>
     ensures answer { (result, text.new) ≡ answered input.now text.old }
     ensures numbers { (printed_reply result, text.new) ≡ print_replies input.now text.old }
     ensures within { Within result (length text.new) }
 {
-    if text.len() < Printed::MOST_TEXT {
-        return Printed::Refused(Refusal::Room);
+    if text.len() < MOST_TEXT {
+        return Err(Refusal::Room);
     }
     let end = print_input(input, text);
-    Printed::Text(end)
+    Ok(end)
 }

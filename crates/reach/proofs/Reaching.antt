@@ -13,12 +13,11 @@ use Rattle.exact.proofs.Truth.{both_true}
 use Rattle.plane.specs.Side.{Point}
 use Rattle.plane.specs.Cone.{cross, dot, Opposite}
 use Rattle.limits.specs.Limits.{least_reach, most_reach}
-use Rattle.reach.specs.declared.Reach.{Reach}
-use Rattle.reach.specs.declared.Reach.TheVariants.{NotStated, Stated}
 use Rattle.reach.specs.Reach.{squared, InReach, in_reach, out_of_reach, Reaches, far, Longer, range, wrong_reach}
 use Rattle.reach.specs.Reach.Longer.{unlimited, at_least}
 use Rattle.reach.proofs.Deciding.{the_first_end_decides, the_second_end_decides, the_foot_decides}
 use Rattle.reach.proofs.Nearest.{length_by_the_ends, in_reach_turned, in_longer_reach, the_first_end, the_second_end, the_foot, the_stand_itself, none_nearer_than_the_first_end, none_nearer_than_the_second_end, none_nearer_than_the_foot}
+use Rattle.std.specs.Prelude.{None, Option, Some}
 
 -- ---- which point decides
 
@@ -136,7 +135,7 @@ the_line_stood_on_is_in_reach (suc r) a b o = ap not (in_reach_is_found (the_sta
 
 -- ---- what is stated
 
-pub right_reach : (r : Reach) → wrong_reach r ≡ false → range r ≤ most_reach
+pub right_reach : (r : Option ℕ) → wrong_reach r ≡ false → range r ≤ most_reach
 unfolding wrong_reach
-right_reach NotStated e = omega arith
-right_reach (Stated n) e = leb-true n most_reach (both_true (leb least_reach n) _ (not-false _ e)).1
+right_reach None e = omega arith
+right_reach (Some n) e = leb-true n most_reach (both_true (leb least_reach n) _ (not-false _ e)).1

@@ -1,12 +1,10 @@
 -- The reach (document 02, A5). A line's two ends a and b are seen from the stand: each is a corner less the stand.
-use Rattle.std.specs.Prelude.{Bool, true, false, not, ◌&&◌, List, ℕ, zero, suc, ◌≤◌, leb, ℤ, pos, ◌*ℤ◌, ◌<ℤ◌, ◌≤ℤ◌}
+use Rattle.std.specs.Prelude.{Bool, true, false, not, ◌&&◌, List, ℕ, zero, suc, ◌≤◌, leb, ℤ, pos, ◌*ℤ◌, ◌<ℤ◌, ◌≤ℤ◌, None, Option, Some}
 use Rattle.std.specs.Int.Signed.{le_z}
 use Rattle.exact.specs.Within.{Within}
 use Rattle.plane.specs.Side.{Point, corner}
 use Rattle.plane.specs.Cone.{minus, plus, scaled, cross, dot}
 use Rattle.limits.specs.Limits.{least_reach, most_reach}
-use Rattle.reach.specs.declared.Reach.{Reach}
-use Rattle.reach.specs.declared.Reach.TheVariants.{NotStated, Stated}
 
 -- ---- in reach
 
@@ -61,14 +59,14 @@ pub data Longer : ℕ → ℕ → Type 0 where
 -- ---- what is stated
 
 -- how far is seen, in millimetres: 0 is unlimited, and so is a reach that is not stated
-abbrev pub range : Reach → ℕ
-range NotStated = 0
-range (Stated n) = n
+abbrev pub range : Option ℕ → ℕ
+range None = 0
+range (Some n) = n
 
 -- a number is stated that is not 1 to 262,144
-unfoldable pub wrong_reach : Reach → Bool
-wrong_reach NotStated = false
-wrong_reach (Stated n) = not (leb least_reach n && leb n most_reach)
+unfoldable pub wrong_reach : Option ℕ → Bool
+wrong_reach None = false
+wrong_reach (Some n) = not (leb least_reach n && leb n most_reach)
 
 -- ---- what the code is given
 

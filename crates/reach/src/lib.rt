@@ -10,36 +10,22 @@ ghost use Rattle.reach.specs.Reach.{wrong_reach, range as Reach·range, EndsSeen
 use limits::Plan;
 use wide::{is_at_most, product};
 
-// A reach in millimetres, or none stated.
-#[derive(Clone, Copy)]
-pub enum Reach {
-    NotStated,
-    Stated(u64),
-}
-
-// Is a number stated that is no reach?
-pub fn is_wrong(reach: Reach) -> bool
+// Is a number stated that is no reach? A query states its reach in millimetres, or none.
+#[tactic(auto, unfolding(crate::specs::Reach::wrong_reach))]
+pub fn is_wrong(reach: Option<u64>) -> bool
     ensures { result ≡ wrong_reach reach }
 {
     match reach {
-        Reach::NotStated => false,
-        Reach::Stated(n) => {
-            if n < Plan::LEAST_REACH {
-                return true;
-            }
-            Plan::MOST_REACH < n
-        }
+        None => false,
+        Some(n) => n < Plan::LEAST_REACH || Plan::MOST_REACH < n,
     }
 }
 
 // How far is seen, in millimetres; 0 where that is unlimited.
-pub fn range(reach: Reach) -> u64
+pub fn range(reach: Option<u64>) -> u64
     ensures { result ≡ Reach·range reach }
 {
-    match reach {
-        Reach::NotStated => 0,
-        Reach::Stated(n) => n,
-    }
+    reach.unwrap_or(0)
 }
 
 // The dot product of a line's two ends, seen from the stand.

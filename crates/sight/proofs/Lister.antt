@@ -26,7 +26,6 @@ use Rattle.fan.proofs.WithinSide.{WithinSide, two_cells}
 use Rattle.expand.specs.Floor.{floor_of, Lines, Starts}
 use Rattle.lines.specs.Lined.{Lined}
 use Rattle.sight.specs.CellTree.{side_tree, cell_tree, others_tree, inside_tree, within_tree, stand_tree, StandsIn}
-use Rattle.sight.specs.declared.list.Listed.TheVariants as L
 use Rattle.sight.specs.Seen.{SeenFrom}
 use Rattle.sight.specs.Ceiling.{enough}
 use Rattle.sight.specs.Listing as Listing
@@ -34,6 +33,7 @@ use Rattle.sight.specs.Listing.{plan_floor, standing, sight_from, listing_number
 use Rattle.sight.proofs.Lined.{few_faces, across_where_passed, lined_floor_agrees, lined_is_lines, starts_stand}
 use Rattle.sight.proofs.PlanFloor.{passed_is_free, plan_geometry, stands_on_the_floor}
 use Rattle.sight.proofs.Sightings.{listing_is_whole, rows_never_outnumber_corners, few_crossings}
+use Rattle.std.specs.Prelude.{Ok}
 
 module _ {cs : List ℤ} {T : Cells} {ds : List ℕ} (sound : Sound cs T ds) (w R : ℕ) (q : Point) (near : Near q)
     {ls : List ℕ} (lined : Lined T ds w ls) {zs : List ℤ} (seen : SeenFrom cs q zs) where
@@ -135,5 +135,5 @@ module _ {cs : List ℤ} {T : Cells} {ds : List ℕ} (sound : Sound cs T ds) (w 
     listing_written old h = (h.0 ∙ rows_are, (h.1.0 ∙ crossings_are, h.1.1 ∙ ap (sets old 0) numbers_are))
 
     -- so what the tree lists is the listing
-    pub tree_listed : (old : List ℕ) → (L.Rows (row_count (stand_tree zs ls T R p)) (crossings (stand_tree zs ls T R p)), sets old 0 (numbers (stand_tree zs ls T R p))) ≡ rows_from cs T ds w R old q p
-    tree_listed old = λ i. (L.Rows (rows_are i) (crossings_are i), sets old 0 (numbers_are i))
+    pub tree_listed : (old : List ℕ) → (Ok (record { rows = row_count (stand_tree zs ls T R p); crossings = crossings (stand_tree zs ls T R p) }), sets old 0 (numbers (stand_tree zs ls T R p))) ≡ rows_from cs T ds w R old q p
+    tree_listed old = λ i. (Ok (record { rows = rows_are i; crossings = crossings_are i }), sets old 0 (numbers_are i))

@@ -28,14 +28,13 @@ use Rattle.fan.proofs.Tables.{length_of_rows}
 use Rattle.fan.proofs.Written.{numbers_are_the_rows}
 use Rattle.sight.specs.Listing.{plan_floor, seen, standing, sight_from, viewed, listing_rows, listing_numbers, listing_row_count, listing_crossings, refuse, no_room, rows_from, listed_from, listed}
 use Rattle.sight.specs.Ceiling.{listed_up_to}
-use Rattle.sight.specs.declared.ceiling.Ceiling.{Ceiling}
 use Rattle.sight.specs.declared.view.Query.{Query}
-use Rattle.sight.specs.declared.view.View.TheVariants as O
-use Rattle.sight.specs.declared.list.Listed.{Listed}
-use Rattle.sight.specs.declared.list.Listed.TheVariants as L
 use Rattle.sight.proofs.PlanFloor.{plan_geometry, stands_on_the_floor}
 use Rattle.sight.proofs.Sightings.{listing_is_whole, rows_never_outnumber_corners, demand_2, walk_is_unique}
 use Rattle.sight.proofs.Views.{view_says, has_room}
+use Rattle.sight.specs.declared.list.Counts.{Counts}
+use Rattle.limits.specs.declared.Refusal.{Refusal}
+use Rattle.std.specs.Prelude.{Ok, Option, Result}
 
 module _ (cs : List ℤ) (T : Cells) (ds : List ℕ) (w R : ℕ) (q : Point) (p : Footing) where
   pub the_numbers_are_the_rows : listing_numbers cs T ds w R q p ≡ written (listing_rows cs T ds w R q p)
@@ -52,7 +51,7 @@ module _ (cs : List ℤ) (T : Cells) (ds : List ℕ) (w R : ℕ) (q : Point) (p 
       ∙ length_of_rows (listing_rows cs T ds w R q p)
       ∙ ap (λ (n : ℕ). 4 * n) (sym the_count_is_the_rows)
 
-module _ (k : ℕ) (cs : List ℤ) (ts ds : List ℕ) (a : Query) (table : List ℕ) {x y : ℤ} {p : Footing} (view : viewed k cs ts ds a ≡ O.From x y p) (room : no_room cs table ≡ false) where
+module _ (k : ℕ) (cs : List ℤ) (ts ds : List ℕ) (a : Query) (table : List ℕ) {x y : ℤ} {p : Footing} (view : viewed k cs ts ds a ≡ Ok (record { x = x; y = y; footing = p })) (room : no_room cs table ≡ false) where
   abbrev q : Point
   q = record { x = x; y = y }
 
@@ -66,12 +65,12 @@ module _ (k : ℕ) (cs : List ℤ) (ts ds : List ℕ) (a : Query) (table : List 
   R = range a.reach
 
   -- from a stand that is not refused, with room, `list` replies the rows' count and the crossings, writes the rows and keeps what stands beyond them
-  pub list_writes_the_rows : listed k cs ts ds a table ≡ (L.Rows (length (listing_rows cs T ds w R q p)) (listing_crossings cs T ds w R q p), sets table 0 (written (listing_rows cs T ds w R q p)))
+  pub list_writes_the_rows : listed k cs ts ds a table ≡ (Ok (record { rows = length (listing_rows cs T ds w R q p); crossings = listing_crossings cs T ds w R q p }), sets table 0 (written (listing_rows cs T ds w R q p)))
   unfolding listed
   list_writes_the_rows =
       ap (listed_from cs T ds w R table) view
       ∙ ap (λ (b : Bool). refuse b No.Room table (rows_from cs T ds w R table q p)) room
-      ∙ ap₂ (λ (n : ℕ) (l : List ℕ). (L.Rows n (listing_crossings cs T ds w R q p), sets table 0 l)) (the_count_is_the_rows cs T ds w R q p) (the_numbers_are_the_rows cs T ds w R q p)
+      ∙ ap₂ (λ (n : ℕ) (l : List ℕ). (Ok (record { rows = n; crossings = listing_crossings cs T ds w R q p }), sets table 0 l)) (the_count_is_the_rows cs T ds w R q p) (the_numbers_are_the_rows cs T ds w R q p)
 
   -- the table at exit: the rows, and beyond them what stood there
   pub the_table_holds_the_rows : (listed k cs ts ds a table).1 ≡ written (listing_rows cs T ds w R q p) ++ drop (4 * length (listing_rows cs T ds w R q p)) table
@@ -80,7 +79,7 @@ module _ (k : ℕ) (cs : List ℤ) (ts ds : List ℕ) (a : Query) (table : List 
       let few = rows_never_outnumber_corners says.sound w R q p (found_place_holds_the_stand cs says.sound.numbered ds w q says.spotted.stand_place) in
       let count = the_count_is_the_rows cs T ds w R q p in
       let long = has_room cs table room in
-      ap (λ (p : Listed × List ℕ). p.1) list_writes_the_rows
+      ap (λ (p : Result Counts Refusal × List ℕ). p.1) list_writes_the_rows
       ∙ written_from_the_beginning table (written (listing_rows cs T ds w R q p)) (4 * length (listing_rows cs T ds w R q p)) (length_of_rows (listing_rows cs T ds w R q p)) (omega arith)
 
 module _ {cs : List ℤ} {T : Cells} {ds : List ℕ} (sound : Sound cs T ds) (w R : ℕ) (q : Point) (p : Footing) (stands : Stands cs T ds w q p) where
@@ -105,5 +104,5 @@ module _ {cs : List ℤ} {T : Cells} {ds : List ℕ} (sound : Sound cs T ds) (w 
       Limits.row_limits_are_corners (plan_geometry sound w R q) (corner_count cs) (corner_exists sound.numbered sound.cells) (stands_on_the_floor sound w R q stands) a
 
 -- the promise of the listing leaves one reply and one table
-pub list_has_one_reply : (k : ℕ) (cs : List ℤ) (ts ds : List ℕ) (a : Query) (c : Ceiling) (table : List ℕ) {r s : Listed × List ℕ} → r ≡ listed_up_to k cs ts ds a c table → s ≡ listed_up_to k cs ts ds a c table → r ≡ s
+pub list_has_one_reply : (k : ℕ) (cs : List ℤ) (ts ds : List ℕ) (a : Query) (c : Option ℕ) (table : List ℕ) {r s : Result Counts Refusal × List ℕ} → r ≡ listed_up_to k cs ts ds a c table → s ≡ listed_up_to k cs ts ds a c table → r ≡ s
 list_has_one_reply k cs ts ds a c table h i = h ∙ sym i

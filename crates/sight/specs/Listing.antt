@@ -1,5 +1,5 @@
 -- The listing (document 01, "Expansion" and "Reply numbers"; document 02, A4, A5 and A14). R is how far is seen, in millimetres, and 0 where that is unlimited.
-use Rattle.std.specs.Prelude.{Bool, true, false, ◌||◌, List, ℕ, ◌+◌, ◌*◌, ◌-◌, ltb, length, ℤ, pos}
+use Rattle.std.specs.Prelude.{Bool, true, false, ◌||◌, List, ℕ, ◌+◌, ◌*◌, ◌-◌, ltb, length, ℤ, pos, Err, None, Ok, Option, Result, Some}
 use Rattle.std.proofs.lemmas.List.Edits.{sets}
 use Rattle.std.specs.Int.Signed.{le_z}
 use Rattle.plane.specs.Side.{Point, side}
@@ -9,27 +9,19 @@ use Rattle.cells.specs.Cut.{cells_of}
 use Rattle.cells.specs.Check.{checked}
 use Rattle.setting.specs.Setting.{ends, wrong_setting}
 use Rattle.reach.specs.Reach.{out_of_reach, far, range, wrong_reach}
-use Rattle.reach.specs.declared.Reach.{Reach}
 use Rattle.limits.specs.declared.Refusal.{Refusal}
 use Rattle.limits.specs.declared.Refusal.TheVariants as No
-use Rattle.limits.specs.declared.Checked.{Checked}
-use Rattle.limits.specs.declared.Checked.TheVariants as C
 use Rattle.stand.specs.Spot.{stood}
 use Rattle.stand.specs.Find.{located}
-use Rattle.stand.specs.declared.spot.Spot.{Spot}
-use Rattle.stand.specs.declared.spot.Spot.TheVariants as S
 use Rattle.stand.specs.declared.locate.Footing.{Footing}
 use Rattle.stand.specs.declared.locate.Footing.TheVariants.{Inside, Side}
-use Rattle.stand.specs.declared.locate.Found.{Found}
-use Rattle.stand.specs.declared.locate.Found.TheVariants as F
 use Rattle.fan.specs.Sight.{Floor, Place, Sight, Row, Standing, seen_from, numbers, rows, row_count, crossings}
 use Rattle.fan.specs.Sight.Standing.{inside, within}
 use Rattle.fan.specs.Sight.Place.{between, right_of_r, left_of_l}
 use Rattle.sight.specs.declared.view.Query.{Query}
+use Rattle.sight.specs.declared.list.Counts.{Counts}
+use Rattle.limits.specs.declared.Plan.{Plan}
 use Rattle.sight.specs.declared.view.View.{View}
-use Rattle.sight.specs.declared.view.View.TheVariants as O
-use Rattle.sight.specs.declared.list.Listed.{Listed}
-use Rattle.sight.specs.declared.list.Listed.TheVariants as L
 
 -- v on or right of the ray from q to r, on or left of the ray to l, or strictly between; on an accepted plan exactly one applies
 unfoldable pub placed : List ℤ → Point → ℕ → ℕ → ℕ → Place
@@ -83,31 +75,31 @@ unfoldable pub listing_crossings : List ℤ → Cells → List ℕ → ℕ → �
 listing_crossings cs T ds w R q p = crossings (sight_from cs T ds w R q p)
 
 -- refused where the test holds
-abbrev pub unless : Bool → Refusal → View → View
-unless true r v = O.Refused r
+abbrev pub unless : Bool → Refusal → Result View Refusal → Result View Refusal
+unless true r v = Err r
 unless false r v = v
 
-abbrev pub view_of_place : ℤ → ℤ → Found → View
-view_of_place x y (F.At p) = O.From x y p
-view_of_place x y (F.Refused r) = O.Refused r
+abbrev pub view_of_place : ℤ → ℤ → Result Footing Refusal → Result View Refusal
+view_of_place x y (Ok p) = Ok (record { x = x; y = y; footing = p })
+view_of_place x y (Err r) = Err r
 
 -- 15 goes after 8 and before 9
-abbrev pub view_of_spot : List ℤ → Cells → List ℕ → ℕ → Reach → Spot → View
-view_of_spot cs T ds w reach (S.At x y) = unless (wrong_reach reach) No.Reach (view_of_place x y (located cs T ds w (record { x = x; y = y })))
-view_of_spot cs T ds w reach S.Refused = O.Refused No.Stand
+abbrev pub view_of_spot : List ℤ → Cells → List ℕ → ℕ → Option ℕ → Option (ℤ × ℤ) → Result View Refusal
+view_of_spot cs T ds w reach (Some (x, y)) = unless (wrong_reach reach) No.Reach (view_of_place x y (located cs T ds w (record { x = x; y = y })))
+view_of_spot cs T ds w reach None = Err No.Stand
 
-abbrev pub view_of_plan : List ℤ → Cells → List ℕ → Query → Checked → View
-view_of_plan cs T ds a (C.Accepted p) =
+abbrev pub view_of_plan : List ℤ → Cells → List ℕ → Query → Result Plan Refusal → Result View Refusal
+view_of_plan cs T ds a (Ok p) =
     unless (wrong_setting a.setting (length ds)) No.Setting (view_of_spot cs T ds a.setting a.reach (stood cs a.stand))
-view_of_plan cs T ds a (C.Refused r) = O.Refused r
+view_of_plan cs T ds a (Err r) = Err r
 
 -- replies 1 to 6, 17, 7, 8, 15, 9 and 10 in order, or the stand and where it was found; the cells are in a list of kind k
-unfoldable pub viewed : ℕ → List ℤ → List ℕ → List ℕ → Query → View
+unfoldable pub viewed : ℕ → List ℤ → List ℕ → List ℕ → Query → Result View Refusal
 viewed k cs ts ds a = view_of_plan cs (cells_of k ts) ds a (checked k cs ts ds)
 
 -- refused where the test holds, and the lent list, a table or offsets (document 02, A2), keeps its contents
-abbrev pub refuse : {A : Type 0} → Bool → Refusal → List A → Listed × List A → Listed × List A
-refuse true r lent rest = (L.Refused r, lent)
+abbrev pub refuse : {A : Type 0} → Bool → Refusal → List A → Result Counts Refusal × List A → Result Counts Refusal × List A
+refuse true r lent rest = (Err r, lent)
 refuse false r lent rest = rest
 
 -- the lent list must have 4·corners numbers
@@ -115,14 +107,14 @@ unfoldable pub no_room : {A : Type 0} → List ℤ → List A → Bool
 no_room cs lent = ltb (length lent) (4 * corner_count cs)
 
 -- the rows go to the beginning of the table; beyond them it keeps its values
-abbrev pub rows_from : List ℤ → Cells → List ℕ → ℕ → ℕ → List ℕ → Point → Footing → Listed × List ℕ
-rows_from cs T ds w R table q p = (L.Rows (listing_row_count cs T ds w R q p) (listing_crossings cs T ds w R q p), sets table 0 (listing_numbers cs T ds w R q p))
+abbrev pub rows_from : List ℤ → Cells → List ℕ → ℕ → ℕ → List ℕ → Point → Footing → Result Counts Refusal × List ℕ
+rows_from cs T ds w R table q p = (Ok (record { rows = listing_row_count cs T ds w R q p; crossings = listing_crossings cs T ds w R q p }), sets table 0 (listing_numbers cs T ds w R q p))
 
 -- the reply and the table at exit: on a refusal it keeps its contents
-abbrev pub listed_from : List ℤ → Cells → List ℕ → ℕ → ℕ → List ℕ → View → Listed × List ℕ
-listed_from cs T ds w R table (O.From x y p) = refuse (no_room cs table) No.Room table (rows_from cs T ds w R table (record { x = x; y = y }) p)
-listed_from cs T ds w R table (O.Refused r) = (L.Refused r, table)
+abbrev pub listed_from : List ℤ → Cells → List ℕ → ℕ → ℕ → List ℕ → Result View Refusal → Result Counts Refusal × List ℕ
+listed_from cs T ds w R table (Ok v) = refuse (no_room cs table) No.Room table (rows_from cs T ds w R table (record { x = v.x; y = v.y }) v.footing)
+listed_from cs T ds w R table (Err r) = (Err r, table)
 
 -- the listing: plan, query and table
-unfoldable pub listed : ℕ → List ℤ → List ℕ → List ℕ → Query → List ℕ → Listed × List ℕ
+unfoldable pub listed : ℕ → List ℤ → List ℕ → List ℕ → Query → List ℕ → Result Counts Refusal × List ℕ
 listed k cs ts ds a table = listed_from cs (cells_of k ts) ds a.setting (range a.reach) table (viewed k cs ts ds a)

@@ -1,10 +1,10 @@
 -- The answer of listing and door change in document 01's numbers ("Reply numbers").
-use Rattle.std.specs.Prelude.{[], ◌∷◌}
+use Rattle.std.specs.Prelude.{[], ◌∷◌, Err, Ok, Result}
 use Rattle.limits.specs.Reply.{Reply, done, refused}
-use Rattle.sight.specs.declared.list.Listed.{Listed}
-use Rattle.sight.specs.declared.list.Listed.TheVariants.{Rows, Refused}
+use Rattle.sight.specs.declared.list.Counts.{Counts}
+use Rattle.limits.specs.declared.Refusal.{Refusal}
 
 -- row count and crossings
-abbrev pub listed_reply : Listed → Reply
-listed_reply (Rows n k) = done (n ∷ k ∷ [])
-listed_reply (Refused r) = refused r
+abbrev pub listed_reply : Result Counts Refusal → Reply
+listed_reply (Ok n) = done (n.rows ∷ n.crossings ∷ [])
+listed_reply (Err r) = refused r

@@ -2,13 +2,6 @@
 ghost use Rattle.std.specs.Prelude.{◌≡◌};
 ghost use Rattle.sight.specs.Ceiling.{allowance as Ceiling·allowance};
 
-// How many crossings a listing may have, or none stated.
-#[derive(Clone, Copy)]
-pub enum Ceiling {
-    NotStated,
-    Stated(u64),
-}
-
 // No listing has as many crossings.
 pub const ENOUGH: usize = 9223372036854775808;
 

@@ -7,33 +7,31 @@ ghost use Rattle.limits.specs.Limits.{most_corners, most_cells, most_reach, size
 ghost use Rattle.cells.specs.Cut.{cells_of};
 ghost use Rattle.cells.specs.Check.{framed};
 ghost use Rattle.checking.specs.Sizes.{sizes_of};
-ghost use Rattle.checking.specs.declared.Sizes.TheVariants.{Of};
 ghost use Rattle.cells.specs.Backed.{Backed};
 ghost use Rattle.cells.specs.Sound.{Numbered, Sound};
 ghost use Rattle.stand.specs.Find.{located};
-ghost use Rattle.stand.specs.declared.locate.Found.TheVariants.{At};
 ghost use Rattle.fan.specs.Sight.{numbers, row_count, crossings, Whole};
 ghost use Rattle.expand.specs.Floor.{Lines, Starts};
 ghost use Rattle.expand.specs.Remains.{Follows};
 ghost use Rattle.sight.specs.CellTree.{cell_tree, others_tree, inside_tree, within_tree, stand_tree, StandsIn};
 ghost use Rattle.sight.specs.Listing.{listing_row_count, listing_crossings, listing_numbers, rows_from};
 ghost use Rattle.sight.specs.Ceiling.{enough, up_to, tree_up_to, listed_up_to};
-ghost use Rattle.sight.specs.declared.ceiling.Ceiling.TheVariants.{Stated};
 
-use crate::ceiling::{Ceiling, ENOUGH, allowance};
+use crate::ceiling::{ENOUGH, allowance};
 use crate::seen::see;
-use crate::view::{Query, View, view_in};
-use checking::{Sizes, measure};
+use crate::view::{Query, view_in};
+use checking::measure;
 use expand::{Followed, cross};
 use limits::{Plan, Refusal};
 use lines::lines_of;
 use records::list::copy_numbers;
 use stand::locate::Footing;
 
+// How many rows were written and how many free lines were passed.
 #[derive(Clone, Copy)]
-pub enum Listed {
-    Rows(usize, usize),
-    Refused(Refusal),
+pub struct Counts {
+    pub rows: usize,
+    pub crossings: usize,
 }
 
 // Follows side f and the `more` sides after it, each with its two ends as limits; `unentered` is how many cells are not yet entered, and `left` how many
@@ -212,13 +210,6 @@ fn list_over(
     }
 }
 
-// How many rows were written and how many free lines were passed.
-#[derive(Clone, Copy)]
-pub struct Counts {
-    pub rows: usize,
-    pub crossings: usize,
-}
-
 // Follows them to all their rows.
 fn list_all(
     seen: &[i32],
@@ -256,23 +247,23 @@ fn list_apart(
     table: &mut [u16],
     p: Footing,
     n: u64,
-) -> Listed
+) -> Result<Counts, Refusal>
     requires lines { Lines seen.now lines.now × Starts seen.now lines.now faces.now × (reach ≤ most_reach) × Numbered (tabled faces.now firsts.now) }
     requires stands_in { StandsIn lines.now (tabled faces.now firsts.now) p × (length lines.now ≡ 4 * face_count (tabled faces.now firsts.now)) }
     requires whole { Whole (stand_tree seen.now lines.now (tabled faces.now firsts.now) reach p) }
     requires p_in_bounds { 4 * row_count (stand_tree seen.now lines.now (tabled faces.now firsts.now) reach p) ≤ length table.old }
     requires p_bound { (row_count (stand_tree seen.now lines.now (tabled faces.now firsts.now) reach p) ≤ most_corners) × (crossings (stand_tree seen.now lines.now (tabled faces.now firsts.now) reach p) < enough) }
-    ensures { (result, table.new) ≡ tree_up_to (Stated n) table.old (stand_tree seen.now lines.now (tabled faces.now firsts.now) reach p) }
+    ensures { (result, table.new) ≡ tree_up_to (Some n) table.old (stand_tree seen.now lines.now (tabled faces.now firsts.now) reach p) }
 {
     let mut apart = [0u16; 4 * Plan::MOST_CORNERS];
     let left = allowance(n);
     let followed = list_over(seen, lines, faces, firsts, reach, &mut apart, p, left);
     if followed.left == 0 {
-        return Listed::Refused(Refusal::Ceiling);
+        return Err(Refusal::Ceiling);
     }
     let numbers = 4 * followed.rows;
     copy_numbers(&apart[..numbers], table);
-    Listed::Rows(followed.rows, left - followed.left)
+    Ok(Counts { rows: followed.rows, crossings: left - followed.left })
 }
 
 // Follows them with a ceiling or none.
@@ -284,8 +275,8 @@ pub fn list_up_to(
     reach: u64,
     table: &mut [u16],
     p: Footing,
-    ceiling: Ceiling,
-) -> Listed
+    ceiling: Option<u64>,
+) -> Result<Counts, Refusal>
     requires lines { Lines seen.now lines.now × Starts seen.now lines.now faces.now × (reach ≤ most_reach) × Numbered (tabled faces.now firsts.now) }
     requires stands_in { StandsIn lines.now (tabled faces.now firsts.now) p × (length lines.now ≡ 4 * face_count (tabled faces.now firsts.now)) }
     requires whole { Whole (stand_tree seen.now lines.now (tabled faces.now firsts.now) reach p) }
@@ -294,11 +285,10 @@ pub fn list_up_to(
     ensures { (result, table.new) ≡ tree_up_to ceiling table.old (stand_tree seen.now lines.now (tabled faces.now firsts.now) reach p) }
 {
     match ceiling {
-        Ceiling::NotStated => {
-            let counts = list_all(seen, lines, faces, firsts, reach, table, p);
-            Listed::Rows(counts.rows, counts.crossings)
+        None => {
+            Ok(list_all(seen, lines, faces, firsts, reach, table, p))
         }
-        Ceiling::Stated(n) => list_apart(seen, lines, faces, firsts, reach, table, p, n),
+        Some(n) => list_apart(seen, lines, faces, firsts, reach, table, p, n),
     }
 }
 
@@ -319,7 +309,7 @@ pub fn list_from(
     seen: &mut [i32],
 ) -> Counts
     requires sound { Sound corners.now (tabled faces.now firsts.now) doors.now × Backed (tabled faces.now firsts.now) backs.now }
-    requires near { Near (point q) × (located corners.now (tabled faces.now firsts.now) doors.now setting (point q) ≡ At p) }
+    requires near { Near (point q) × (located corners.now (tabled faces.now firsts.now) doors.now setting (point q) ≡ Ok p) }
     requires corners_in_bounds { (4 * corner_count corners.now ≤ length table.old) × (reach ≤ most_reach) }
     requires lines_len { (length lines.old ≡ 4 * face_count (tabled faces.now firsts.now)) × (length seen.old ≡ length corners.now) }
     ensures rows_value { result.rows ≡ listing_row_count corners.now (tabled faces.now firsts.now) doors.now setting reach (point q) p }
@@ -341,14 +331,14 @@ fn list_at(
     setting: u64,
     reach: u64,
     q: [i64; 2],
-    ceiling: Ceiling,
+    ceiling: Option<u64>,
     table: &mut [u16],
     p: Footing,
     lines: &mut [u16],
     seen: &mut [i32],
-) -> Listed
+) -> Result<Counts, Refusal>
     requires sound { Sound corners.now (tabled faces.now firsts.now) doors.now × Backed (tabled faces.now firsts.now) backs.now }
-    requires near { Near (point q) × (located corners.now (tabled faces.now firsts.now) doors.now setting (point q) ≡ At p) }
+    requires near { Near (point q) × (located corners.now (tabled faces.now firsts.now) doors.now setting (point q) ≡ Ok p) }
     requires corners_in_bounds { (4 * corner_count corners.now ≤ length table.old) × (reach ≤ most_reach) }
     requires lines_len { (length lines.old ≡ 4 * face_count (tabled faces.now firsts.now)) × (length seen.old ≡ length corners.now) }
     ensures { (result, table.new) ≡ up_to ceiling table.old (rows_from corners.now (tabled faces.now firsts.now) doors.now setting reach table.old (point q) p) }
@@ -365,14 +355,14 @@ fn list_in(
     doors: &[u16],
     kind: u16,
     query: Query,
-    ceiling: Ceiling,
+    ceiling: Option<u64>,
     table: &mut [u16],
     faces: &mut [u16],
     firsts: &mut [u16],
     backs: &mut [u16],
     lines: &mut [u16],
     seen: &mut [i32],
-) -> Listed
+) -> Result<Counts, Refusal>
     requires cells_value { (framed kind corners.now cells.now ≡ true) × (sized (corner_count corners.now) (cell_count (cells_of kind cells.now)) (length doors.now) ≡ true) }
     requires faces_len { length faces.old ≡ 2 * face_count (cells_of kind cells.now) }
     requires firsts_len { length firsts.old ≡ suc (cell_count (cells_of kind cells.now)) }
@@ -380,150 +370,24 @@ fn list_in(
     requires lines_len { (length lines.old ≡ 4 * face_count (cells_of kind cells.now)) × (length seen.old ≡ length corners.now) }
     ensures { (result, table.new) ≡ listed_up_to kind corners.now cells.now doors.now query ceiling table.old }
 {
-    match view_in(corners, cells, doors, kind, query, faces, firsts, backs) {
-        View::Refused(r) => Listed::Refused(r),
-        View::From(x, y, p) => {
-            if table.len() < 4 * (corners.len() / 2) {
-                return Listed::Refused(Refusal::Room);
-            }
-            let setting = query.setting;
-            let reach = query.reach;
-            let range = reach::range(reach);
-            list_at(
-                corners,
-                faces,
-                firsts,
-                backs,
-                doors,
-                setting,
-                range,
-                [x, y],
-                ceiling,
-                table,
-                p,
-                lines,
-                seen,
-            )
-        }
+    let view = view_in(corners, cells, doors, kind, query, faces, firsts, backs)?;
+    if table.len() < 4 * (corners.len() / 2) {
+        return Err(Refusal::Room);
     }
-}
-
-// Lists m cells with n faces in as much of the room lent as they need.
-fn list_cut(
-    corners: &[i32],
-    cells: &[u16],
-    doors: &[u16],
-    kind: u16,
-    query: Query,
-    ceiling: Ceiling,
-    table: &mut [u16],
-    m: usize,
-    n: usize,
-    faces: &mut [u16],
-    firsts: &mut [u16],
-    backs: &mut [u16],
-    lines: &mut [u16],
-    seen: &mut [i32],
-) -> Listed
-    requires doors_value { sizes_of kind corners.now cells.now doors.now ≡ Of m n }
-    requires n_in_bounds { (2 * n ≤ length faces.old) × (m < length firsts.old) × (n ≤ length backs.old) × (4 * n ≤ length lines.old) }
-    requires most_corners_in_bounds { 2 * most_corners ≤ length seen.old }
-    ensures { (result, table.new) ≡ listed_up_to kind corners.now cells.now doors.now query ceiling table.old }
-{
-    let twice = 2 * n;
-    let after = m + 1;
-    let fourfold = 4 * n;
-    let numbers = corners.len();
-    list_in(
+    list_at(
         corners,
-        cells,
+        faces,
+        firsts,
+        backs,
         doors,
-        kind,
-        query,
+        query.setting,
+        reach::range(query.reach),
+        [view.x, view.y],
         ceiling,
         table,
-        &mut faces[..twice],
-        &mut firsts[..after],
-        &mut backs[..n],
-        &mut lines[..fourfold],
-        &mut seen[..numbers],
-    )
-}
-
-// Lends room for no more faces than triangles have: the larger tables need not be cleared for them.
-fn list_few(
-    corners: &[i32],
-    cells: &[u16],
-    doors: &[u16],
-    kind: u16,
-    query: Query,
-    ceiling: Ceiling,
-    table: &mut [u16],
-    m: usize,
-    n: usize,
-) -> Listed
-    requires doors_value { sizes_of kind corners.now cells.now doors.now ≡ Of m n }
-    requires n_bound { n ≤ 3 * most_cells }
-    ensures { (result, table.new) ≡ listed_up_to kind corners.now cells.now doors.now query ceiling table.old }
-{
-    let mut faces = [0u16; 6 * Plan::MOST_CELLS];
-    let mut firsts = [0u16; 1 + Plan::MOST_CELLS];
-    let mut backs = [0u16; 3 * Plan::MOST_CELLS];
-    let mut lines = [0u16; 12 * Plan::MOST_CELLS];
-    let mut seen = [0i32; 2 * Plan::MOST_CORNERS];
-    list_cut(
-        corners,
-        cells,
-        doors,
-        kind,
-        query,
-        ceiling,
-        table,
-        m,
-        n,
-        &mut faces,
-        &mut firsts,
-        &mut backs,
-        &mut lines,
-        &mut seen,
-    )
-}
-
-// Lends room for every plan.
-fn list_many(
-    corners: &[i32],
-    cells: &[u16],
-    doors: &[u16],
-    kind: u16,
-    query: Query,
-    ceiling: Ceiling,
-    table: &mut [u16],
-    m: usize,
-    n: usize,
-) -> Listed
-    requires { sizes_of kind corners.now cells.now doors.now ≡ Of m n }
-    ensures { (result, table.new) ≡ listed_up_to kind corners.now cells.now doors.now query ceiling table.old }
-{
-    let mut faces = [0u16; 16 * Plan::MOST_CELLS];
-    let mut firsts = [0u16; 1 + Plan::MOST_CELLS];
-    let mut backs = [0u16; 8 * Plan::MOST_CELLS];
-    let mut lines = [0u16; 32 * Plan::MOST_CELLS];
-    let mut seen = [0i32; 2 * Plan::MOST_CORNERS];
-    list_cut(
-        corners,
-        cells,
-        doors,
-        kind,
-        query,
-        ceiling,
-        table,
-        m,
-        n,
-        &mut faces,
-        &mut firsts,
-        &mut backs,
-        &mut lines,
-        &mut seen,
+        view.footing,
+        lines,
+        seen,
     )
 }
 
@@ -535,18 +399,29 @@ pub fn list(
     doors: &[u16],
     kind: u16,
     query: Query,
-    ceiling: Ceiling,
+    ceiling: Option<u64>,
     table: &mut [u16],
-) -> Listed
+) -> Result<Counts, Refusal>
     ensures { (result, table.new) ≡ listed_up_to kind corners.now cells.now doors.now query ceiling table.old }
 {
-    match measure(corners, cells, doors, kind) {
-        Sizes::Refused(r) => Listed::Refused(r),
-        Sizes::Of(m, n) => {
-            if n <= 3 * Plan::MOST_CELLS {
-                return list_few(corners, cells, doors, kind, query, ceiling, table, m, n);
-            }
-            list_many(corners, cells, doors, kind, query, ceiling, table, m, n)
-        }
-    }
+    let sizes = measure(corners, cells, doors, kind)?;
+    let mut faces = [0u16; 16 * Plan::MOST_CELLS];
+    let mut firsts = [0u16; 1 + Plan::MOST_CELLS];
+    let mut backs = [0u16; 8 * Plan::MOST_CELLS];
+    let mut lines = [0u16; 32 * Plan::MOST_CELLS];
+    let mut seen = [0i32; 2 * Plan::MOST_CORNERS];
+    list_in(
+        corners,
+        cells,
+        doors,
+        kind,
+        query,
+        ceiling,
+        table,
+        &mut faces[..2 * sizes.faces],
+        &mut firsts[..=sizes.cells],
+        &mut backs[..sizes.faces],
+        &mut lines[..4 * sizes.faces],
+        &mut seen[..corners.len()],
+    )
 }

@@ -11,23 +11,24 @@ ghost use Rattle.stand.specs.Spot.{stood};
 ghost use Rattle.sight.specs.Listing.{view_of_spot, viewed};
 
 use checking::check_into;
-use limits::{Checked, Plan, Refusal};
-use reach::Reach;
-use stand::locate::{Footing, Found, locate};
-use stand::spot::{Spot, Stand, stand_spot};
+use limits::{Plan, Refusal};
+use stand::locate::{Footing, locate};
+use stand::spot::{Stand, stand_spot};
 
 // What is asked of a plan: from where, under which door setting, and how far.
 #[derive(Clone, Copy)]
 pub struct Query {
     pub setting: u64,
     pub stand: Stand,
-    pub reach: Reach,
+    pub reach: Option<u64>,
 }
 
+// The stand in whole millimetres, and where it was found.
 #[derive(Clone, Copy)]
-pub enum View {
-    From(i64, i64, Footing),
-    Refused(Refusal),
+pub struct View {
+    pub x: i64,
+    pub y: i64,
+    pub footing: Footing,
 }
 
 // On an accepted plan and setting.
@@ -40,21 +41,17 @@ pub fn view_of_stand(
     doors: &[u16],
     setting: u64,
     stand: Stand,
-    reach: Reach,
-) -> View
+    reach: Option<u64>,
+) -> Result<View, Refusal>
     requires { Sound corners.now (tabled faces.now firsts.now) doors.now × Backed (tabled faces.now firsts.now) backs.now × Boxed corners.now (tabled faces.now firsts.now) boxes.now }
     ensures { result ≡ view_of_spot corners.now (tabled faces.now firsts.now) doors.now setting reach (stood corners.now stand) }
 {
-    let Spot::At(x, y) = stand_spot(corners, stand) else {
-        return View::Refused(Refusal::Stand);
-    };
+    let (x, y) = stand_spot(corners, stand).ok_or(Refusal::Stand)?;
     if reach::is_wrong(reach) {
-        return View::Refused(Refusal::Reach);
+        return Err(Refusal::Reach);
     }
-    match locate(corners, faces, firsts, backs, boxes, doors, setting, [x, y]) {
-        Found::Refused(r) => View::Refused(r),
-        Found::At(p) => View::From(x, y, p),
-    }
+    let footing = locate(corners, faces, firsts, backs, boxes, doors, setting, [x, y])?;
+    Ok(View { x, y, footing })
 }
 
 // On lists that are framed and sized, with room for their tables, which are drawn into it. Of an accepted plan the faces on the other side are noted.
@@ -67,7 +64,7 @@ pub fn view_in(
     faces: &mut [u16],
     firsts: &mut [u16],
     backs: &mut [u16],
-) -> View
+) -> Result<View, Refusal>
     requires cells_value { (framed kind corners.now cells.now ≡ true) × (sized (corner_count corners.now) (cell_count (cells_of kind cells.now)) (length doors.now) ≡ true) }
     requires faces_len { length faces.old ≡ 2 * face_count (cells_of kind cells.now) }
     requires firsts_len { length firsts.old ≡ suc (cell_count (cells_of kind cells.now)) }
@@ -78,21 +75,21 @@ pub fn view_in(
     ensures backed { Sound corners.now (cells_of kind cells.now) doors.now → Backed (cells_of kind cells.now) backs.new }
 {
     let mut boxes = [0i32; 4 * Plan::MOST_CELLS];
-    match check_into(
+    let plan = check_into(
         corners, cells, doors, kind, faces, firsts, backs, &mut boxes,
-    ) {
-        Checked::Refused(r) => View::Refused(r),
-        Checked::Accepted(plan) => {
-            let k = plan.doors;
-            let setting = query.setting;
-            let stand = query.stand;
-            let reach = query.reach;
-            if setting::is_wrong(setting, k) {
-                return View::Refused(Refusal::Setting);
-            }
-            view_of_stand(
-                corners, faces, firsts, backs, &boxes, doors, setting, stand, reach,
-            )
-        }
+    )?;
+    if setting::is_wrong(query.setting, plan.doors) {
+        return Err(Refusal::Setting);
     }
+    view_of_stand(
+        corners,
+        faces,
+        firsts,
+        backs,
+        &boxes,
+        doors,
+        query.setting,
+        query.stand,
+        query.reach,
+    )
 }

@@ -21,9 +21,9 @@ use Rattle.limits.specs.declared.Refusal.TheVariants.{Line}
 use Rattle.setting.specs.Setting.{ends}
 use Rattle.stand.specs.Find.{strictly_within, within_free, first_within, side_at, by_places}
 use Rattle.stand.specs.declared.locate.Footing.TheVariants.{Side}
-use Rattle.stand.specs.declared.locate.Found.TheVariants.{At, Refused}
 use Rattle.stand.proofs.Sides.{Ends, first_is_a_side, next_is_one}
 use Rattle.stand.proofs.Located.{not_within_is_not_there, within_is_there_if_free}
+use Rattle.std.specs.Prelude.{Err, Ok}
 
 -- ---- one side
 
@@ -126,13 +126,13 @@ module _ {T : Cells} (N : Numbered T) where
 
 module _ (cs : List ℤ) {T : Cells} (N : Numbered T) (ds : List ℕ) (w : ℕ) (q : Point) where
   -- the least free side that holds the stand is side f of cell c
-  pub stands_on_a_side : {c : ℕ} → c < cell_count T → {f : ℕ} → first T c ≤ f → f < first T (suc c) → f ≡ first_within cs T ds w q → At (Side c (f - first T c)) ≡ by_places false (ltb (first_within cs T ds w q) (face_count T)) true 0 (side_at T (first_within cs T ds w q))
+  pub stands_on_a_side : {c : ℕ} → c < cell_count T → {f : ℕ} → first T c ≤ f → f < first T (suc c) → f ≡ first_within cs T ds w q → Ok (Side c (f - first T c)) ≡ by_places false (ltb (first_within cs T ds w q) (face_count T)) true 0 (side_at T (first_within cs T ds w q))
   stands_on_a_side {c} h {f} a b is_f =
       let below : first_within cs T ds w q < face_count T = omega (arith, is_f, firsts_grow N (suc c) (cell_count T) h (omega arith), N.ends) in
       let there : side_at T f ≡ Side c (f - first T c) = ap (λ (d : ℕ). Side d (f - first T d)) (home_is N h (record { not_before = a; not_after = b })) in
-      simp (lt-ltb _ _ below) (ap At (sym there ∙ ap (side_at T) is_f))
+      simp (lt-ltb _ _ below) (ap Ok (sym there ∙ ap (side_at T) is_f))
 
-  pub stands_on_no_side : {c : ℕ} → SoughtCells (within_free cs T ds w q) T c → cell_count T ≤ c → Refused Line ≡ by_places false (ltb (first_within cs T ds w q) (face_count T)) true 0 (side_at T (first_within cs T ds w q))
+  pub stands_on_no_side : {c : ℕ} → SoughtCells (within_free cs T ds w q) T c → cell_count T ≤ c → Err Line ≡ by_places false (ltb (first_within cs T ds w q) (face_count T)) true 0 (side_at T (first_within cs T ds w q))
   stands_on_no_side {c} s h =
       let last : cell_count T ≡ c = omega (arith, s.within) in
       let end : first T c ≡ face_count T = ap (first T) (sym last) ∙ N.ends in

@@ -22,10 +22,10 @@ use Rattle.limits.specs.declared.Refusal.TheVariants.{Outside}
 use Rattle.stand.specs.Find.{against, is_inside, is_border, within_free, first_inside, first_within, first_border, side_at, by_places, located}
 use Rattle.stand.specs.declared.locate.Footing.{Footing}
 use Rattle.stand.specs.declared.locate.Footing.TheVariants.{Inside}
-use Rattle.stand.specs.declared.locate.Found.{Found}
-use Rattle.stand.specs.declared.locate.Found.TheVariants.{At, Refused}
 use Rattle.stand.proofs.Against.{on_a_line_is_border}
 use Rattle.stand.proofs.Located.{is_within_and_free, a_side_is_on_the_border}
+use Rattle.limits.specs.declared.Refusal.{Refusal}
+use Rattle.std.specs.Prelude.{Err, Ok, Result}
 
 -- ---- the search
 
@@ -46,7 +46,7 @@ search_begins =
 module _ {cs : List ℤ} {T : Cells} {q : Point} {c : ℕ} {border : Bool} (s : Searched cs T q c border) where
   -- cell c, by the code's answer for it
   module _ (h : c < cell_count T) {w : Containment} (is_w : w ≡ against cs T q c) where
-    pub held_strictly : w ≡ W.Inside → (ds : List ℕ) (v : ℕ) → At (Inside c) ≡ located cs T ds v q
+    pub held_strictly : w ≡ W.Inside → (ds : List ℕ) (v : ℕ) → Ok (Inside c) ≡ located cs T ds v q
     unfolding located
     held_strictly e ds v =
         let is_c : c ≡ first_inside cs T q = seek_found s.none_inside h (ap is_inside (sym is_w ∙ e)) in
@@ -80,7 +80,7 @@ module _ {cs : List ℤ} {T : Cells} {q : Point} {c : ℕ} {border : Bool} (s : 
     in_no_cell = let is_c : c ≡ first_inside cs T q = seek_ends s.none_inside h in rw is_c at h
 
     -- the sides decide
-    pub is_on_a_border : border ≡ true → {r : Found} → r ≡ by_places false (ltb (first_within cs T ds v q) (face_count T)) true 0 (side_at T (first_within cs T ds v q)) → r ≡ located cs T ds v q
+    pub is_on_a_border : border ≡ true → {r : Result Footing Refusal} → r ≡ by_places false (ltb (first_within cs T ds v q) (face_count T)) true 0 (side_at T (first_within cs T ds v q)) → r ≡ located cs T ds v q
     unfolding located
     is_on_a_border b {r} e = simp (le-ltb _ _ in_no_cell, lt-ltb _ _ (below (dec_lt (first_border cs T q) (cell_count T)))) (e ∙ by_sides (ltb (first_within cs T ds v q) (face_count T)) _)
       where
@@ -95,7 +95,7 @@ module _ {cs : List ℤ} {T : Cells} {q : Point} {c : ℕ} {border : Bool} (s : 
         by_sides false p = refl
 
     -- a side that the stand is strictly within would have it on its cell's border
-    pub is_outside : Numbered T → CellsRight cs T → border ≡ false → Refused Outside ≡ located cs T ds v q
+    pub is_outside : Numbered T → CellsRight cs T → border ≡ false → Err Outside ≡ located cs T ds v q
     unfolding located
     is_outside N right b =
         let none = least_is_none (λ (i : ℕ). is_border (against cs T q i)) (cell_count T) 0 (λ k l m. s.on_no_border b k (omega arith)) in

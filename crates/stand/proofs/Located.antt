@@ -31,8 +31,8 @@ use Rattle.setting.proofs.Settings.{sight_ends_at_a_wall, a_line_is_free_from_bo
 use Rattle.stand.specs.Find.{side_value_at, against, is_inside, is_border, strictly_within, within_free, first_inside, first_within, first_border, side_at, by_places, located}
 use Rattle.stand.specs.declared.locate.Footing.{Footing}
 use Rattle.stand.specs.declared.locate.Footing.TheVariants.{Inside, Side}
-use Rattle.stand.specs.declared.locate.Found.TheVariants.{At, Refused}
 use Rattle.stand.proofs.Against.{StrictlyInside, OnItsBorder, left_of_each_is_inside, on_a_line_is_border, inside_is_left_of_each, border_is_on_a_line}
+use Rattle.std.specs.Prelude.{Err, Ok}
 
 is_inside_only : {w : Containment} → is_inside w ≡ true → w ≡ W.Inside
 is_inside_only {w = W.Inside} e = refl
@@ -222,12 +222,12 @@ module _ (cs : List ℤ) {T : Cells} (N : Numbered T) (ds : List ℕ) (w : ℕ) 
   within_no_side h = none_holds (within_free cs T ds w q) (face_count T) h
 
   -- the place found is where the stand is
-  pub found_place_holds_the_stand : {p : Footing} → located cs T ds w q ≡ At p → Stands cs T ds w q p
+  pub found_place_holds_the_stand : {p : Footing} → located cs T ds w q ≡ Ok p → Stands cs T ds w q p
   unfolding located
   found_place_holds_the_stand {p} e =
       by_test (ltb (first_inside cs T q) (cell_count T)) refl (ltb (first_within cs T ds w q) (face_count T)) refl (ltb (first_border cs T q) (cell_count T)) e
     where
-      by_test : (b : Bool) → ltb (first_inside cs T q) (cell_count T) ≡ b → (s : Bool) → ltb (first_within cs T ds w q) (face_count T) ≡ s → (d : Bool) → by_places b s d (first_inside cs T q) (side_at T (first_within cs T ds w q)) ≡ At p → Stands cs T ds w q p
+      by_test : (b : Bool) → ltb (first_inside cs T q) (cell_count T) ≡ b → (s : Bool) → ltb (first_within cs T ds w q) (face_count T) ≡ s → (d : Bool) → by_places b s d (first_inside cs T q) (side_at T (first_within cs T ds w q)) ≡ Ok p → Stands cs T ds w q p
       by_test true h s k d m =
           let same : Inside (first_inside cs T q) ≡ p = cc in
           subst (Stands cs T ds w q) same (in_a_cell (in_cell cs N q (ltb-true _ _ h)))
@@ -238,7 +238,7 @@ module _ (cs : List ℤ) {T : Cells} (N : Numbered T) (ds : List ℕ) (w : ℕ) 
       by_test false h false k false m = absurd (let z : ◌≡◌ {A = ℕ} 0 1 = cc in omega arith)
 
   -- and the place where the stand is is found
-  pub place_is_found : {p : Footing} → Stands cs T ds w q p → located cs T ds w q ≡ At p
+  pub place_is_found : {p : Footing} → Stands cs T ds w q p → located cs T ds w q ≡ Ok p
   unfolding located inside?
   place_is_found (in_a_cell {c} i) =
       let is_c : c ≡ first_inside cs T q = least_is (inside? cs N q) (cell_count T) c i.cell_exists (inside_there cs N q i.cell_exists i.strictly_inside) (λ k l. no_lesser k l (inside? cs N q k) refl) in
@@ -251,7 +251,7 @@ module _ (cs : List ℤ) {T : Cells} (N : Numbered T) (ds : List ℕ) (w : ℕ) 
   place_is_found (on_a_side {c} {k} o) =
       let above = in_no_cell_is_none cs N q o.in_no_cell in
       let below : first_within cs T ds w q < face_count T = subst (λ (f : ℕ). f < face_count T) is_f exists in
-      simp (le-ltb _ _ above, lt-ltb _ _ below) (ap At (ap (side_at T) (sym is_f) ∙ there))
+      simp (le-ltb _ _ above, lt-ltb _ _ below) (ap Ok (ap (side_at T) (sym is_f) ∙ there))
     where
       s : SideOf T c (first T c + k)
       s = record { not_before = omega arith; not_after = omega (arith, o.side_exists) }
@@ -270,24 +270,24 @@ module _ (cs : List ℤ) {T : Cells} (N : Numbered T) (ds : List ℕ) (w : ℕ) 
           ap (λ (d : ℕ). Side d (first T c + k - first T d)) (home_is N o.cell_exists s) ∙ ap (Side c) after
 
   -- on 9 no cell holds it strictly, no free side has it strictly within, and some cell has it on its border
-  pub line_is_on_a_border : located cs T ds w q ≡ Refused R.Line → InNoCell cs T q × OnABorder cs T q × ((f : ℕ) → f < face_count T → within_free cs T ds w q f ≡ false)
+  pub line_is_on_a_border : located cs T ds w q ≡ Err R.Line → InNoCell cs T q × OnABorder cs T q × ((f : ℕ) → f < face_count T → within_free cs T ds w q f ≡ false)
   unfolding located
   line_is_on_a_border e =
       by_test (ltb (first_inside cs T q) (cell_count T)) refl (ltb (first_within cs T ds w q) (face_count T)) refl (ltb (first_border cs T q) (cell_count T)) refl e
     where
-      by_test : (b : Bool) → ltb (first_inside cs T q) (cell_count T) ≡ b → (s : Bool) → ltb (first_within cs T ds w q) (face_count T) ≡ s → (d : Bool) → ltb (first_border cs T q) (cell_count T) ≡ d → by_places b s d (first_inside cs T q) (side_at T (first_within cs T ds w q)) ≡ Refused R.Line → InNoCell cs T q × OnABorder cs T q × ((f : ℕ) → f < face_count T → within_free cs T ds w q f ≡ false)
+      by_test : (b : Bool) → ltb (first_inside cs T q) (cell_count T) ≡ b → (s : Bool) → ltb (first_within cs T ds w q) (face_count T) ≡ s → (d : Bool) → ltb (first_border cs T q) (cell_count T) ≡ d → by_places b s d (first_inside cs T q) (side_at T (first_within cs T ds w q)) ≡ Err R.Line → InNoCell cs T q × OnABorder cs T q × ((f : ℕ) → f < face_count T → within_free cs T ds w q f ≡ false)
       by_test true h s k d l m = absurd (let z : ◌≡◌ {A = ℕ} 0 1 = cc in omega arith)
       by_test false h true k d l m = absurd (let z : ◌≡◌ {A = ℕ} 0 1 = cc in omega arith)
       by_test false h false k true l m = (in_no_cell cs N q (ltb-false _ _ h), on_border cs N q (ltb-true _ _ l), within_no_side (ltb-false _ _ k))
       by_test false h false k false l m = absurd (let z : ◌≡◌ {A = ℕ} 0 1 = cc in omega arith)
 
   -- on 10 none of the three
-  pub outside_is_off_every_cell : located cs T ds w q ≡ Refused R.Outside → InNoCell cs T q × OnNoBorder cs T q × ((f : ℕ) → f < face_count T → within_free cs T ds w q f ≡ false)
+  pub outside_is_off_every_cell : located cs T ds w q ≡ Err R.Outside → InNoCell cs T q × OnNoBorder cs T q × ((f : ℕ) → f < face_count T → within_free cs T ds w q f ≡ false)
   unfolding located
   outside_is_off_every_cell e =
       by_test (ltb (first_inside cs T q) (cell_count T)) refl (ltb (first_within cs T ds w q) (face_count T)) refl (ltb (first_border cs T q) (cell_count T)) refl e
     where
-      by_test : (b : Bool) → ltb (first_inside cs T q) (cell_count T) ≡ b → (s : Bool) → ltb (first_within cs T ds w q) (face_count T) ≡ s → (d : Bool) → ltb (first_border cs T q) (cell_count T) ≡ d → by_places b s d (first_inside cs T q) (side_at T (first_within cs T ds w q)) ≡ Refused R.Outside → InNoCell cs T q × OnNoBorder cs T q × ((f : ℕ) → f < face_count T → within_free cs T ds w q f ≡ false)
+      by_test : (b : Bool) → ltb (first_inside cs T q) (cell_count T) ≡ b → (s : Bool) → ltb (first_within cs T ds w q) (face_count T) ≡ s → (d : Bool) → ltb (first_border cs T q) (cell_count T) ≡ d → by_places b s d (first_inside cs T q) (side_at T (first_within cs T ds w q)) ≡ Err R.Outside → InNoCell cs T q × OnNoBorder cs T q × ((f : ℕ) → f < face_count T → within_free cs T ds w q f ≡ false)
       by_test true h s k d l m = absurd (let z : ◌≡◌ {A = ℕ} 0 1 = cc in omega arith)
       by_test false h true k d l m = absurd (let z : ◌≡◌ {A = ℕ} 0 1 = cc in omega arith)
       by_test false h false k true l m = absurd (let z : ◌≡◌ {A = ℕ} 0 1 = cc in omega arith)

@@ -19,51 +19,48 @@ use Rattle.cells.specs.Lists.{corner_count, corner_at}
 use Rattle.cells.specs.Check.{outside}
 use Rattle.cells.proofs.Checks.{not_outside}
 use Rattle.number.specs.Whole.{whole}
-use Rattle.number.specs.declared.Millimetres.{Millimetres}
-use Rattle.number.specs.declared.Millimetres.TheVariants as M
 use Rattle.number.proofs.Whole.{accepted_is_within}
 use Rattle.stand.specs.Spot.{pair, whole_point, within_limits, offset_by, stood}
 use Rattle.stand.specs.declared.spot.Stand.{Stand}
 use Rattle.stand.specs.declared.spot.Stand.TheVariants as S
-use Rattle.stand.specs.declared.spot.Spot.{Spot}
-use Rattle.stand.specs.declared.spot.Spot.TheVariants.{At, Refused}
+use Rattle.std.specs.Prelude.{None, Option, Some}
 
 -- ---- two doubles
 
 module _ (x y : Float) where
-  pub first_refused : whole x ≡ M.Refused → Refused ≡ whole_point x y
+  pub first_refused : whole x ≡ None → None ≡ whole_point x y
   unfolding whole_point
   first_refused e = simp e
 
-  pub second_refused : {u : ℤ} → whole x ≡ M.Whole u → whole y ≡ M.Refused → Refused ≡ whole_point x y
+  pub second_refused : {u : ℤ} → whole x ≡ Some u → whole y ≡ None → None ≡ whole_point x y
   unfolding whole_point
   second_refused e k = simp (e, k)
 
-  pub both_whole : {u v : ℤ} → whole x ≡ M.Whole u → whole y ≡ M.Whole v → At (to_z w64 (of_z w64 u)) (to_z w64 (of_z w64 v)) ≡ whole_point x y
+  pub both_whole : {u v : ℤ} → whole x ≡ Some u → whole y ≡ Some v → Some (to_z w64 (of_z w64 u), to_z w64 (of_z w64 v)) ≡ whole_point x y
   unfolding whole_point
   both_whole e k =
-      ap₂ At (coordinate w64 tt (accepted_is_within x e)).is (coordinate w64 tt (accepted_is_within y k)).is ∙ sym (ap₂ pair e k)
+      ap₂ Some ((coordinate w64 tt (accepted_is_within x e)).is, (coordinate w64 tt (accepted_is_within y k)).is) ∙ sym (ap₂ pair e k)
 
-  pub point_is_near : {u v : ℤ} → whole_point x y ≡ At u v → Near (record { x = u; y = v })
+  pub point_is_near : {u v : ℤ} → whole_point x y ≡ Some (u, v) → Near (record { x = u; y = v })
   unfolding whole_point
   point_is_near {u} {v} e = by_cases (whole x) (whole y) refl refl e
     where
-      by_cases : (m n : Millimetres) → whole x ≡ m → whole y ≡ n → pair m n ≡ At u v → Near (record { x = u; y = v })
-      by_cases (M.Whole a) (M.Whole b) h k p =
+      by_cases : (m n : Option ℤ) → whole x ≡ m → whole y ≡ n → pair m n ≡ Some (u, v) → Near (record { x = u; y = v })
+      by_cases (Some a) (Some b) h k p =
           let same_x : a ≡ u = cc in
           let same_y : b ≡ v = cc in
           record { x_near = subst (Within limit) same_x (accepted_is_within x h); y_near = subst (Within limit) same_y (accepted_is_within y k) }
-      by_cases (M.Whole a) M.Refused h k p = absurd (let z : ◌≡◌ {A = ℕ} 0 1 = cc in omega arith)
-      by_cases M.Refused n h k p = absurd (let z : ◌≡◌ {A = ℕ} 0 1 = cc in omega arith)
+      by_cases (Some a) None h k p = absurd (let z : ◌≡◌ {A = ℕ} 0 1 = cc in omega arith)
+      by_cases None n h k p = absurd (let z : ◌≡◌ {A = ℕ} 0 1 = cc in omega arith)
 
 -- ---- the limits
 
 module _ (x y : ℤ) where
-  pub bounded_is_near : {u v : ℤ} → within_limits x y ≡ At u v → Near (record { x = u; y = v })
+  pub bounded_is_near : {u v : ℤ} → within_limits x y ≡ Some (u, v) → Near (record { x = u; y = v })
   unfolding within_limits
   bounded_is_near {u} {v} e = by_cases (outside x || outside y) refl e
     where
-      by_cases : (b : Bool) → (outside x || outside y) ≡ b → elim b [ true ↦ Refused | false ↦ At x y ] ≡ At u v → Near (record { x = u; y = v })
+      by_cases : (b : Bool) → (outside x || outside y) ≡ b → elim b [ true ↦ None | false ↦ Some (x, y) ] ≡ Some (u, v) → Near (record { x = u; y = v })
       by_cases true h p = absurd (let z : ◌≡◌ {A = ℕ} 0 1 = cc in omega arith)
       by_cases false h p =
           let both = neither_true (outside x) (outside y) h in
@@ -73,12 +70,12 @@ module _ (x y : ℤ) where
 
 -- the four tests of a bound, on numbers as the code reads them
 module _ {x y X Y : ℤ} (is_x : X ≡ x) (is_y : Y ≡ y) where
-  pub below_x : lt_z X (neg_ℤ (pos limit)) ≡ true → Refused ≡ within_limits x y
+  pub below_x : lt_z X (neg_ℤ (pos limit)) ≡ true → None ≡ within_limits x y
   unfolding within_limits outside
   below_x h = let k : lt_z x (neg_ℤ (pos limit)) ≡ true = rw is_x at h in rw (k, outside, within_limits)
 
   module _ (h : lt_z X (neg_ℤ (pos limit)) ≡ false) where
-    pub above_x : lt_z (pos limit) X ≡ true → Refused ≡ within_limits x y
+    pub above_x : lt_z (pos limit) X ≡ true → None ≡ within_limits x y
     unfolding within_limits outside
     above_x k =
         let h' : lt_z x (neg_ℤ (pos limit)) ≡ false = rw is_x at h in
@@ -86,7 +83,7 @@ module _ {x y X Y : ℤ} (is_x : X ≡ x) (is_y : Y ≡ y) where
         rw (h', k', outside, within_limits)
 
     module _ (k : lt_z (pos limit) X ≡ false) where
-      pub below_y : lt_z Y (neg_ℤ (pos limit)) ≡ true → Refused ≡ within_limits x y
+      pub below_y : lt_z Y (neg_ℤ (pos limit)) ≡ true → None ≡ within_limits x y
       unfolding within_limits outside
       below_y l =
           let h' : lt_z x (neg_ℤ (pos limit)) ≡ false = rw is_x at h in
@@ -95,7 +92,7 @@ module _ {x y X Y : ℤ} (is_x : X ≡ x) (is_y : Y ≡ y) where
           rw (h', k', l', outside, within_limits)
 
       module _ (l : lt_z Y (neg_ℤ (pos limit)) ≡ false) where
-        pub above_y : lt_z (pos limit) Y ≡ true → Refused ≡ within_limits x y
+        pub above_y : lt_z (pos limit) Y ≡ true → None ≡ within_limits x y
         unfolding within_limits outside
         above_y m =
             let h' : lt_z x (neg_ℤ (pos limit)) ≡ false = rw is_x at h in
@@ -104,39 +101,39 @@ module _ {x y X Y : ℤ} (is_x : X ≡ x) (is_y : Y ≡ y) where
             let m' : lt_z (pos limit) y ≡ true = rw is_y at m in
             rw (h', k', l', m', outside, within_limits)
 
-        pub within_both : lt_z (pos limit) Y ≡ false → At X Y ≡ within_limits x y
+        pub within_both : lt_z (pos limit) Y ≡ false → Some (X, Y) ≡ within_limits x y
         unfolding within_limits outside
         within_both m =
             let h' : lt_z x (neg_ℤ (pos limit)) ≡ false = rw is_x at h in
             let k' : lt_z (pos limit) x ≡ false = rw is_x at k in
             let l' : lt_z y (neg_ℤ (pos limit)) ≡ false = rw is_y at l in
             let m' : lt_z (pos limit) y ≡ false = rw is_y at m in
-            ap₂ At is_x is_y ∙ rw (h', k', l', m', outside, within_limits)
+            ap₂ Some (is_x, is_y) ∙ rw (h', k', l', m', outside, within_limits)
 
 -- ---- stands
 
 module _ (cs : List ℤ) where
-  pub no_such_corner : (i : ℕ) (x y : Float) → corner_count cs ≤ i → Refused ≡ stood cs (S.Offset i x y)
+  pub no_such_corner : (i : ℕ) (x y : Float) → corner_count cs ≤ i → None ≡ stood cs (S.Offset i x y)
   unfolding stood
   no_such_corner i x y h = rw (le-ltb i (corner_count cs) h, stood)
 
-  pub offset_refused : (i : ℕ) (x y : Float) → i < corner_count cs → whole_point x y ≡ Refused → Refused ≡ stood cs (S.Offset i x y)
+  pub offset_refused : (i : ℕ) (x y : Float) → i < corner_count cs → whole_point x y ≡ None → None ≡ stood cs (S.Offset i x y)
   unfolding stood
-  offset_refused i x y h e = rw (lt-ltb i (corner_count cs) h, stood) (ap (λ (s : Spot). offset_by s (corner_at cs i).x (corner_at cs i).y) (sym e))
+  offset_refused i x y h e = rw (lt-ltb i (corner_count cs) h, stood) (ap (λ (s : Option (ℤ × ℤ)). offset_by s (corner_at cs i).x (corner_at cs i).y) (sym e))
 
-  pub offset_stands : (i : ℕ) (x y : Float) {u v a b : ℤ} → i < corner_count cs → whole_point x y ≡ At u v → a ≡ (corner_at cs i).x +ℤ u → b ≡ (corner_at cs i).y +ℤ v → within_limits a b ≡ stood cs (S.Offset i x y)
+  pub offset_stands : (i : ℕ) (x y : Float) {u v a b : ℤ} → i < corner_count cs → whole_point x y ≡ Some (u, v) → a ≡ (corner_at cs i).x +ℤ u → b ≡ (corner_at cs i).y +ℤ v → within_limits a b ≡ stood cs (S.Offset i x y)
   unfolding stood
   offset_stands i x y h e p q =
       rw (lt-ltb i (corner_count cs) h, stood)
-      (ap₂ within_limits p q ∙ sym (ap (λ (s : Spot). offset_by s (corner_at cs i).x (corner_at cs i).y) e))
+      (ap₂ within_limits p q ∙ sym (ap (λ (s : Option (ℤ × ℤ)). offset_by s (corner_at cs i).x (corner_at cs i).y) e))
 
   -- an accepted stand's coordinates are within the limits
-  pub stand_is_near : (s : Stand) {x y : ℤ} → stood cs s ≡ At x y → Near (record { x = x; y = y })
+  pub stand_is_near : (s : Stand) {x y : ℤ} → stood cs s ≡ Some (x, y) → Near (record { x = x; y = y })
   unfolding stood
   stand_is_near (S.Point x y) e = point_is_near x y e
   stand_is_near (S.Offset i x y) e = offset_is_near (ltb i (corner_count cs)) (whole_point x y) e
     where
-      offset_is_near : {u v : ℤ} (b : Bool) (s : Spot) → elim b [ true ↦ offset_by s (corner_at cs i).x (corner_at cs i).y | false ↦ Refused ] ≡ At u v → Near (record { x = u; y = v })
-      offset_is_near true (At a b) p = bounded_is_near ((corner_at cs i).x +ℤ a) ((corner_at cs i).y +ℤ b) p
-      offset_is_near true Refused p = absurd (let z : ◌≡◌ {A = ℕ} 0 1 = cc in omega arith)
+      offset_is_near : {u v : ℤ} (b : Bool) (s : Option (ℤ × ℤ)) → elim b [ true ↦ offset_by s (corner_at cs i).x (corner_at cs i).y | false ↦ None ] ≡ Some (u, v) → Near (record { x = u; y = v })
+      offset_is_near true (Some (a, b)) p = bounded_is_near ((corner_at cs i).x +ℤ a) ((corner_at cs i).y +ℤ b) p
+      offset_is_near true None p = absurd (let z : ◌≡◌ {A = ℕ} 0 1 = cc in omega arith)
       offset_is_near false s p = absurd (let z : ◌≡◌ {A = ℕ} 0 1 = cc in omega arith)

@@ -8,27 +8,26 @@ use Rattle.cells.specs.Lists.{Cells}
 use Rattle.stand.specs.Spot.{stood}
 use Rattle.stand.specs.Find.{located, found}
 use Rattle.stand.specs.declared.spot.Stand.{Stand}
-use Rattle.stand.specs.declared.spot.Spot.TheVariants as S
 use Rattle.stand.specs.declared.locate.Footing.{Footing}
-use Rattle.stand.specs.declared.locate.Found.{Found}
-use Rattle.stand.specs.declared.locate.Found.TheVariants as F
+use Rattle.limits.specs.declared.Refusal.{Refusal}
+use Rattle.std.specs.Prelude.{Ok, Result, Some, Option}
 
-pub find_has_one_reply : (kind : ℕ) (cs : List ℤ) (ts ds : List ℕ) (setting : ℕ) (stand : Stand) {r s : Found} → r ≡ found kind cs ts ds setting stand → s ≡ found kind cs ts ds setting stand → r ≡ s
+pub find_has_one_reply : (kind : ℕ) (cs : List ℤ) (ts ds : List ℕ) (setting : ℕ) (stand : Stand) {r s : Result Footing Refusal} → r ≡ found kind cs ts ds setting stand → s ≡ found kind cs ts ds setting stand → r ≡ s
 find_has_one_reply kind cs ts ds setting stand h k = h ∙ sym k
 
 -- so does every promise that equates a result with a definition of the input, whatever the result is
 pub an_equation_has_one_reply : {A : Type 0} (x : A) {r s : A} → r ≡ x → s ≡ x → r ≡ s
 an_equation_has_one_reply x h k = h ∙ sym k
 
-module _ (cs : List ℤ) (s : Stand) {x y x' y' : ℤ} (at : stood cs s ≡ S.At x y) (at' : stood cs s ≡ S.At x' y') where
+module _ (cs : List ℤ) (s : Stand) {x y x' y' : ℤ} (at : stood cs s ≡ Some (x, y)) (at' : stood cs s ≡ Some (x', y')) where
   pub a_stand_is_one_point : ◌≡◌ {A = Point} (record { x = x; y = y }) (record { x = x'; y = y' })
   a_stand_is_one_point =
-      let same : S.At x y ≡ S.At x' y' = sym at ∙ at' in
+      let same : ◌≡◌ {A = Option (ℤ × ℤ)} (Some (x, y)) (Some (x', y')) = sym at ∙ at' in
       let same_x : x ≡ x' = cc in
       let same_y : y ≡ y' = cc in
       ap₂ (λ (u v : ℤ). record { x = u; y = v }) same_x same_y
 
-  pub a_stand_has_one_place : (T : Cells) (ds : List ℕ) (w : ℕ) {p p' : Footing} → located cs T ds w (record { x = x; y = y }) ≡ F.At p → located cs T ds w (record { x = x'; y = y' }) ≡ F.At p' → p ≡ p'
+  pub a_stand_has_one_place : (T : Cells) (ds : List ℕ) (w : ℕ) {p p' : Footing} → located cs T ds w (record { x = x; y = y }) ≡ Ok p → located cs T ds w (record { x = x'; y = y' }) ≡ Ok p' → p ≡ p'
   a_stand_has_one_place T ds w {p} {p'} there there' =
-      let same : F.At p ≡ F.At p' = sym there ∙ ap (located cs T ds w) a_stand_is_one_point ∙ there' in
+      let same : ◌≡◌ {A = Result Footing Refusal} (Ok p) (Ok p') = sym there ∙ ap (located cs T ds w) a_stand_is_one_point ∙ there' in
       cc

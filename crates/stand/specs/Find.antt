@@ -1,5 +1,5 @@
 -- Finding where the stand is (document 01, "The stand" and "Reply numbers"; document 02, A4 and A14).
-use Rattle.std.specs.Prelude.{Bool, true, false, not, ◌&&◌, List, ℕ, ◌-◌, ltb, length, ℤ, pos}
+use Rattle.std.specs.Prelude.{Bool, true, false, not, ◌&&◌, List, ℕ, ◌-◌, ltb, length, ℤ, pos, Err, None, Ok, Option, Result, Some}
 use Rattle.std.specs.Int.Signed.{lt_z}
 use Rattle.plane.specs.Side.{Point, side}
 use Rattle.plane.specs.Tests.{chosen, is_within}
@@ -11,16 +11,12 @@ use Rattle.cells.specs.Cut.{cells_of}
 use Rattle.cells.specs.Check.{some_face, checked}
 use Rattle.setting.specs.Setting.{ends, wrong_setting}
 use Rattle.limits.specs.declared.Refusal.TheVariants as R
-use Rattle.limits.specs.declared.Checked.{Checked}
-use Rattle.limits.specs.declared.Checked.TheVariants as C
 use Rattle.stand.specs.Spot.{stood}
 use Rattle.stand.specs.declared.spot.Stand.{Stand}
-use Rattle.stand.specs.declared.spot.Spot.{Spot}
-use Rattle.stand.specs.declared.spot.Spot.TheVariants as S
 use Rattle.stand.specs.declared.locate.Footing.{Footing}
 use Rattle.stand.specs.declared.locate.Footing.TheVariants.{Inside as InCell, Side}
-use Rattle.stand.specs.declared.locate.Found.{Found}
-use Rattle.stand.specs.declared.locate.Found.TheVariants.{At, Refused}
+use Rattle.limits.specs.declared.Plan.{Plan}
+use Rattle.limits.specs.declared.Refusal.{Refusal}
 
 -- the side value of face f's two ends and q
 abbrev pub side_value_at : List ℤ → Cells → Point → ℕ → ℤ
@@ -70,30 +66,30 @@ abbrev pub side_at : Cells → ℕ → Footing
 side_at T f = Side (home T f) (f - first T (home T f))
 
 -- by whether some cell holds the stand strictly, whether a free side has it strictly within, and whether some cell has it on its border
-abbrev pub by_places : Bool → Bool → Bool → ℕ → Footing → Found
-by_places true s b c p = At (InCell c)
-by_places false true b c p = At p
-by_places false false true c p = Refused R.Line
-by_places false false false c p = Refused R.Outside
+abbrev pub by_places : Bool → Bool → Bool → ℕ → Footing → Result Footing Refusal
+by_places true s b c p = Ok (InCell c)
+by_places false true b c p = Ok p
+by_places false false true c p = Err R.Line
+by_places false false false c p = Err R.Outside
 
-unfoldable pub located : List ℤ → Cells → List ℕ → ℕ → Point → Found
+unfoldable pub located : List ℤ → Cells → List ℕ → ℕ → Point → Result Footing Refusal
 located cs T ds w q =
     by_places (ltb (first_inside cs T q) (cell_count T)) (ltb (first_within cs T ds w q) (face_count T)) (ltb (first_border cs T q) (cell_count T))
     (first_inside cs T q) (side_at T (first_within cs T ds w q))
 
-abbrev pub with_spot : List ℤ → Cells → List ℕ → ℕ → Spot → Found
-with_spot cs T ds w (S.At x y) = located cs T ds w (record { x = x; y = y })
-with_spot cs T ds w S.Refused = Refused R.Stand
+abbrev pub with_spot : List ℤ → Cells → List ℕ → ℕ → Option (ℤ × ℤ) → Result Footing Refusal
+with_spot cs T ds w (Some (x, y)) = located cs T ds w (record { x = x; y = y })
+with_spot cs T ds w None = Err R.Stand
 
 -- refused where the setting is wrong
-abbrev pub with_setting : Bool → Found → Found
-with_setting true f = Refused R.Setting
+abbrev pub with_setting : Bool → Result Footing Refusal → Result Footing Refusal
+with_setting true f = Err R.Setting
 with_setting false f = f
 
-abbrev pub with_plan : List ℤ → Cells → List ℕ → ℕ → Stand → Checked → Found
-with_plan cs T ds w s (C.Accepted p) = with_setting (wrong_setting w (length ds)) (with_spot cs T ds w (stood cs s))
-with_plan cs T ds w s (C.Refused r) = Refused r
+abbrev pub with_plan : List ℤ → Cells → List ℕ → ℕ → Stand → Result Plan Refusal → Result Footing Refusal
+with_plan cs T ds w s (Ok p) = with_setting (wrong_setting w (length ds)) (with_spot cs T ds w (stood cs s))
+with_plan cs T ds w s (Err r) = Err r
 
 -- on three lists, the cells in a list of kind k, under setting w
-unfoldable pub found : ℕ → List ℤ → List ℕ → List ℕ → ℕ → Stand → Found
+unfoldable pub found : ℕ → List ℤ → List ℕ → List ℕ → ℕ → Stand → Result Footing Refusal
 found k cs ts ds w s = with_plan cs (cells_of k ts) ds w s (checked k cs ts ds)

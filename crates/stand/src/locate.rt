@@ -19,12 +19,6 @@ pub enum Footing {
     Side(usize, usize),
 }
 
-#[derive(Clone, Copy)]
-pub enum Found {
-    At(Footing),
-    Refused(Refusal),
-}
-
 // The corner at which face f starts.
 fn start(corners: &[i32], faces: &[u16], f: usize) -> [i64; 2]
     requires f_in_bounds { f < length faces.now / 2 }
@@ -190,7 +184,7 @@ fn on_side(
     doors: &[u16],
     setting: u64,
     q: [i64; 2],
-) -> Found
+) -> Result<Footing, Refusal>
     requires sound { Sound corners.now (tabled faces.now firsts.now) doors.now × Backed (tabled faces.now firsts.now) backs.now × Boxed corners.now (tabled faces.now firsts.now) boxes.now }
     requires near { Near (point q) }
     ensures { result ≡ by_places false (ltb (first_within corners.now (tabled faces.now firsts.now) doors.now setting (point q)) (face_count (tabled faces.now firsts.now))) true 0 (side_at (tabled faces.now firsts.now) (first_within corners.now (tabled faces.now firsts.now) doors.now setting (point q))) }
@@ -201,11 +195,11 @@ fn on_side(
         let f = doorway_by_box(corners, faces, firsts, backs, boxes, doors, setting, q, c);
         if f < firsts[c + 1] as usize {
             let side = f - firsts[c] as usize;
-            return Found::At(Footing::Side(c, side));
+            return Ok(Footing::Side(c, side));
         }
         c += 1;
     }
-    Found::Refused(Refusal::Line)
+    Err(Refusal::Line)
 }
 
 // Where a stand in whole millimetres is, on a checked plan under its setting.
@@ -218,7 +212,7 @@ pub fn locate(
     doors: &[u16],
     setting: u64,
     q: [i64; 2],
-) -> Found
+) -> Result<Footing, Refusal>
     requires sound { Sound corners.now (tabled faces.now firsts.now) doors.now × Backed (tabled faces.now firsts.now) backs.now × Boxed corners.now (tabled faces.now firsts.now) boxes.now }
     requires near { Near (point q) }
     ensures { result ≡ located corners.now (tabled faces.now firsts.now) doors.now setting (point q) }
@@ -229,7 +223,7 @@ pub fn locate(
     while c < m {
         match containment_by_box(corners, faces, firsts, boxes, q, c) {
             Containment::Inside => {
-                return Found::At(Footing::Inside(c));
+                return Ok(Footing::Inside(c));
             }
             Containment::Border => {
                 on_border = true;
@@ -242,5 +236,5 @@ pub fn locate(
         return on_side(corners, faces, firsts, backs, boxes, doors, setting, q);
     }
     // a side that the stand is strictly within has it on its cell's border
-    Found::Refused(Refusal::Outside)
+    Err(Refusal::Outside)
 }

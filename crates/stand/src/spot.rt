@@ -6,7 +6,7 @@ ghost use Rattle.stand.specs.Spot.{whole_point, within_limits, stood};
 
 use cells::corner;
 use limits::Plan;
-use number::{Millimetres, whole_millimetres};
+use number::whole_millimetres;
 
 // A stand is a point, or an offset from a corner, each with two doubles in millimetres.
 #[derive(Clone, Copy)]
@@ -15,55 +15,42 @@ pub enum Stand {
     Offset(u16, f64, f64),
 }
 
-// Where a stand is, or nothing that is accepted.
-#[derive(Clone, Copy)]
-pub enum Spot {
-    At(i64, i64),
-    Refused,
-}
-
-fn whole_spot(x: f64, y: f64) -> Spot
+fn whole_spot(x: f64, y: f64) -> Option<(i64, i64)>
     ensures { result ≡ whole_point x y }
 {
-    let Millimetres::Whole(u) = whole_millimetres(x) else {
-        return Spot::Refused;
-    };
-    let Millimetres::Whole(v) = whole_millimetres(y) else {
-        return Spot::Refused;
-    };
-    Spot::At(u, v)
+    let u = whole_millimetres(x)?;
+    let v = whole_millimetres(y)?;
+    Some((u, v))
 }
 
 // The sums of an offset must lie within the limits too.
-fn bounded(x: i64, y: i64) -> Spot
+fn bounded(x: i64, y: i64) -> Option<(i64, i64)>
     ensures { result ≡ within_limits x y }
 {
     let limit = Plan::COORDINATE as i64;
     if x < -limit {
-        return Spot::Refused;
+        return None;
     }
     if limit < x {
-        return Spot::Refused;
+        return None;
     }
     if y < -limit {
-        return Spot::Refused;
+        return None;
     }
     if limit < y {
-        return Spot::Refused;
+        return None;
     }
-    Spot::At(x, y)
+    Some((x, y))
 }
 
-fn offset_spot(corners: &[i32], i: usize, dx: f64, dy: f64) -> Spot
+fn offset_spot(corners: &[i32], i: usize, dx: f64, dy: f64) -> Option<(i64, i64)>
     requires { CornersNear corners.now }
     ensures { result ≡ stood corners.now (Offset i dx dy) }
 {
     if corners.len() / 2 <= i {
-        return Spot::Refused;
+        return None;
     }
-    let Spot::At(u, v) = whole_spot(dx, dy) else {
-        return Spot::Refused;
-    };
+    let (u, v) = whole_spot(dx, dy)?;
     let from = corner::at(corners, i);
     let x = from[0] + u;
     let y = from[1] + v;
@@ -71,7 +58,7 @@ fn offset_spot(corners: &[i32], i: usize, dx: f64, dy: f64) -> Spot
 }
 
 // The stand in whole millimetres, on a plan whose corners were checked.
-pub fn stand_spot(corners: &[i32], stand: Stand) -> Spot
+pub fn stand_spot(corners: &[i32], stand: Stand) -> Option<(i64, i64)>
     requires { CornersNear corners.now }
     ensures { result ≡ stood corners.now stand }
 {

@@ -14,42 +14,40 @@ use lib.ListN.{length, get_or}
 use Rattle.limits.specs.Limits.{most_corners}
 use Rattle.number.proofs.Examples.{minus_zero_reads_as_zero}
 use Rattle.number.specs.Whole.{whole}
-use Rattle.number.specs.declared.Millimetres.{Millimetres}
-use Rattle.number.specs.declared.Millimetres.TheVariants as M
 use Rattle.cells.specs.Lists.{corner_count}
 use Rattle.stand.proofs.Spots.{no_such_corner}
 use Rattle.stand.specs.Spot.{stood}
-use Rattle.stand.specs.declared.spot.Spot.TheVariants.{Refused}
 use Rattle.stand.specs.declared.spot.Stand.{Stand}
 use Rattle.stand.specs.declared.spot.Stand.TheVariants.{Point, Offset}
 use Rattle.stands.specs.Numbered.{no_corner, by_number, stand_of, stands_of}
+use Rattle.std.specs.Prelude.{None, Option, Some}
 
 -- ---- the first number
 
 module _ (c x y : Float) where
-  pub a_point_is_a_point : whole c ≡ M.Whole (negsuc 0) → stand_of c x y ≡ Point x y
+  pub a_point_is_a_point : whole c ≡ Some (negsuc 0) → stand_of c x y ≡ Point x y
   unfolding stand_of
-  a_point_is_a_point e = ap (λ (m : Millimetres). by_number m x y) e
+  a_point_is_a_point e = ap (λ (m : Option ℤ). by_number m x y) e
 
-  pub a_corner_is_an_offset : (u : ℕ) → u ≤ 65535 → whole c ≡ M.Whole (pos u) → stand_of c x y ≡ Offset u x y
+  pub a_corner_is_an_offset : (u : ℕ) → u ≤ 65535 → whole c ≡ Some (pos u) → stand_of c x y ≡ Offset u x y
   unfolding stand_of
-  a_corner_is_an_offset u h e = ap (λ (m : Millimetres). by_number m x y) e ∙ rw (le-leb u 65535 h, by_number)
+  a_corner_is_an_offset u h e = ap (λ (m : Option ℤ). by_number m x y) e ∙ rw (le-leb u 65535 h, by_number)
 
   -- no plan has the corner for a first number of any other kind, so the stand is refused
-  pub no_corner_is_refused : (cs : List ℤ) → corner_count cs ≤ most_corners → whole c ≢ M.Whole (negsuc 0)
-      → ((u : ℕ) → u ≤ 65535 → whole c ≢ M.Whole (pos u)) → stood cs (stand_of c x y) ≡ Refused
+  pub no_corner_is_refused : (cs : List ℤ) → corner_count cs ≤ most_corners → whole c ≢ Some (negsuc 0)
+      → ((u : ℕ) → u ≤ 65535 → whole c ≢ Some (pos u)) → stood cs (stand_of c x y) ≡ None
   unfolding stand_of
   no_corner_is_refused cs h p o = ap (stood cs) (by_cases (whole c) refl) ∙ sym (no_such_corner cs no_corner x y (omega arith))
     where
-      by_cases : (m : Millimetres) → whole c ≡ m → by_number m x y ≡ Offset no_corner x y
-      by_cases (M.Whole (pos u)) e = by_test (leb u 65535) refl
+      by_cases : (m : Option ℤ) → whole c ≡ m → by_number m x y ≡ Offset no_corner x y
+      by_cases (Some (pos u)) e = by_test (leb u 65535) refl
         where
           by_test : (t : Bool) → leb u 65535 ≡ t → elim t [ true ↦ Offset u x y | false ↦ Offset no_corner x y ] ≡ Offset no_corner x y
           by_test true h = absurd (o u (leb-true u 65535 h) e)
           by_test false h = refl
-      by_cases (M.Whole (negsuc zero)) e = absurd (p e)
-      by_cases (M.Whole (negsuc (suc n))) e = refl
-      by_cases M.Refused e = refl
+      by_cases (Some (negsuc zero)) e = absurd (p e)
+      by_cases (Some (negsuc (suc n))) e = refl
+      by_cases None e = refl
 
 pub minus_zero_is_corner_zero : (x y : Float) → stand_of (of_bits binary64 0x8000_0000_0000_0000) x y ≡ Offset 0 x y
 minus_zero_is_corner_zero x y = a_corner_is_an_offset (of_bits binary64 0x8000_0000_0000_0000) x y 0 (omega arith) minus_zero_reads_as_zero

@@ -6,7 +6,7 @@ ghost use Rattle.limits.specs.Limits.{most_stands};
 ghost use Rattle.stands.specs.Numbered.{stand_of, stands_of};
 
 use limits::Plan;
-use number::{Millimetres, whole_millimetres};
+use number::whole_millimetres;
 use stand::spot::Stand;
 
 // The corner that no plan has, for a first number that names none: the stand is then refused.
@@ -15,7 +15,7 @@ const NO_CORNER: u16 = 65535;
 fn stand_of(corner: f64, x: f64, y: f64) -> Stand
     ensures { result ≡ stand_of corner x y }
 {
-    let Millimetres::Whole(u) = whole_millimetres(corner) else {
+    let Some(u) = whole_millimetres(corner) else {
         return Stand::Offset(NO_CORNER, x, y);
     };
     if u == -1 {

@@ -1,5 +1,5 @@
 -- Drawing on the tablet (document 02, A2): the listing's counts, and its corners as pairs of single-precision offsets from the stand.
-use Rattle.std.specs.Prelude.{Bool, false, ◌||◌, List, [], ◌∷◌, ◌++◌, ℕ, zero, suc, ◌+◌, ◌<◌, ltb, ℤ, nat_abs, Float}
+use Rattle.std.specs.Prelude.{Bool, false, ◌||◌, List, [], ◌∷◌, ◌++◌, ℕ, zero, suc, ◌+◌, ◌<◌, ltb, ℤ, nat_abs, Float, Err, Ok, Result}
 use Rattle.std.proofs.lemmas.List.Edits.{sets}
 use Rattle.std.specs.Float.{binary32}
 use Rattle.std.specs.Float.Ieee.{of_int}
@@ -14,11 +14,10 @@ use Rattle.fan.specs.Sight.{Row}
 use Rattle.fan.specs.Written.{row_at}
 use Rattle.sight.specs.Listing.{seen, viewed, refuse, no_room, listing_rows, listing_row_count, listing_crossings}
 use Rattle.sight.specs.declared.view.Query.{Query}
-use Rattle.sight.specs.declared.view.View.{View}
-use Rattle.sight.specs.declared.view.View.TheVariants as O
-use Rattle.sight.specs.declared.list.Listed.{Listed}
-use Rattle.sight.specs.declared.list.Listed.TheVariants as L
 use Rattle.tablet.specs.declared.offset.Offset.{Offset}
+use Rattle.sight.specs.declared.list.Counts.{Counts}
+use Rattle.limits.specs.declared.Refusal.{Refusal}
+use Rattle.sight.specs.declared.view.View.{View}
 
 -- a corner's offset from the stand: the float of each whole-millimetre difference
 abbrev pub offset : Point → Offset
@@ -48,21 +47,21 @@ offsets_of cs q [] = []
 offsets_of cs q (r ∷ rs) = row_offsets cs q r ++ offsets_of cs q rs
 
 -- the listing's counts, and the offsets of its rows from the beginning of the lent list on; beyond them it keeps its values
-abbrev pub offsets_from : List ℤ → Cells → List ℕ → ℕ → ℕ → List Float → Point → Footing → Listed × List Float
+abbrev pub offsets_from : List ℤ → Cells → List ℕ → ℕ → ℕ → List Float → Point → Footing → Result Counts Refusal × List Float
 offsets_from cs T ds w R lent q p =
-    (L.Rows (listing_row_count cs T ds w R q p) (listing_crossings cs T ds w R q p), sets lent 0 (offsets_of cs q (listing_rows cs T ds w R q p)))
+    (Ok (record { rows = listing_row_count cs T ds w R q p; crossings = listing_crossings cs T ds w R q p }), sets lent 0 (offsets_of cs q (listing_rows cs T ds w R q p)))
 
 -- 11 goes before 14
-abbrev pub drawn_at : List ℤ → Cells → List ℕ → ℕ → ℕ → List Float → Point → Footing → Listed × List Float
+abbrev pub drawn_at : List ℤ → Cells → List ℕ → ℕ → ℕ → List Float → Point → Footing → Result Counts Refusal × List Float
 drawn_at cs T ds w R lent q p =
     refuse (no_room cs lent) No.Room lent (refuse (any_far cs q (listing_rows cs T ds w R q p)) No.Far lent (offsets_from cs T ds w R lent q p))
 
-abbrev pub drawn_from : List ℤ → Cells → List ℕ → ℕ → ℕ → List Float → View → Listed × List Float
-drawn_from cs T ds w R lent (O.From x y p) = drawn_at cs T ds w R lent (record { x = x; y = y }) p
-drawn_from cs T ds w R lent (O.Refused r) = (L.Refused r, lent)
+abbrev pub drawn_from : List ℤ → Cells → List ℕ → ℕ → ℕ → List Float → Result View Refusal → Result Counts Refusal × List Float
+drawn_from cs T ds w R lent (Ok v) = drawn_at cs T ds w R lent (record { x = v.x; y = v.y }) v.footing
+drawn_from cs T ds w R lent (Err r) = (Err r, lent)
 
 -- the drawing: plan, query and lent list
-unfoldable pub drawn : ℕ → List ℤ → List ℕ → List ℕ → Query → List Float → Listed × List Float
+unfoldable pub drawn : ℕ → List ℤ → List ℕ → List ℕ → Query → List Float → Result Counts Refusal × List Float
 drawn k cs ts ds a lent = drawn_from cs (cells_of k ts) ds a.setting (range a.reach) lent (viewed k cs ts ds a)
 
 -- ---- what the code is given: a table of rows

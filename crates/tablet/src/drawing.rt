@@ -9,10 +9,9 @@ ghost use Rattle.tablet.specs.Drawing.{row_far, any_far, row_offsets, offsets_of
 
 use crate::offset::{is_far, offset_of};
 use limits::{Plan, Refusal};
-use sight::ceiling::Ceiling;
-use sight::list::{Listed, list};
+use sight::list::{Counts, list};
 use sight::view::Query;
-use stand::spot::{Spot, stand_spot};
+use stand::spot::stand_spot;
 
 // Does row i name a corner that is too far?
 fn is_row_far(corners: &[i32], table: &[u16], q: [i64; 2], i: usize) -> bool
@@ -82,34 +81,19 @@ pub fn draw(
     kind: u16,
     query: Query,
     offsets: &mut [f32],
-) -> Listed
+) -> Result<Counts, Refusal>
     ensures { (result, offsets.new) ≡ drawn kind corners.now cells.now doors.now query offsets.old }
 {
     let mut table = [0u16; 4 * Plan::MOST_CORNERS];
-    match list(
-        corners,
-        cells,
-        doors,
-        kind,
-        query,
-        Ceiling::NotStated,
-        &mut table,
-    ) {
-        Listed::Refused(r) => Listed::Refused(r),
-        Listed::Rows(n, k) => {
-            if offsets.len() < 4 * (corners.len() / 2) {
-                return Listed::Refused(Refusal::Room);
-            }
-            let stand = query.stand;
-            let Spot::At(x, y) = stand_spot(corners, stand) else {
-                return Listed::Refused(Refusal::Stand);
-            };
-            let q = [x, y];
-            if is_any_far(corners, &table, q, n) {
-                return Listed::Refused(Refusal::Far);
-            }
-            draw_rows(corners, &table, q, offsets, n);
-            Listed::Rows(n, k)
-        }
+    let counts = list(corners, cells, doors, kind, query, None, &mut table)?;
+    if offsets.len() < 4 * (corners.len() / 2) {
+        return Err(Refusal::Room);
     }
+    let (x, y) = stand_spot(corners, query.stand).ok_or(Refusal::Stand)?;
+    let q = [x, y];
+    if is_any_far(corners, &table, q, counts.rows) {
+        return Err(Refusal::Far);
+    }
+    draw_rows(corners, &table, q, offsets, counts.rows);
+    Ok(counts)
 }

@@ -1,12 +1,11 @@
 -- `exports::manopluea_list_point` meets its contract.
 use mathlib.Core.Path.{ap₂, ◌∙◌}
-use Rattle.reach.specs.declared.Reach.{Reach}
-use Rattle.sight.specs.declared.ceiling.Ceiling.{Ceiling}
 use Rattle.stand.specs.declared.spot.Stand.TheVariants.{Point}
 use Rattle.manopluea.specs.Calls.{list_replies}
 use Rattle.exports.specs.Reply.{ceiling_of, query, list_left}
 use Rattle.exports.proofs.Replies.{none_left, all_left}
 use Rattle.exports.proofs.manopluea_list_point.Goals as goal
+use Rattle.std.specs.Prelude.{Option, ℕ}
 
 pub returns-then-reply-lt7 : goal.returns-then-reply-lt7
 unfolding list_left
@@ -16,5 +15,5 @@ pub returns : goal.returns
 unfolding list_left
 returns c = all_left c.args.table.now c.args.reply.now c.if-reply-lt7.false
     (c.list-answer.ensures.numbers
-    ∙ ap₂ (λ (r : Reach) (l : Ceiling). list_replies c.args.kind c.args.corners.now c.args.cells.now c.args.doors.now (record { setting = c.args.setting; stand = Point c.args.x c.args.y; reach = r }) l c.args.table.now) c.reach_of.ensures c.ceiling_of.ensures)
+    ∙ ap₂ (λ (r : Option ℕ) (l : Option ℕ). list_replies c.args.kind c.args.corners.now c.args.cells.now c.args.doors.now (record { setting = c.args.setting; stand = Point c.args.x c.args.y; reach = r }) l c.args.table.now) c.reach_of.ensures c.ceiling_of.ensures)
     c.put_listed.ensures

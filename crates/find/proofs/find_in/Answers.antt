@@ -10,20 +10,20 @@ check_into-requires c = record { cells_value = c.requires.cells_value.0; doors_v
 
 pub is_wrong-requires : goal.is_wrong-requires
 is_wrong-requires c = let a = c.args in
-    doors_read a.kind a.corners.now a.cells.now a.doors.now c.check_into.ensures.value c.in-Accepted.is
+    doors_read a.kind a.corners.now a.cells.now a.doors.now c.check_into.ensures.value c.in-Ok.is
 
 pub returns-then-is_wrong : goal.returns-then-is_wrong
 returns-then-is_wrong c = let a = c.args in
-    setting_refused a.kind a.corners.now a.cells.now a.doors.now a.setting a.stand c.check_into.ensures.value c.in-Accepted.is c.is_wrong.ensures c.if-is_wrong.true
+    setting_refused a.kind a.corners.now a.cells.now a.doors.now a.setting a.stand c.check_into.ensures.value c.in-Ok.is c.is_wrong.ensures c.if-is_wrong.true
 
 pub find_stand-requires : goal.find_stand-requires
 find_stand-requires c = let a = c.args in
-    plan_read a.kind a.corners.now a.cells.now a.doors.now c.check_into.ensures.value c.in-Accepted.is (drawn_cells a.kind a.cells.now c.check_into.ensures.faces_after c.check_into.ensures.firsts_after) _ _ c.check_into.ensures.backed
+    plan_read a.kind a.corners.now a.cells.now a.doors.now c.check_into.ensures.value c.in-Ok.is (drawn_cells a.kind a.cells.now c.check_into.ensures.faces_after c.check_into.ensures.firsts_after) _ _ c.check_into.ensures.backed
 
-pub returns-in-Refused : goal.returns-in-Refused
-returns-in-Refused c = let a = c.args in
-    plan_refused a.kind a.corners.now a.cells.now a.doors.now a.setting a.stand c.check_into.ensures.value c.in-Refused.is
+pub returns-in-Err : goal.returns-in-Err
+returns-in-Err c = let a = c.args in
+    plan_refused a.kind a.corners.now a.cells.now a.doors.now a.setting a.stand c.check_into.ensures.value c.in-Err.is
 
 pub returns-else-is_wrong : goal.returns-else-is_wrong
 returns-else-is_wrong c = let a = c.args in
-    setting_accepted a.kind a.corners.now a.cells.now a.doors.now a.setting a.stand c.check_into.ensures.value c.in-Accepted.is c.is_wrong.ensures c.if-is_wrong.false (drawn_cells a.kind a.cells.now c.check_into.ensures.faces_after c.check_into.ensures.firsts_after) c.find_stand.ensures
+    setting_accepted a.kind a.corners.now a.cells.now a.doors.now a.setting a.stand c.check_into.ensures.value c.in-Ok.is c.is_wrong.ensures c.if-is_wrong.false (drawn_cells a.kind a.cells.now c.check_into.ensures.faces_after c.check_into.ensures.firsts_after) c.find_stand.ensures

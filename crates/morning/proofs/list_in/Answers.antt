@@ -12,12 +12,12 @@ asked_in-requires c = record { cells_value = c.requires.cells_value; count_le_mo
 
 pub list_each-counts-requires : goal.list_each-counts-requires
 list_each-counts-requires c = let drawn = drawn_cells c.args.kind c.args.cells.now c.asked_in.ensures.faces_after c.asked_in.ensures.firsts_after in
-    let granted = grants c.args.kind c.args.corners.now c.args.cells.now c.args.doors.now c.asked_in.ensures.value c.in-Accepted.is in
+    let granted = grants c.args.kind c.args.corners.now c.args.cells.now c.args.doors.now c.asked_in.ensures.value c.in-Ok.is in
     let sound = sound_on_the_tables c.args.kind c.args.corners.now c.args.cells.now c.args.doors.now c.args.morning c.args.stands c.args.table.now c.args.replies.now drawn granted in
     record { sound = noted_boxes c.args.kind c.args.corners.now c.args.cells.now c.args.doors.now _ _ drawn c.asked_in.ensures.backed sound; room_for = room_for_all c.args.kind c.args.corners.now c.args.cells.now c.args.doors.now c.args.morning c.args.stands c.args.table.now c.args.replies.now drawn granted; lines_len = (room_for_lines c.args.kind c.args.cells.now drawn c.requires.lines_len.0, c.requires.lines_len.1) }
 
-pub returns-in-Refused : goal.returns-in-Refused
-returns-in-Refused c = call_refused c.args.kind c.args.corners.now c.args.cells.now c.args.doors.now c.args.morning c.args.stands c.args.table.now c.args.replies.now (sym c.asked_in.ensures.value ∙ c.in-Refused.is)
+pub returns-in-Err : goal.returns-in-Err
+returns-in-Err c = call_refused c.args.kind c.args.corners.now c.args.cells.now c.args.doors.now c.args.morning c.args.stands c.args.table.now c.args.replies.now (sym c.asked_in.ensures.value ∙ c.in-Err.is)
 
-pub returns-in-Accepted : goal.returns-in-Accepted
-returns-in-Accepted c = call_done c.args.kind c.args.corners.now c.args.cells.now c.args.doors.now c.args.morning c.args.stands c.args.table.now c.args.replies.now (drawn_cells c.args.kind c.args.cells.now c.asked_in.ensures.faces_after c.asked_in.ensures.firsts_after) (grants c.args.kind c.args.corners.now c.args.cells.now c.args.doors.now c.asked_in.ensures.value c.in-Accepted.is) (c.list_each-counts.ensures.rows_value, (c.list_each-counts.ensures.crossings_value, (c.list_each-counts.ensures.table_after, c.list_each-counts.ensures.replies_after)))
+pub returns-in-Ok : goal.returns-in-Ok
+returns-in-Ok c = call_done c.args.kind c.args.corners.now c.args.cells.now c.args.doors.now c.args.morning c.args.stands c.args.table.now c.args.replies.now (drawn_cells c.args.kind c.args.cells.now c.asked_in.ensures.faces_after c.asked_in.ensures.firsts_after) (grants c.args.kind c.args.corners.now c.args.cells.now c.args.doors.now c.asked_in.ensures.value c.in-Ok.is) (c.list_each-counts.ensures.rows_value, (c.list_each-counts.ensures.crossings_value, (c.list_each-counts.ensures.table_after, c.list_each-counts.ensures.replies_after)))

@@ -4,14 +4,14 @@ use Rattle.morning.proofs.OverLines.{corners_seen_asked, stand_refused, lines_as
 use Rattle.morning.proofs.list_one.Goals as goal
 
 pub see-requires : goal.see-requires
-see-requires c = record { corners_near = corners_seen_asked c.requires.sound.0 c.args.setting c.args.reach c.args.stand (sym c.view_of_stand.ensures ∙ c.in-From.is); seen_len = c.requires.seen_len }
+see-requires c = record { corners_near = corners_seen_asked c.requires.sound.0 c.args.setting c.args.reach c.args.stand (sym c.view_of_stand.ensures ∙ c.in-Ok.is); seen_len = c.requires.seen_len }
 
 pub list_up_to-requires : goal.list_up_to-requires
-list_up_to-requires c = let parts = lines_asked c.requires.sound.0 c.args.setting c.args.reach c.args.stand (sym c.view_of_stand.ensures ∙ c.in-From.is) c.range-range.ensures c.requires.lined c.see.ensures c.args.table.now c.requires.corners_in_bounds in
+list_up_to-requires c = let parts = lines_asked c.requires.sound.0 c.args.setting c.args.reach c.args.stand (sym c.view_of_stand.ensures ∙ c.in-Ok.is) c.range-range.ensures c.requires.lined c.see.ensures c.args.table.now c.requires.corners_in_bounds in
     record { lines = parts.0; stands_in = parts.1.0; whole = parts.1.1.0; p_in_bounds = parts.1.1.1.0; p_bound = parts.1.1.1.1 }
 
-pub returns-in-Refused : goal.returns-in-Refused
-returns-in-Refused c = stand_refused _ _ _ c.args.setting c.args.reach c.args.ceiling c.args.stand c.args.table.now (sym c.view_of_stand.ensures ∙ c.in-Refused.is)
+pub returns-in-Err : goal.returns-in-Err
+returns-in-Err c = stand_refused _ _ _ c.args.setting c.args.reach c.args.ceiling c.args.stand c.args.table.now (sym c.view_of_stand.ensures ∙ c.in-Err.is)
 
-pub returns-in-From : goal.returns-in-From
-returns-in-From c = stand_listed c.requires.sound.0 c.args.setting c.args.reach c.args.stand (sym c.view_of_stand.ensures ∙ c.in-From.is) c.range-range.ensures c.requires.lined c.see.ensures c.args.table.now c.requires.corners_in_bounds c.args.ceiling c.list_up_to.ensures
+pub returns-in-Ok : goal.returns-in-Ok
+returns-in-Ok c = stand_listed c.requires.sound.0 c.args.setting c.args.reach c.args.stand (sym c.view_of_stand.ensures ∙ c.in-Ok.is) c.range-range.ensures c.requires.lined c.see.ensures c.args.table.now c.requires.corners_in_bounds c.args.ceiling c.list_up_to.ensures

@@ -8,15 +8,15 @@ list_one-requires c = record { sound = c.requires.sound; lined = c.requires.line
 pub put-requires : goal.put-requires
 put-requires c = c.requires.corners_in_bounds.1
 
-pub put-requires-in-Rows : goal.put-requires-in-Rows
-put-requires-in-Rows c = c.requires.corners_in_bounds.1
+pub put-requires-in-Ok : goal.put-requires-in-Ok
+put-requires-in-Ok c = c.requires.corners_in_bounds.1
 
-pub returns-in-Refused : goal.returns-in-Refused
-returns-in-Refused c =
-    let left = refusal_left c.args.at c.args.replies.now c.list_one.ensures c.in-Refused.is c.number.ensures c.put.ensures in
+pub returns-in-Err : goal.returns-in-Err
+returns-in-Err c =
+    let left = refusal_left c.args.at c.args.replies.now c.list_one.ensures c.in-Err.is c.number.ensures c.put.ensures in
     record { rows_value = left.0; crossings_value = left.1.0; table_after = left.1.1.0; replies_after = left.1.1.1 }
 
-pub returns-in-Rows : goal.returns-in-Rows
-returns-in-Rows c =
-    let left = rows_left c.args.at c.args.replies.now c.list_one.ensures c.in-Rows.is c.put-in-Rows.ensures in
+pub returns-in-Ok : goal.returns-in-Ok
+returns-in-Ok c =
+    let left = rows_left c.args.at c.args.replies.now c.list_one.ensures c.in-Ok.is c.put-in-Ok.ensures in
     record { rows_value = left.0; crossings_value = left.1.0; table_after = left.1.1.0; replies_after = left.1.1.1 }

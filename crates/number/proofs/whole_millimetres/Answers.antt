@@ -3,11 +3,11 @@ use Rattle.std.proofs.Common.{◌≡◌, Bool, true, ◌&&◌, sym, refl, ap, �
 use lib.Ieee.{Float}
 use Rattle.exact.proofs.Bounds.{handed}
 use Rattle.number.specs.Whole.{is_finite, is_whole, is_within, integer, accepted, whole}
-use Rattle.number.specs.declared.Millimetres.TheVariants.{Whole}
 use Rattle.number.proofs.Limits.{within_is_far_below}
 use Rattle.number.proofs.Back.{truncated_is_its_integer, small_in_range}
 use Rattle.number.proofs.whole_millimetres.Goals as goal
 use Rattle.number.proofs.whole_millimetres.Goals.{Else-not-is_finite, Else-not-is_whole, Else-not-is_within}
+use Rattle.std.specs.Prelude.{Some}
 
 -- ---- the tests
 finite : (c : Else-not-is_finite) → is_finite c.args.x ≡ true
@@ -53,5 +53,5 @@ returns c = let x = c.args.x in
     let number : to_z w64 (of_z w64 c.truncating_f64_to_i64.result) ≡ integer x =
     handed w64 c.truncating_f64_to_i64.type_inv c.truncating_f64_to_i64.ensures
     ∙ truncated_is_its_integer x (within_is_far_below x inside) in
-    ap Whole number
+    ap Some number
     ∙ answered x (finite before.Else-not-is_finite) (a_whole_number before.Else-not-is_whole) inside

@@ -7,17 +7,17 @@ returns-in_default c = let parts = not_accepted c.check-checked.ensures c.args.c
     record { value = parts.0; doors_after = parts.1 }
 
 pub returns-then-corners-cs : goal.returns-then-corners-cs
-returns-then-corners-cs c = let parts = no_room_for_corners c.check-checked.ensures c.args.cs.now c.args.ts.now c.args.ds.now c.args.corners.now c.args.cells.now c.args.doors.now c.in-Accepted.is c.if-corners-cs.true in
+returns-then-corners-cs c = let parts = no_room_for_corners c.check-checked.ensures c.args.cs.now c.args.ts.now c.args.ds.now c.args.corners.now c.args.cells.now c.args.doors.now c.in-Ok.is c.if-corners-cs.true in
     record { value = parts.0; doors_after = parts.1 }
 
 pub returns-then-cells-ts : goal.returns-then-cells-ts
-returns-then-cells-ts c = let parts = no_room_for_cells c.check-checked.ensures c.args.cs.now c.args.ts.now c.args.ds.now c.args.corners.now c.args.cells.now c.args.doors.now c.in-Accepted.is c.if-corners-cs.false c.if-cells-ts.true in
+returns-then-cells-ts c = let parts = no_room_for_cells c.check-checked.ensures c.args.cs.now c.args.ts.now c.args.ds.now c.args.corners.now c.args.cells.now c.args.doors.now c.in-Ok.is c.if-corners-cs.false c.if-cells-ts.true in
     record { value = parts.0; doors_after = parts.1 }
 
 pub returns-then-doors-ds : goal.returns-then-doors-ds
-returns-then-doors-ds c = let parts = no_room_for_doors c.check-checked.ensures c.args.cs.now c.args.ts.now c.args.ds.now c.args.corners.now c.args.cells.now c.args.doors.now c.in-Accepted.is c.if-corners-cs.false c.if-cells-ts.false c.if-doors-ds.true in
+returns-then-doors-ds c = let parts = no_room_for_doors c.check-checked.ensures c.args.cs.now c.args.ts.now c.args.ds.now c.args.corners.now c.args.cells.now c.args.doors.now c.in-Ok.is c.if-corners-cs.false c.if-cells-ts.false c.if-doors-ds.true in
     record { value = parts.0; doors_after = parts.1 }
 
 pub returns : goal.returns
-returns c = let parts = all_handed c.check-checked.ensures c.args.cs.now c.args.ts.now c.args.ds.now c.args.corners.now c.args.cells.now c.args.doors.now c.in-Accepted.is c.if-corners-cs.false c.if-cells-ts.false c.if-doors-ds.false c.copy_corners.ensures c.copy_numbers.ensures c.copy_numbers-2.ensures in
+returns c = let parts = all_handed c.check-checked.ensures c.args.cs.now c.args.ts.now c.args.ds.now c.args.corners.now c.args.cells.now c.args.doors.now c.in-Ok.is c.if-corners-cs.false c.if-cells-ts.false c.if-doors-ds.false c.copy_corners.ensures c.copy_numbers.ensures c.copy_numbers-2.ensures in
     record { value = parts.0; doors_after = parts.1 }

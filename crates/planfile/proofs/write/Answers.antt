@@ -9,17 +9,17 @@ pub returns-in_default : goal.returns-in_default
 returns-in_default c = not_accepted c.args.kind c.args.corners.now c.args.cells.now c.args.doors.now c.args.file.now c.check-reply.ensures c.in_default.is
 
 pub overflow_add-third-2 : goal.overflow_add-third-2
-overflow_add-third-2 c = omega (arith, small c.args.kind c.args.corners.now c.args.cells.now c.args.doors.now (sym c.check-reply.ensures ∙ c.in-Accepted.is))
+overflow_add-third-2 c = omega (arith, small c.args.kind c.args.corners.now c.args.cells.now c.args.doors.now (sym c.check-reply.ensures ∙ c.in-Ok.is))
 
 pub overflow_add-end : goal.overflow_add-end
-overflow_add-end c = omega (arith, small c.args.kind c.args.corners.now c.args.cells.now c.args.doors.now (sym c.check-reply.ensures ∙ c.in-Accepted.is))
+overflow_add-end c = omega (arith, small c.args.kind c.args.corners.now c.args.cells.now c.args.doors.now (sym c.check-reply.ensures ∙ c.in-Ok.is))
 
 pub overflow_add-end-2 : goal.overflow_add-end-2
-overflow_add-end-2 c = omega (arith, small c.args.kind c.args.corners.now c.args.cells.now c.args.doors.now (sym c.check-reply.ensures ∙ c.in-Accepted.is))
+overflow_add-end-2 c = omega (arith, small c.args.kind c.args.corners.now c.args.cells.now c.args.doors.now (sym c.check-reply.ensures ∙ c.in-Ok.is))
 
 pub returns-then-file-end : goal.returns-then-file-end
-returns-then-file-end c = no_room c.args.kind c.args.corners.now c.args.cells.now c.args.doors.now c.args.file.now c.check-reply.ensures c.in-Accepted.is (omega (arith, length_file c.args.kind c.args.corners.now c.args.cells.now c.args.doors.now)) c.if-file-end.true
+returns-then-file-end c = no_room c.args.kind c.args.corners.now c.args.cells.now c.args.doors.now c.args.file.now c.check-reply.ensures c.in-Ok.is (omega (arith, length_file c.args.kind c.args.corners.now c.args.cells.now c.args.doors.now)) c.if-file-end.true
 
 pub returns : goal.returns
-returns c = all_written c.args.kind c.args.corners.now c.args.cells.now c.args.doors.now c.args.file.now c.check-reply.ensures c.in-Accepted.is (omega (arith, length_file c.args.kind c.args.corners.now c.args.cells.now c.args.doors.now)) c.if-file-end.false
+returns c = all_written c.args.kind c.args.corners.now c.args.cells.now c.args.doors.now c.args.file.now c.check-reply.ensures c.in-Ok.is (omega (arith, length_file c.args.kind c.args.corners.now c.args.cells.now c.args.doors.now)) c.if-file-end.false
     (records_put c.args.kind c.args.corners.now c.args.cells.now c.args.doors.now c.args.file.now refl refl c.put_corners.ensures c.put_numbers.ensures c.put_numbers-2.ensures)

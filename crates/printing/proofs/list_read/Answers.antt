@@ -10,13 +10,13 @@ use Rattle.printing.proofs.list_read.Goals as goal
 use Rattle.printing.proofs.list_read.Goals.{In-Accepted}
 
 -- what is known of the lists that were read
-few : (c : In-Accepted) → 2 * c.in-Accepted.plan.corners ≤ 2 * most_corners
+few : (c : In-Accepted) → 2 * c.in-Ok.plan.corners ≤ 2 * most_corners
 few c =
-    let lists = long c.args.file.now c.args.corners.now c.args.cells.now c.args.doors.now c.requires c.read.ensures.answer c.in-Accepted.is in
+    let lists = long c.args.file.now c.args.corners.now c.args.cells.now c.args.doors.now c.requires c.read.ensures.answer c.in-Ok.is in
     lists.few_corners
 
-fit : (c : In-Accepted) → (2 * c.in-Accepted.plan.corners ≤ length c.read.new.corners) × ((c.in-Accepted.m ≤ length c.read.new.cells) × (c.in-Accepted.plan.doors ≤ length c.read.new.doors))
-fit c = within c.args.file.now c.args.corners.now c.args.cells.now c.args.doors.now c.requires c.read.ensures.answer c.in-Accepted.is
+fit : (c : In-Accepted) → (2 * c.in-Ok.plan.corners ≤ length c.read.new.corners) × ((c.in-Ok.m ≤ length c.read.new.cells) × (c.in-Ok.plan.doors ≤ length c.read.new.doors))
+fit c = within c.args.file.now c.args.corners.now c.args.cells.now c.args.doors.now c.requires c.read.ensures.answer c.in-Ok.is
 
 pub overflow_mul-n : goal.overflow_mul-n
 overflow_mul-n c = omega (arith, few (goal.at.overflow_mul-n c).In-Accepted)
@@ -24,23 +24,23 @@ overflow_mul-n c = omega (arith, few (goal.at.overflow_mul-n c).In-Accepted)
 pub slice_bounds-list-end : goal.slice_bounds-list-end
 slice_bounds-list-end c = (fit (goal.at.slice_bounds-list-end c).In-Accepted).0
 
-pub slice_bounds-list-end-in-Accepted : goal.slice_bounds-list-end-in-Accepted
-slice_bounds-list-end-in-Accepted c = sym (length-take-le _ _ (fit (goal.at.slice_bounds-list-end-in-Accepted c).In-Accepted).0)
+pub slice_bounds-list-end-in-Ok : goal.slice_bounds-list-end-in-Ok
+slice_bounds-list-end-in-Ok c = sym (length-take-le _ _ (fit (goal.at.slice_bounds-list-end-in-Ok c).In-Accepted).0)
 
-pub slice_bounds-list-end-in-Accepted-2 : goal.slice_bounds-list-end-in-Accepted-2
-slice_bounds-list-end-in-Accepted-2 c = (fit (goal.at.slice_bounds-list-end-in-Accepted-2 c).In-Accepted).1.0
+pub slice_bounds-list-end-in-Ok-2 : goal.slice_bounds-list-end-in-Ok-2
+slice_bounds-list-end-in-Ok-2 c = (fit (goal.at.slice_bounds-list-end-in-Ok-2 c).In-Accepted).1.0
 
-pub slice_bounds-list-end-in-Accepted-3 : goal.slice_bounds-list-end-in-Accepted-3
-slice_bounds-list-end-in-Accepted-3 c = sym (length-take-le _ _ (fit (goal.at.slice_bounds-list-end-in-Accepted-3 c).In-Accepted).1.0)
+pub slice_bounds-list-end-in-Ok-3 : goal.slice_bounds-list-end-in-Ok-3
+slice_bounds-list-end-in-Ok-3 c = sym (length-take-le _ _ (fit (goal.at.slice_bounds-list-end-in-Ok-3 c).In-Accepted).1.0)
 
-pub slice_bounds-list-end-in-Accepted-4 : goal.slice_bounds-list-end-in-Accepted-4
-slice_bounds-list-end-in-Accepted-4 c = (fit (goal.at.slice_bounds-list-end-in-Accepted-4 c).In-Accepted).1.1
+pub slice_bounds-list-end-in-Ok-4 : goal.slice_bounds-list-end-in-Ok-4
+slice_bounds-list-end-in-Ok-4 c = (fit (goal.at.slice_bounds-list-end-in-Ok-4 c).In-Accepted).1.1
 
-pub slice_bounds-list-end-in-Accepted-5 : goal.slice_bounds-list-end-in-Accepted-5
-slice_bounds-list-end-in-Accepted-5 c = sym (length-take-le _ _ (fit (goal.at.slice_bounds-list-end-in-Accepted-5 c).In-Accepted).1.1)
+pub slice_bounds-list-end-in-Ok-5 : goal.slice_bounds-list-end-in-Ok-5
+slice_bounds-list-end-in-Ok-5 c = sym (length-take-le _ _ (fit (goal.at.slice_bounds-list-end-in-Ok-5 c).In-Accepted).1.1)
 
-pub returns-in-Refused : goal.returns-in-Refused
-returns-in-Refused c = refused_by_the_reader c.args.file.now c.args.corners.now c.args.cells.now c.args.doors.now c.requires c.read.ensures.answer _ _ _ c.in-Refused.is
+pub returns-in-Err : goal.returns-in-Err
+returns-in-Err c = refused_by_the_reader c.args.file.now c.args.corners.now c.args.cells.now c.args.doors.now c.requires c.read.ensures.answer _ _ _ c.in-Err.is
 
-pub returns-in-Accepted : goal.returns-in-Accepted
-returns-in-Accepted c = listed_from_the_reader c.args.file.now c.args.corners.now c.args.cells.now c.args.doors.now c.requires c.read.ensures.answer c.in-Accepted.is _ _ _ c.list.ensures.answer
+pub returns-in-Ok : goal.returns-in-Ok
+returns-in-Ok c = listed_from_the_reader c.args.file.now c.args.corners.now c.args.cells.now c.args.doors.now c.requires c.read.ensures.answer c.in-Ok.is _ _ _ c.list.ensures.answer

@@ -8,8 +8,8 @@ list_all-counts-requires c = record { lines = c.requires.lines; stands_in = c.re
 pub list_apart-requires : goal.list_apart-requires
 list_apart-requires c = record { lines = c.requires.lines; stands_in = c.requires.stands_in; whole = c.requires.whole; p_in_bounds = c.requires.p_in_bounds; p_bound = c.requires.p_bound }
 
-pub returns-in-NotStated : goal.returns-in-NotStated
-returns-in-NotStated c = rw c.in-NotStated.is (all_followed _ _ (c.list_all-counts.ensures.rows_value, (c.list_all-counts.ensures.crossings_value, c.list_all-counts.ensures.table_after)))
+pub returns-in-None : goal.returns-in-None
+returns-in-None c = rw c.in-None.is (all_followed _ _ (c.list_all-counts.ensures.rows_value, (c.list_all-counts.ensures.crossings_value, c.list_all-counts.ensures.table_after)))
 
-pub returns-in-Stated : goal.returns-in-Stated
-returns-in-Stated c = rw c.in-Stated.is c.list_apart.ensures
+pub returns-in-Some : goal.returns-in-Some
+returns-in-Some c = rw c.in-Some.is c.list_apart.ensures

@@ -21,10 +21,10 @@ pub locate-requires : goal.locate-requires
 locate-requires c = let a = c.args in
     record { sound = c.requires; near = near_read a.corners.now (tabled a.faces.now a.firsts.now) a.doors.now a.setting a.reach a.stand (sym c.stand_spot.ensures ∙ c.in-At.is) }
 
-pub returns-in-Refused : goal.returns-in-Refused
-returns-in-Refused c = let a = c.args in
+pub returns-in-Err : goal.returns-in-Err
+returns-in-Err c = let a = c.args in
     place_refused a.corners.now (tabled a.faces.now a.firsts.now) a.doors.now a.setting a.reach a.stand
-    (sym c.stand_spot.ensures ∙ c.in-At.is) (sym c.is_wrong.ensures ∙ c.if-is_wrong.false) c.locate.ensures c.in-Refused.is
+    (sym c.stand_spot.ensures ∙ c.in-At.is) (sym c.is_wrong.ensures ∙ c.if-is_wrong.false) c.locate.ensures c.in-Err.is
 
 pub returns-in-At-locate : goal.returns-in-At-locate
 returns-in-At-locate c = let a = c.args in

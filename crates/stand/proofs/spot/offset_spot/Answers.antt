@@ -15,16 +15,15 @@ use Rattle.cells.specs.Lists.{corner_count, corner_at}
 use Rattle.cells.specs.Sound.{CornersNear}
 use Rattle.stand.specs.Spot.{whole_point, within_limits, stood}
 use Rattle.stand.specs.declared.spot.Stand.TheVariants.{Offset}
-use Rattle.stand.specs.declared.spot.Spot.{Spot}
-use Rattle.stand.specs.declared.spot.Spot.TheVariants.{At}
 use Rattle.stand.proofs.Spots.{no_such_corner, offset_refused, offset_stands, point_is_near}
 use Rattle.stand.proofs.spot.offset_spot.Goals as goal
+use Rattle.std.specs.Prelude.{Option, Some}
 
 pub returns-then-corners-i : goal.returns-then-corners-i
 returns-then-corners-i c = no_such_corner c.args.corners.now c.args.i c.args.dx c.args.dy (omega arith)
 
 -- a corner's coordinate and an accepted offset, and their sum as the code has it
-module _ (cs : List ℤ) (i : ℕ) (p : List ℤ) (x y : Float) {u v : ℤ} (h : i < corner_count cs) (near : CornersNear cs) (is_p : point p ≡ corner_at cs i) (whole : whole_point x y ≡ At u v) where
+module _ (cs : List ℤ) (i : ℕ) (p : List ℤ) (x y : Float) {u v : ℤ} (h : i < corner_count cs) (near : CornersNear cs) (is_p : point p ≡ corner_at cs i) (whole : whole_point x y ≡ Some (u, v)) where
   sum_x : Exactly (to_z w64 (of_z w64 (get_or p 0 (pos 0))) +ℤ to_z w64 (of_z w64 u)) (get_or p 0 (pos 0) +ℤ u) 1073741824
   sum_x =
       plus (coordinate w64 tt (subst (λ (q : Point). Within limit q.x) (sym is_p) (near.near i h).x_near))
@@ -35,7 +34,7 @@ module _ (cs : List ℤ) (i : ℕ) (p : List ℤ) (x y : Float) {u v : ℤ} (h :
       plus (coordinate w64 tt (subst (λ (q : Point). Within limit q.y) (sym is_p) (near.near i h).y_near))
       (coordinate w64 tt (point_is_near x y whole).y_near)
 
-  stands : {r : Spot} → r ≡ within_limits (to_z w64 (of_z w64 (to_z w64 (of_z w64 (get_or p 0 (pos 0))) +ℤ to_z w64 (of_z w64 u)))) (to_z w64 (of_z w64 (to_z w64 (of_z w64 (get_or p 1 (pos 0))) +ℤ to_z w64 (of_z w64 v)))) → r ≡ stood cs (Offset i x y)
+  stands : {r : Option (ℤ × ℤ)} → r ≡ within_limits (to_z w64 (of_z w64 (to_z w64 (of_z w64 (get_or p 0 (pos 0))) +ℤ to_z w64 (of_z w64 u)))) (to_z w64 (of_z w64 (to_z w64 (of_z w64 (get_or p 1 (pos 0))) +ℤ to_z w64 (of_z w64 v)))) → r ≡ stood cs (Offset i x y)
   stands e =
       e
       ∙ offset_stands cs i x y h whole

@@ -1,0 +1,2 @@
+-- a refusal that a call hands on
+pub mod Handed
