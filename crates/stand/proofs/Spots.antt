@@ -39,7 +39,7 @@ module _ (x y : Float) where
   pub both_whole : {u v : ℤ} → whole x ≡ Some u → whole y ≡ Some v → Some (to_z w64 (of_z w64 u), to_z w64 (of_z w64 v)) ≡ whole_point x y
   unfolding whole_point
   both_whole e k =
-      ap₂ Some ((coordinate w64 tt (accepted_is_within x e)).is, (coordinate w64 tt (accepted_is_within y k)).is) ∙ sym (ap₂ pair e k)
+      ap₂ (λ (u v : ℤ). Some (u, v)) (coordinate w64 tt (accepted_is_within x e)).is (coordinate w64 tt (accepted_is_within y k)).is ∙ sym (ap₂ pair e k)
 
   pub point_is_near : {u v : ℤ} → whole_point x y ≡ Some (u, v) → Near (record { x = u; y = v })
   unfolding whole_point
@@ -47,8 +47,9 @@ module _ (x y : Float) where
     where
       by_cases : (m n : Option ℤ) → whole x ≡ m → whole y ≡ n → pair m n ≡ Some (u, v) → Near (record { x = u; y = v })
       by_cases (Some a) (Some b) h k p =
-          let same_x : a ≡ u = cc in
-          let same_y : b ≡ v = cc in
+          let same : ◌≡◌ {A = ℤ × ℤ} (a, b) (u, v) = cc in
+          let same_x : a ≡ u = ap (λ (q : ℤ × ℤ). q.0) same in
+          let same_y : b ≡ v = ap (λ (q : ℤ × ℤ). q.1) same in
           record { x_near = subst (Within limit) same_x (accepted_is_within x h); y_near = subst (Within limit) same_y (accepted_is_within y k) }
       by_cases (Some a) None h k p = absurd (let z : ◌≡◌ {A = ℕ} 0 1 = cc in omega arith)
       by_cases None n h k p = absurd (let z : ◌≡◌ {A = ℕ} 0 1 = cc in omega arith)
@@ -60,12 +61,13 @@ module _ (x y : ℤ) where
   unfolding within_limits
   bounded_is_near {u} {v} e = by_cases (outside x || outside y) refl e
     where
-      by_cases : (b : Bool) → (outside x || outside y) ≡ b → elim b [ true ↦ None | false ↦ Some (x, y) ] ≡ Some (u, v) → Near (record { x = u; y = v })
+      by_cases : (b : Bool) → (outside x || outside y) ≡ b → ◌≡◌ {A = Option (ℤ × ℤ)} (elim b [ true ↦ None | false ↦ Some (x, y) ]) (Some (u, v)) → Near (record { x = u; y = v })
       by_cases true h p = absurd (let z : ◌≡◌ {A = ℕ} 0 1 = cc in omega arith)
       by_cases false h p =
           let both = neither_true (outside x) (outside y) h in
-          let same_x : x ≡ u = cc in
-          let same_y : y ≡ v = cc in
+          let same : ◌≡◌ {A = ℤ × ℤ} (x, y) (u, v) = cc in
+          let same_x : x ≡ u = ap (λ (q : ℤ × ℤ). q.0) same in
+          let same_y : y ≡ v = ap (λ (q : ℤ × ℤ). q.1) same in
           record { x_near = subst (Within limit) same_x (not_outside x both.0); y_near = subst (Within limit) same_y (not_outside y both.1) }
 
 -- the four tests of a bound, on numbers as the code reads them
@@ -108,7 +110,7 @@ module _ {x y X Y : ℤ} (is_x : X ≡ x) (is_y : Y ≡ y) where
             let k' : lt_z (pos limit) x ≡ false = rw is_x at k in
             let l' : lt_z y (neg_ℤ (pos limit)) ≡ false = rw is_y at l in
             let m' : lt_z (pos limit) y ≡ false = rw is_y at m in
-            ap₂ Some (is_x, is_y) ∙ rw (h', k', l', m', outside, within_limits)
+            ap₂ (λ (u v : ℤ). Some (u, v)) is_x is_y ∙ rw (h', k', l', m', outside, within_limits)
 
 -- ---- stands
 
@@ -133,7 +135,7 @@ module _ (cs : List ℤ) where
   stand_is_near (S.Point x y) e = point_is_near x y e
   stand_is_near (S.Offset i x y) e = offset_is_near (ltb i (corner_count cs)) (whole_point x y) e
     where
-      offset_is_near : {u v : ℤ} (b : Bool) (s : Option (ℤ × ℤ)) → elim b [ true ↦ offset_by s (corner_at cs i).x (corner_at cs i).y | false ↦ None ] ≡ Some (u, v) → Near (record { x = u; y = v })
+      offset_is_near : {u v : ℤ} (b : Bool) (s : Option (ℤ × ℤ)) → ◌≡◌ {A = Option (ℤ × ℤ)} (elim b [ true ↦ offset_by s (corner_at cs i).x (corner_at cs i).y | false ↦ None ]) (Some (u, v)) → Near (record { x = u; y = v })
       offset_is_near true (Some (a, b)) p = bounded_is_near ((corner_at cs i).x +ℤ a) ((corner_at cs i).y +ℤ b) p
       offset_is_near true None p = absurd (let z : ◌≡◌ {A = ℕ} 0 1 = cc in omega arith)
       offset_is_near false s p = absurd (let z : ◌≡◌ {A = ℕ} 0 1 = cc in omega arith)

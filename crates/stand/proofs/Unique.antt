@@ -23,9 +23,8 @@ module _ (cs : List ℤ) (s : Stand) {x y x' y' : ℤ} (at : stood cs s ≡ Some
   pub a_stand_is_one_point : ◌≡◌ {A = Point} (record { x = x; y = y }) (record { x = x'; y = y' })
   a_stand_is_one_point =
       let same : ◌≡◌ {A = Option (ℤ × ℤ)} (Some (x, y)) (Some (x', y')) = sym at ∙ at' in
-      let same_x : x ≡ x' = cc in
-      let same_y : y ≡ y' = cc in
-      ap₂ (λ (u v : ℤ). record { x = u; y = v }) same_x same_y
+      let pairs : ◌≡◌ {A = ℤ × ℤ} (x, y) (x', y') = cc in
+      ap (λ (q : ℤ × ℤ). record { x = q.0; y = q.1 }) pairs
 
   pub a_stand_has_one_place : (T : Cells) (ds : List ℕ) (w : ℕ) {p p' : Footing} → located cs T ds w (record { x = x; y = y }) ≡ Ok p → located cs T ds w (record { x = x'; y = y' }) ≡ Ok p' → p ≡ p'
   a_stand_has_one_place T ds w {p} {p'} there there' =

@@ -41,14 +41,14 @@ module _ (cs : List ℤ) (i : ℕ) (p : List ℤ) (x y : Float) {u v : ℤ} (h :
       ((reads_back w64 tt sum_x).is ∙ ap (λ (q : Point). q.x +ℤ u) is_p)
       ((reads_back w64 tt sum_y).is ∙ ap (λ (q : Point). q.y +ℤ v) is_p)
 
-pub returns-in_default : goal.returns-in_default
-returns-in_default c = offset_refused c.args.corners.now c.args.i c.args.dx c.args.dy (omega arith) (sym c.whole_spot.ensures ∙ c.in_default.is)
+pub returns-in_err-u : goal.returns-in_err-u
+returns-in_err-u c = c.from_residual.ensures ∙ offset_refused c.args.corners.now c.args.i c.args.dx c.args.dy (omega arith) (sym c.whole_spot.ensures ∙ c.in_err-u.was)
 
 pub overflow_add-x : goal.overflow_add-x
-overflow_add-x c = fits w64 tt (sum_x c.args.corners.now c.args.i c.at-from.result c.args.dx c.args.dy c.if-corners-i.false c.requires c.at-from.ensures (sym c.whole_spot.ensures ∙ c.in-At.is))
+overflow_add-x c = fits w64 tt (sum_x c.args.corners.now c.args.i c.at-from.result c.args.dx c.args.dy c.if-corners-i.false c.requires c.at-from.ensures (sym c.whole_spot.ensures ∙ c.in_ok-u.was))
 
 pub overflow_add-y : goal.overflow_add-y
-overflow_add-y c = fits w64 tt (sum_y c.args.corners.now c.args.i c.at-from.result c.args.dx c.args.dy c.if-corners-i.false c.requires c.at-from.ensures (sym c.whole_spot.ensures ∙ c.in-At.is))
+overflow_add-y c = fits w64 tt (sum_y c.args.corners.now c.args.i c.at-from.result c.args.dx c.args.dy c.if-corners-i.false c.requires c.at-from.ensures (sym c.whole_spot.ensures ∙ c.in_ok-u.was))
 
 pub returns : goal.returns
-returns c = stands c.args.corners.now c.args.i c.at-from.result c.args.dx c.args.dy c.if-corners-i.false c.requires c.at-from.ensures (sym c.whole_spot.ensures ∙ c.in-At.is) c.bounded.ensures
+returns c = stands c.args.corners.now c.args.i c.at-from.result c.args.dx c.args.dy c.if-corners-i.false c.requires c.at-from.ensures (sym c.whole_spot.ensures ∙ c.in_ok-u.was) c.bounded.ensures
