@@ -1,5 +1,7 @@
 -- `find::find_in` meets its contract.
+use mathlib.Core.Path.{◌∙◌}
 use native.Mathlib.Omega.{arith}
+use Rattle.limits.proofs.Handed.{handed_on}
 use Rattle.cells.proofs.Plans.{counts}
 use Rattle.checking.proofs.Rooms.{drawn_cells}
 use Rattle.find.proofs.Finding.{doors_read, plan_read, plan_refused, setting_refused, setting_accepted}
@@ -10,20 +12,20 @@ check_into-requires c = record { cells_value = c.requires.cells_value.0; doors_v
 
 pub is_wrong-requires : goal.is_wrong-requires
 is_wrong-requires c = let a = c.args in
-    doors_read a.kind a.corners.now a.cells.now a.doors.now c.check_into.ensures.value c.in-Ok.is
+    doors_read a.kind a.corners.now a.cells.now a.doors.now c.check_into.ensures.value c.in_ok-plan.was
 
 pub returns-then-is_wrong : goal.returns-then-is_wrong
 returns-then-is_wrong c = let a = c.args in
-    setting_refused a.kind a.corners.now a.cells.now a.doors.now a.setting a.stand c.check_into.ensures.value c.in-Ok.is c.is_wrong.ensures c.if-is_wrong.true
+    setting_refused a.kind a.corners.now a.cells.now a.doors.now a.setting a.stand c.check_into.ensures.value c.in_ok-plan.was c.is_wrong.ensures c.if-is_wrong.true
 
 pub find_stand-requires : goal.find_stand-requires
 find_stand-requires c = let a = c.args in
-    plan_read a.kind a.corners.now a.cells.now a.doors.now c.check_into.ensures.value c.in-Ok.is (drawn_cells a.kind a.cells.now c.check_into.ensures.faces_after c.check_into.ensures.firsts_after) _ _ c.check_into.ensures.backed
+    plan_read a.kind a.corners.now a.cells.now a.doors.now c.check_into.ensures.value c.in_ok-plan.was (drawn_cells a.kind a.cells.now c.check_into.ensures.faces_after c.check_into.ensures.firsts_after) _ _ c.check_into.ensures.backed
 
-pub returns-in-Err : goal.returns-in-Err
-returns-in-Err c = let a = c.args in
-    plan_refused a.kind a.corners.now a.cells.now a.doors.now a.setting a.stand c.check_into.ensures.value c.in-Err.is
+pub returns-in_err-plan : goal.returns-in_err-plan
+returns-in_err-plan c = let a = c.args in
+    handed_on c.from_residual.ensures.1 ∙ plan_refused a.kind a.corners.now a.cells.now a.doors.now a.setting a.stand c.check_into.ensures.value c.in_err-plan.was
 
-pub returns-else-is_wrong : goal.returns-else-is_wrong
-returns-else-is_wrong c = let a = c.args in
-    setting_accepted a.kind a.corners.now a.cells.now a.doors.now a.setting a.stand c.check_into.ensures.value c.in-Ok.is c.is_wrong.ensures c.if-is_wrong.false (drawn_cells a.kind a.cells.now c.check_into.ensures.faces_after c.check_into.ensures.firsts_after) c.find_stand.ensures
+pub returns : goal.returns
+returns c = let a = c.args in
+    setting_accepted a.kind a.corners.now a.cells.now a.doors.now a.setting a.stand c.check_into.ensures.value c.in_ok-plan.was c.is_wrong.ensures c.if-is_wrong.false (drawn_cells a.kind a.cells.now c.check_into.ensures.faces_after c.check_into.ensures.firsts_after) c.find_stand.ensures

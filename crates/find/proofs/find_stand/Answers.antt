@@ -1,20 +1,12 @@
 -- `find::find_stand` meets its contract.
-use mathlib.Core.Path.{sym, ◌∙◌}
+use mathlib.Core.Path.{◌≡◌, sym, ◌∙◌}
+use native.Mathlib.Omega.{arith}
+use Rattle.std.specs.Prelude.{Some}
 use Rattle.cells.specs.Lists.{tabled}
-use Rattle.find.proofs.Finding.{stand_refused, near_read, stand_located}
+use Rattle.find.proofs.Finding.{near_read}
 use Rattle.find.proofs.find_stand.Goals as goal
 
-pub stand_spot-requires : goal.stand_spot-requires
-stand_spot-requires c = c.requires.0.corners
-
-pub returns-in_default : goal.returns-in_default
-returns-in_default c = let a = c.args in
-    stand_refused a.corners.now (tabled a.faces.now a.firsts.now) a.doors.now a.setting a.stand (sym c.stand_spot.ensures ∙ c.in_default.is)
-
-pub locate-requires : goal.locate-requires
-locate-requires c = let a = c.args in
-    record { sound = c.requires; near = near_read a.corners.now (tabled a.faces.now a.firsts.now) a.doors.now a.setting a.stand (sym c.stand_spot.ensures ∙ c.in-At.is) }
-
-pub returns : goal.returns
-returns c = let a = c.args in
-    stand_located a.corners.now (tabled a.faces.now a.firsts.now) a.doors.now a.setting a.stand (sym c.stand_spot.ensures ∙ c.in-At.is) c.locate.ensures
+pub locate-requires-clause-near : goal.locate-requires-clause-near
+locate-requires-clause-near c = let a = c.args in
+    let stands : c.stand_spot.result ≡ Some (c.in_ok-x.x, c.in_ok-x.y) = grind arith in
+    near_read a.corners.now (tabled a.faces.now a.firsts.now) a.doors.now a.setting a.stand (sym c.stand_spot.ensures ∙ stands)
