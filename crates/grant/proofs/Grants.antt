@@ -120,11 +120,11 @@ module _ (k : ℕ) (cs : List ℤ) (ts ds : List ℕ) (n : ℕ) where
         by_count (yes h) = ap Err (frame_or_size (sym is_s ∙ e)) ∙ sym (many_asked h)
         by_count (no h) = sym e ∙ is_s ∙ sym (few_asked (omega arith))
 
-    module _ {m l : ℕ} (e : s ≡ Ok (record { cells = m; faces = l })) where
+    module _ {y : Sizes} (e : s ≡ Ok y) where
       pub too_many_asked : most_stands < n → Err Size ≡ sizes_asked k cs ts ds n
       too_many_asked h = ap (λ (b : Bool). Err (too_many b)) (sym (counted_fit k cs ts ds is_s e).in_frame) ∙ sym (many_asked h)
 
-      pub counted : n ≤ most_stands → Ok (record { cells = m; faces = l }) ≡ sizes_asked k cs ts ds n
+      pub counted : n ≤ most_stands → Ok y ≡ sizes_asked k cs ts ds n
       counted few = sym e ∙ is_s ∙ sym (few_asked few)
 
   -- ---- what the sizes say
@@ -143,12 +143,12 @@ module _ (k : ℕ) (cs : List ℤ) (ts ds : List ℕ) (n : ℕ) where
             plan_refused k cs ts ds w n room places few (sym (refused_likewise k cs ts ds (is_s ∙ few_asked few) e))
 
     -- the sizes are those of the lists, and the stands are not too many
-    pub lists_counted : {m l : ℕ} → s ≡ Ok (record { cells = m; faces = l }) → (sizes_of k cs ts ds ≡ Ok (record { cells = m; faces = l })) × (n ≤ most_stands)
-    lists_counted {m} {l} e = by_count (dec_lt most_stands n)
+    pub lists_counted : {y : Sizes} → s ≡ Ok y → (sizes_of k cs ts ds ≡ Ok y) × (n ≤ most_stands)
+    lists_counted {y} e = by_count (dec_lt most_stands n)
       where
-        by_count : Dec (most_stands < n) → (sizes_of k cs ts ds ≡ Ok (record { cells = m; faces = l })) × (n ≤ most_stands)
+        by_count : Dec (most_stands < n) → (sizes_of k cs ts ds ≡ Ok y) × (n ≤ most_stands)
         by_count (yes h) =
-            let is : ◌≡◌ {A = Result Sizes Refusal} (Ok (record { cells = m; faces = l })) (Err (too_many (framed k cs ts))) = sym e ∙ is_s ∙ many_asked h in
+            let is : ◌≡◌ {A = Result Sizes Refusal} (Ok y) (Err (too_many (framed k cs ts))) = sym e ∙ is_s ∙ many_asked h in
             let z : ◌≡◌ {A = ℕ} 0 1 = cc in
             absurd (omega arith)
         by_count (no h) =

@@ -103,11 +103,12 @@ module _ (cs : List ℤ) (T : Cells) (ds : List ℕ) (w : ℕ) (reach : Option �
     where
       by_place : (u v : ℤ) → stood cs s ≡ Some (u, v) → wrong_reach reach ≡ false → (f : Result Footing Refusal) → located cs T ds w (record { x = u; y = v }) ≡ f → view_of_place u v f ≡ Ok (record { x = x; y = y; footing = p }) → Spotted cs T ds w reach s x y p
       by_place u v st right (Ok r) lo h =
-          let same_x : u ≡ x = cc in
-          let same_y : v ≡ y = cc in
-          let same_p : r ≡ p = cc in
+          let same : ◌≡◌ {A = View} (record { x = u; y = v; footing = r }) (record { x = x; y = y; footing = p }) = cc in
+          let same_x : u ≡ x = ap (λ (v : View). v.x) same in
+          let same_y : v ≡ y = ap (λ (v : View). v.y) same in
+          let same_p : r ≡ p = ap (λ (v : View). v.footing) same in
           record {
-            stand_is = st ∙ ap₂ Some (same_x, same_y);
+            stand_is = st ∙ ap₂ (λ (u v : ℤ). Some (u, v)) same_x same_y;
             reach_right = right;
             stand_near = subst₂ (λ (u v : ℤ). Near (record { x = u; y = v })) same_x same_y (stand_is_near cs s st);
             stand_place = subst₂ (λ (u v : ℤ). located cs T ds w (record { x = u; y = v }) ≡ Ok p) same_x same_y (lo ∙ ap Ok same_p);

@@ -1,6 +1,7 @@
 -- `grant::asked_in` meets its contract.
 use mathlib.Core.Path.{sym, ◌∙◌}
 use native.Mathlib.Omega.{arith}
+use Rattle.limits.proofs.Handed.{handed_on}
 use Rattle.cells.proofs.Accepted.{few_corners, few_doors}
 use Rattle.grant.proofs.Grants.{plan_refused, few_numbers, setting_refused, table_too_short, too_few_places, granted}
 use Rattle.grant.proofs.asked_in.Goals as goal
@@ -9,25 +10,25 @@ pub check_into-requires : goal.check_into-requires
 check_into-requires c = record { cells_value = c.requires.cells_value.0; doors_value = c.requires.cells_value.1; faces_len = c.requires.faces_len; firsts_len = c.requires.firsts_len; backs_len = c.requires.backs_len; cells_in_bounds = c.requires.cells_in_bounds }
 
 pub is_wrong-requires : goal.is_wrong-requires
-is_wrong-requires c = few_doors c.args.kind c.args.corners.now c.args.cells.now c.args.doors.now (sym c.check_into.ensures.value ∙ c.in-Ok.is)
+is_wrong-requires c = few_doors c.args.kind c.args.corners.now c.args.cells.now c.args.doors.now (sym c.check_into.ensures.value ∙ c.in_ok-plan.was)
 
 pub returns-then-is_wrong : goal.returns-then-is_wrong
-returns-then-is_wrong c = record { value = setting_refused c.args.kind c.args.corners.now c.args.cells.now c.args.doors.now c.args.setting c.args.count c.args.room c.args.places c.requires.count_le_most_stands (sym c.check_into.ensures.value ∙ c.in-Ok.is) c.is_wrong.ensures c.if-is_wrong.true; faces_after = c.check_into.ensures.faces_after; firsts_after = c.check_into.ensures.firsts_after; backed = c.check_into.ensures.backed }
+returns-then-is_wrong c = record { value = setting_refused c.args.kind c.args.corners.now c.args.cells.now c.args.doors.now c.args.setting c.args.count c.args.room c.args.places c.requires.count_le_most_stands (sym c.check_into.ensures.value ∙ c.in_ok-plan.was) c.is_wrong.ensures c.if-is_wrong.true; faces_after = c.check_into.ensures.faces_after; firsts_after = c.check_into.ensures.firsts_after; backed = c.check_into.ensures.backed }
 
 pub overflow_mul-n : goal.overflow_mul-n
-overflow_mul-n c = omega (arith, few_corners c.args.kind c.args.corners.now c.args.cells.now c.args.doors.now (sym c.check_into.ensures.value ∙ c.in-Ok.is))
+overflow_mul-n c = omega (arith, few_corners c.args.kind c.args.corners.now c.args.cells.now c.args.doors.now (sym c.check_into.ensures.value ∙ c.in_ok-plan.was))
 
 pub overflow_mul-n-in-Ok : goal.overflow_mul-n-in-Ok
-overflow_mul-n-in-Ok c = omega (arith, few_numbers c.args.kind c.args.corners.now c.args.cells.now c.args.doors.now c.args.setting c.args.count c.args.room c.args.places c.requires.count_le_most_stands (sym c.check_into.ensures.value ∙ c.in-Ok.is))
+overflow_mul-n-in-Ok c = omega (arith, few_numbers c.args.kind c.args.corners.now c.args.cells.now c.args.doors.now c.args.setting c.args.count c.args.room c.args.places c.requires.count_le_most_stands (sym c.check_into.ensures.value ∙ c.in_ok-plan.was))
 
 pub returns-then-room-n : goal.returns-then-room-n
-returns-then-room-n c = record { value = table_too_short c.args.kind c.args.corners.now c.args.cells.now c.args.doors.now c.args.setting c.args.count c.args.room c.args.places c.requires.count_le_most_stands (sym c.check_into.ensures.value ∙ c.in-Ok.is) c.is_wrong.ensures c.if-is_wrong.false c.if-room-n.true; faces_after = c.check_into.ensures.faces_after; firsts_after = c.check_into.ensures.firsts_after; backed = c.check_into.ensures.backed }
+returns-then-room-n c = record { value = table_too_short c.args.kind c.args.corners.now c.args.cells.now c.args.doors.now c.args.setting c.args.count c.args.room c.args.places c.requires.count_le_most_stands (sym c.check_into.ensures.value ∙ c.in_ok-plan.was) c.is_wrong.ensures c.if-is_wrong.false c.if-room-n.true; faces_after = c.check_into.ensures.faces_after; firsts_after = c.check_into.ensures.firsts_after; backed = c.check_into.ensures.backed }
 
 pub returns-then-places-count : goal.returns-then-places-count
-returns-then-places-count c = record { value = too_few_places c.args.kind c.args.corners.now c.args.cells.now c.args.doors.now c.args.setting c.args.count c.args.room c.args.places c.requires.count_le_most_stands (sym c.check_into.ensures.value ∙ c.in-Ok.is) c.is_wrong.ensures c.if-is_wrong.false c.if-room-n.false c.if-places-count.true; faces_after = c.check_into.ensures.faces_after; firsts_after = c.check_into.ensures.firsts_after; backed = c.check_into.ensures.backed }
+returns-then-places-count c = record { value = too_few_places c.args.kind c.args.corners.now c.args.cells.now c.args.doors.now c.args.setting c.args.count c.args.room c.args.places c.requires.count_le_most_stands (sym c.check_into.ensures.value ∙ c.in_ok-plan.was) c.is_wrong.ensures c.if-is_wrong.false c.if-room-n.false c.if-places-count.true; faces_after = c.check_into.ensures.faces_after; firsts_after = c.check_into.ensures.firsts_after; backed = c.check_into.ensures.backed }
 
-pub returns-in-Err : goal.returns-in-Err
-returns-in-Err c = record { value = plan_refused c.args.kind c.args.corners.now c.args.cells.now c.args.doors.now c.args.setting c.args.count c.args.room c.args.places c.requires.count_le_most_stands (sym c.check_into.ensures.value ∙ c.in-Err.is); faces_after = c.check_into.ensures.faces_after; firsts_after = c.check_into.ensures.firsts_after; backed = c.check_into.ensures.backed }
+pub returns-in_err-plan : goal.returns-in_err-plan
+returns-in_err-plan c = record { value = handed_on c.from_residual.ensures.1 ∙ plan_refused c.args.kind c.args.corners.now c.args.cells.now c.args.doors.now c.args.setting c.args.count c.args.room c.args.places c.requires.count_le_most_stands (sym c.check_into.ensures.value ∙ c.in_err-plan.was); faces_after = c.check_into.ensures.faces_after; firsts_after = c.check_into.ensures.firsts_after; backed = c.check_into.ensures.backed }
 
 pub returns-else-places-count : goal.returns-else-places-count
-returns-else-places-count c = record { value = granted c.args.kind c.args.corners.now c.args.cells.now c.args.doors.now c.args.setting c.args.count c.args.room c.args.places c.requires.count_le_most_stands (sym c.check_into.ensures.value ∙ c.in-Ok.is) c.is_wrong.ensures c.if-is_wrong.false c.if-room-n.false c.if-places-count.false; faces_after = c.check_into.ensures.faces_after; firsts_after = c.check_into.ensures.firsts_after; backed = c.check_into.ensures.backed }
+returns-else-places-count c = record { value = granted c.args.kind c.args.corners.now c.args.cells.now c.args.doors.now c.args.setting c.args.count c.args.room c.args.places c.requires.count_le_most_stands (sym c.check_into.ensures.value ∙ c.in_ok-plan.was) c.is_wrong.ensures c.if-is_wrong.false c.if-room-n.false c.if-places-count.false; faces_after = c.check_into.ensures.faces_after; firsts_after = c.check_into.ensures.firsts_after; backed = c.check_into.ensures.backed }

@@ -1,5 +1,6 @@
 -- `sight::view::view_in` meets its contract.
 use mathlib.Core.Path.{sym, ap, ◌∙◌}
+use Rattle.limits.proofs.Handed.{handed_on}
 use native.Mathlib.Omega.{arith}
 use Rattle.cells.specs.Lists.{Cells}
 use Rattle.cells.proofs.Accepted.{few_doors}
@@ -15,25 +16,25 @@ check_into-requires c = record { cells_value = c.requires.cells_value.0; doors_v
 
 pub is_wrong-requires : goal.is_wrong-requires
 is_wrong-requires c = let a = c.args in
-    few_doors a.kind a.corners.now a.cells.now a.doors.now (sym c.check_into.ensures.value ∙ c.in-Ok.is)
+    few_doors a.kind a.corners.now a.cells.now a.doors.now (sym c.check_into.ensures.value ∙ c.in_ok-plan.was)
 
 pub returns-then-is_wrong : goal.returns-then-is_wrong
 returns-then-is_wrong c = let a = c.args in
-    record { value = setting_refused a.kind a.corners.now a.cells.now a.doors.now a.query (sym c.check_into.ensures.value ∙ c.in-Ok.is) c.is_wrong.ensures c.if-is_wrong.true; faces_after = c.check_into.ensures.faces_after; firsts_after = c.check_into.ensures.firsts_after; backed = λ sound. (c.check_into.ensures.backed sound).0 }
+    record { value = setting_refused a.kind a.corners.now a.cells.now a.doors.now a.query (sym c.check_into.ensures.value ∙ c.in_ok-plan.was) c.is_wrong.ensures c.if-is_wrong.true; faces_after = c.check_into.ensures.faces_after; firsts_after = c.check_into.ensures.firsts_after; backed = λ sound. (c.check_into.ensures.backed sound).0 }
 
 pub view_of_stand-requires : goal.view_of_stand-requires
 view_of_stand-requires c = let a = c.args in
-    plan_checked a.kind a.corners.now a.cells.now a.doors.now _ _ (drawn_cells a.kind a.cells.now c.check_into.ensures.faces_after c.check_into.ensures.firsts_after) (sym c.check_into.ensures.value ∙ c.in-Ok.is) c.check_into.ensures.backed
+    plan_checked a.kind a.corners.now a.cells.now a.doors.now _ _ (drawn_cells a.kind a.cells.now c.check_into.ensures.faces_after c.check_into.ensures.firsts_after) (sym c.check_into.ensures.value ∙ c.in_ok-plan.was) c.check_into.ensures.backed
 
-pub returns-in-Err : goal.returns-in-Err
-returns-in-Err c = let a = c.args in
-    record { value = plan_refused a.kind a.corners.now a.cells.now a.doors.now a.query (sym c.check_into.ensures.value ∙ c.in-Err.is); faces_after = c.check_into.ensures.faces_after; firsts_after = c.check_into.ensures.firsts_after; backed = λ sound. (c.check_into.ensures.backed sound).0 }
+pub returns-in_err-plan : goal.returns-in_err-plan
+returns-in_err-plan c = let a = c.args in
+    record { value = handed_on c.from_residual.ensures.1 ∙ plan_refused a.kind a.corners.now a.cells.now a.doors.now a.query (sym c.check_into.ensures.value ∙ c.in_err-plan.was); faces_after = c.check_into.ensures.faces_after; firsts_after = c.check_into.ensures.firsts_after; backed = λ sound. (c.check_into.ensures.backed sound).0 }
 
-pub returns-else-is_wrong : goal.returns-else-is_wrong
-returns-else-is_wrong c = let a = c.args in
+pub returns : goal.returns
+returns c = let a = c.args in
     let drawn = drawn_cells a.kind a.cells.now c.check_into.ensures.faces_after c.check_into.ensures.firsts_after in
     record {
-      value = setting_accepted a.kind a.corners.now a.cells.now a.doors.now a.query (sym c.check_into.ensures.value ∙ c.in-Ok.is) c.is_wrong.ensures c.if-is_wrong.false
+      value = setting_accepted a.kind a.corners.now a.cells.now a.doors.now a.query (sym c.check_into.ensures.value ∙ c.in_ok-plan.was) c.is_wrong.ensures c.if-is_wrong.false
           (c.view_of_stand.ensures ∙ ap (λ (T : Cells). view_of_spot a.corners.now T a.doors.now a.query.setting a.query.reach (stood a.corners.now a.query.stand)) drawn);
       faces_after = c.check_into.ensures.faces_after;
       firsts_after = c.check_into.ensures.firsts_after;
