@@ -1,8 +1,12 @@
 -- `morning::list_in` meets its contract.
-use mathlib.Core.Path.{sym, ◌∙◌}
+use mathlib.Core.Path.{ap, sym, ◌∙◌}
 use native.Mathlib.Omega.{arith}
+use Rattle.std.specs.Prelude.{Result}
+use Rattle.limits.specs.declared.Refusal.{Refusal}
+use Rattle.limits.proofs.Handed.{handed_on}
 use Rattle.cells.proofs.Plans.{counts}
 use Rattle.checking.proofs.Rooms.{drawn_cells, noted_boxes, room_for_lines}
+use Rattle.sight.specs.declared.list.Counts.{Counts}
 use Rattle.grant.proofs.Grants.{grants}
 use Rattle.morning.proofs.Together.{call_refused, sound_on_the_tables, room_for_all, call_done}
 use Rattle.morning.proofs.list_in.Goals as goal
@@ -10,14 +14,14 @@ use Rattle.morning.proofs.list_in.Goals as goal
 pub asked_in-requires : goal.asked_in-requires
 asked_in-requires c = record { cells_value = c.requires.cells_value; count_le_most_stands = c.requires.count_le_most_stands; faces_len = c.requires.faces_len; firsts_len = c.requires.firsts_len; backs_len = c.requires.backs_len; cells_in_bounds = omega (arith, (counts _ _ _ c.requires.cells_value.1).cells_at_most) }
 
-pub list_each-counts-requires : goal.list_each-counts-requires
-list_each-counts-requires c = let drawn = drawn_cells c.args.kind c.args.cells.now c.asked_in.ensures.faces_after c.asked_in.ensures.firsts_after in
-    let granted = grants c.args.kind c.args.corners.now c.args.cells.now c.args.doors.now c.asked_in.ensures.value c.in-Ok.is in
+pub list_each-requires : goal.list_each-requires
+list_each-requires c = let drawn = drawn_cells c.args.kind c.args.cells.now c.asked_in.ensures.faces_after c.asked_in.ensures.firsts_after in
+    let granted = grants c.args.kind c.args.corners.now c.args.cells.now c.args.doors.now c.asked_in.ensures.value c.in_ok.was in
     let sound = sound_on_the_tables c.args.kind c.args.corners.now c.args.cells.now c.args.doors.now c.args.morning c.args.stands c.args.table.now c.args.replies.now drawn granted in
     record { sound = noted_boxes c.args.kind c.args.corners.now c.args.cells.now c.args.doors.now _ _ drawn c.asked_in.ensures.backed sound; room_for = room_for_all c.args.kind c.args.corners.now c.args.cells.now c.args.doors.now c.args.morning c.args.stands c.args.table.now c.args.replies.now drawn granted; lines_len = (room_for_lines c.args.kind c.args.cells.now drawn c.requires.lines_len.0, c.requires.lines_len.1) }
 
-pub returns-in-Err : goal.returns-in-Err
-returns-in-Err c = call_refused c.args.kind c.args.corners.now c.args.cells.now c.args.doors.now c.args.morning c.args.stands c.args.table.now c.args.replies.now (sym c.asked_in.ensures.value ∙ c.in-Err.is)
+pub returns-in_err : goal.returns-in_err
+returns-in_err c = ap (λ (r : Result Counts Refusal). (r, (c.args.table.now, c.args.replies.now))) (handed_on c.from_residual.ensures.1) ∙ call_refused c.args.kind c.args.corners.now c.args.cells.now c.args.doors.now c.args.morning c.args.stands c.args.table.now c.args.replies.now (sym c.asked_in.ensures.value ∙ c.in_err.was)
 
-pub returns-in-Ok : goal.returns-in-Ok
-returns-in-Ok c = call_done c.args.kind c.args.corners.now c.args.cells.now c.args.doors.now c.args.morning c.args.stands c.args.table.now c.args.replies.now (drawn_cells c.args.kind c.args.cells.now c.asked_in.ensures.faces_after c.asked_in.ensures.firsts_after) (grants c.args.kind c.args.corners.now c.args.cells.now c.args.doors.now c.asked_in.ensures.value c.in-Ok.is) (c.list_each-counts.ensures.rows_value, (c.list_each-counts.ensures.crossings_value, (c.list_each-counts.ensures.table_after, c.list_each-counts.ensures.replies_after)))
+pub returns : goal.returns
+returns c = call_done c.args.kind c.args.corners.now c.args.cells.now c.args.doors.now c.args.morning c.args.stands c.args.table.now c.args.replies.now (drawn_cells c.args.kind c.args.cells.now c.asked_in.ensures.faces_after c.asked_in.ensures.firsts_after) (grants c.args.kind c.args.corners.now c.args.cells.now c.args.doors.now c.asked_in.ensures.value c.in_ok.was) (c.list_each.ensures.rows_value, (c.list_each.ensures.crossings_value, (c.list_each.ensures.table_after, c.list_each.ensures.replies_after)))
