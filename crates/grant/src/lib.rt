@@ -57,7 +57,10 @@ pub fn asked_in(
     if setting::is_wrong(setting, plan.doors) {
         return Err(Refusal::Setting);
     }
-    if room < 4 * plan.corners * count || places < 3 * count {
+    if room < 4 * plan.corners * count {
+        return Err(Refusal::Room);
+    }
+    if places < 3 * count {
         return Err(Refusal::Room);
     }
     Ok(plan)

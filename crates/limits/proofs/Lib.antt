@@ -1,2 +1,2 @@
--- a refusal that a call hands on
+-- a refusal that a call hands on, and answers that are the same
 pub mod Handed

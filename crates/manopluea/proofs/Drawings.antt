@@ -38,6 +38,7 @@ use Rattle.manopluea.specs.Drawings.{Drawn, RowDrawn, TooFar, NamesTooFar, RowsD
 use Rattle.sight.specs.declared.list.Counts.{Counts}
 use Rattle.limits.specs.declared.Refusal.{Refusal}
 use Rattle.std.specs.Prelude.{Err, Ok, Result, Some, Option}
+use Rattle.limits.proofs.Handed.{ok_same, some_same}
 
 -- ---- too far, by the definition's test and in words
 
@@ -108,15 +109,13 @@ module _ (kind : ℕ) (cs : List ℤ) (ts ds : List ℕ) (a : Query) (before : L
     rows_are e = sym e ∙ ap (λ (p : Result Counts Refusal × List ℕ). p.0) (list_writes_the_rows kind cs ts ds a table s.view s.room)
 
     counted : {n c : ℕ} → (listed kind cs ts ds a table).0 ≡ Ok (record { rows = n; crossings = c }) → n ≡ length rs
-    counted e = let h = rows_are e in cc
+    counted e = ap (λ (m : Counts). m.rows) (ok_same (rows_are e))
 
     -- the stand's own point
     same_point : (x y : ℤ) → stood cs a.stand ≡ Some (x, y) → ◌≡◌ {A = Point} (record { x = x; y = y }) q
     same_point x y e =
         let f : ◌≡◌ {A = Option (ℤ × ℤ)} (Some (s.x, s.y)) (Some (x, y)) = sym (view_says kind cs ts ds a s.view).spotted.stand_is ∙ e in
-        let same_x : x ≡ s.x = cc in
-        let same_y : y ≡ s.y = cc in
-        ap₂ (λ (x y : ℤ). record { x = x; y = y }) same_x same_y
+        ap (λ (p : ℤ × ℤ). record { x = p.0; y = p.1 }) (some_same (sym f))
 
     too_far_there : no_room cs before ≡ false → {i : ℕ} → i < length rs → NamesTooFar cs q (row_at (listed kind cs ts ds a table).1 i) → drawn kind cs ts ds a before ≡ (Err Far, before)
     too_far_there room {i} h f =

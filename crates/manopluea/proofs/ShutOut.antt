@@ -56,6 +56,7 @@ use Rattle.manopluea.specs.ShutOut.{as_walls, first_line_alone, other_sides_as_w
 use Rattle.manopluea.proofs.Demands.{demand_1}
 use Rattle.sight.specs.declared.list.Counts.{Counts}
 use Rattle.std.specs.Prelude.{None, Ok, Result, Some}
+use Rattle.limits.proofs.Handed.{ok_same}
 
 -- ---- plan Q from (6, 3), under a setting
 
@@ -269,6 +270,6 @@ joined_runs_break_demand_3 answer demand = other_table 10 demand (λ e. let f = 
 -- invented crossings
 pub invented_crossings_break_demand_3 : (n k : ℕ) (after : List ℕ) → (k ≡ 4 → ⊥) → Demanded (Ok (record { rows = n; crossings = k })) after → ⊥
 invented_crossings_break_demand_3 n k after other demand =
-    let e : Ok (record { rows = n; crossings = k }) ≡ Ok (record { rows = 5; crossings = 4 }) = ap (λ (p : Result Counts Refusal × List ℕ). p.0) (shut_from_the_true_list demand) in
-    let same : k ≡ 4 = cc in
+    let e : ◌≡◌ {A = Result Counts Refusal} (Ok (record { rows = n; crossings = k })) (Ok (record { rows = 5; crossings = 4 })) = ap (λ (p : Result Counts Refusal × List ℕ). p.0) (shut_from_the_true_list demand) in
+    let same : k ≡ 4 = ap (λ (m : Counts). m.crossings) (ok_same e) in
     other same

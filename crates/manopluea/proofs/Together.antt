@@ -36,6 +36,7 @@ use Rattle.manopluea.proofs.Demands.{demand_2}
 use Rattle.sight.specs.declared.list.Counts.{Counts}
 use Rattle.limits.specs.declared.Refusal.{Refusal}
 use Rattle.std.specs.Prelude.{Err, Ok, Result}
+use Rattle.limits.proofs.Handed.{ok_same}
 
 -- ---- what demand 2 asks of n rows it asks of the first 4·n numbers only
 
@@ -111,8 +112,8 @@ module _ (kind : ℕ) (cs : List ℤ) (ts ds : List ℕ) (m : Morning) (stands :
       by_asked : (c : Result Plan Refusal) → asked kind cs ts ds m.setting m.count (length table) (length replies) ≡ c → (stands_from (single kind cs ts ds m) ss table replies c).0 ≡ Ok (record { rows = n; crossings = k }) → SingleCalls kind cs ts ds m ss n k table (stands_from (single kind cs ts ds m) ss table replies c).1.0 replies (stands_from (single kind cs ts ds m) ss table replies c).1.1
       by_asked (Ok p) h answer =
           let grant = grant_says kind cs ts ds m.setting m.count (length table) (length replies) (record { plan = p; accepted = h }) in
-          let rows_added : n ≡ rows_in_all (single kind cs ts ds m) ss = cc in
-          let crossings_added : k ≡ crossings_in_all (single kind cs ts ds m) ss = cc in
+          let rows_added : n ≡ rows_in_all (single kind cs ts ds m) ss = sym (ap (λ (m : Counts). m.rows) (ok_same answer)) in
+          let crossings_added : k ≡ crossings_in_all (single kind cs ts ds m) ss = sym (ap (λ (m : Counts). m.crossings) (ok_same answer)) in
           record {
             each = λ i s at lent room.
                 let rows = rows_are_the_single_ones kind cs ts ds m stands table replies grant at lent room in

@@ -27,6 +27,7 @@ use Rattle.printing.proofs.Files.{framed_is_listed, unframed_is_refused}
 use Rattle.sight.specs.declared.list.Counts.{Counts}
 use Rattle.sight.specs.declared.view.View.{View}
 use Rattle.std.specs.Prelude.{Err, Ok, Result}
+use Rattle.limits.proofs.Handed.{ok_same}
 
 pub few_rows : (kind : ℕ) (cs : List ℤ) (ts ds : List ℕ) (a : Query) (table : List ℕ) {n k : ℕ} → (listed kind cs ts ds a table).0 ≡ Ok (record { rows = n; crossings = k }) → (n ≤ most_corners) × (4 * n ≤ length table)
 unfolding listed
@@ -42,7 +43,7 @@ few_rows kind cs ts ds a table {n} {k} e = by_view (viewed kind cs ts ds a) refl
         let q : Point = record { x = x; y = y } in
         let most = rows_never_outnumber_corners says.sound a.setting (range a.reach) q p (found_place_holds_the_stand cs says.sound.numbered ds a.setting q says.spotted.stand_place) in
         let size = counts _ _ _ says.sound.in_size in
-        let same : listing_row_count cs (cells_of kind ts) ds a.setting (range a.reach) q p ≡ n = cc in
+        let same : listing_row_count cs (cells_of kind ts) ds a.setting (range a.reach) q p ≡ n = ap (λ (m : Counts). m.rows) (ok_same e) in
         (omega (arith, size.corners_at_most), omega (arith, has_room cs table r))
 
     by_view : (v : Result View Refusal) → viewed kind cs ts ds a ≡ v → (listed_from cs (cells_of kind ts) ds a.setting (range a.reach) table v).0 ≡ Ok (record { rows = n; crossings = k }) → (n ≤ most_corners) × (4 * n ≤ length table)

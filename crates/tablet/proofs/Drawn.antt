@@ -36,6 +36,7 @@ use Rattle.tablet.proofs.Rows.{written_rows_are_read}
 use Rattle.sight.specs.declared.list.Counts.{Counts}
 use Rattle.sight.specs.declared.view.View.{View}
 use Rattle.std.specs.Prelude.{Err, None, Ok, Result, Some}
+use Rattle.limits.proofs.Handed.{ok_same, some_same}
 
 module _ (k : ℕ) (cs : List ℤ) (ts ds : List ℕ) (a : Query) (lent : List Float) where
   abbrev T : Cells
@@ -167,9 +168,9 @@ module _ (k : ℕ) (cs : List ℤ) (ts ds : List ℕ) (a : Query) where
     told =
         let s = rows_are_seen k cs ts ds a before (ap (λ (p : Result Counts Refusal × List ℕ). p.0) (sym as_listed)) in
         let same = as_listed ∙ list_writes_the_rows k cs ts ds a before s.view s.room in
-        let rows_are : Ok (record { rows = n; crossings = c }) ≡ Ok (record { rows = length (rs s); crossings = listing_crossings cs (cells_of k ts) ds a.setting (range a.reach) (q' s) s.p }) = ap (λ (p : Result Counts Refusal × List ℕ). p.0) same in
-        let n_is : n ≡ length (rs s) = cc in
-        let c_is : c ≡ listing_crossings cs (cells_of k ts) ds a.setting (range a.reach) (q' s) s.p = cc in
+        let rows_are : ◌≡◌ {A = Result Counts Refusal} (Ok (record { rows = n; crossings = c })) (Ok (record { rows = length (rs s); crossings = listing_crossings cs (cells_of k ts) ds a.setting (range a.reach) (q' s) s.p })) = ap (λ (p : Result Counts Refusal × List ℕ). p.0) same in
+        let n_is : n ≡ length (rs s) = ap (λ (m : Counts). m.rows) (ok_same rows_are) in
+        let c_is : c ≡ listing_crossings cs (cells_of k ts) ds a.setting (range a.reach) (q' s) s.p = ap (λ (m : Counts). m.crossings) (ok_same rows_are) in
         subst (λ (m : ℕ). Told m c table) (sym n_is)
         (subst₂ (Told (length (rs s))) (sym c_is) (sym (ap (λ (p : Result Counts Refusal × List ℕ). p.1) as_listed)) (seen_is_told s))
 
@@ -192,9 +193,9 @@ module _ (k : ℕ) (cs : List ℤ) (ts ds : List ℕ) (a : Query) where
 
       pub read_is : read ≡ record { x = t.x; y = t.y }
       read_is =
-          let f = t.spot in
-          let same_u : u ≡ t.x = cc in
-          let same_v : v ≡ t.y = cc in
+          let same : ◌≡◌ {A = ℤ × ℤ} (u, v) (t.x, t.y) = some_same (sym e ∙ t.spot) in
+          let same_u : u ≡ t.x = ap (λ (q : ℤ × ℤ). q.0) same in
+          let same_v : v ≡ t.y = ap (λ (q : ℤ × ℤ). q.1) same in
           ap₂ (λ (u v : ℤ). point (to_z w64 (of_z w64 u) ∷ to_z w64 (of_z w64 v) ∷ [])) same_u same_v ∙ view_read k cs ts ds a t.view
 
       pub read_near : Near read

@@ -15,20 +15,20 @@ is_wrong-requires c = few_doors c.args.kind c.args.corners.now c.args.cells.now 
 pub returns-then-is_wrong : goal.returns-then-is_wrong
 returns-then-is_wrong c = record { value = setting_refused c.args.kind c.args.corners.now c.args.cells.now c.args.doors.now c.args.setting c.args.count c.args.room c.args.places c.requires.count_le_most_stands (sym c.check_into.ensures.value ∙ c.in_ok-plan.was) c.is_wrong.ensures c.if-is_wrong.true; faces_after = c.check_into.ensures.faces_after; firsts_after = c.check_into.ensures.firsts_after; backed = c.check_into.ensures.backed }
 
-pub overflow_mul-n : goal.overflow_mul-n
-overflow_mul-n c = omega (arith, few_corners c.args.kind c.args.corners.now c.args.cells.now c.args.doors.now (sym c.check_into.ensures.value ∙ c.in_ok-plan.was))
+pub overflow_mul-plan : goal.overflow_mul-plan
+overflow_mul-plan c = omega (arith, few_corners c.args.kind c.args.corners.now c.args.cells.now c.args.doors.now (sym c.check_into.ensures.value ∙ c.in_ok-plan.was))
 
-pub overflow_mul-n-in-Ok : goal.overflow_mul-n-in-Ok
-overflow_mul-n-in-Ok c = omega (arith, few_numbers c.args.kind c.args.corners.now c.args.cells.now c.args.doors.now c.args.setting c.args.count c.args.room c.args.places c.requires.count_le_most_stands (sym c.check_into.ensures.value ∙ c.in_ok-plan.was))
+pub overflow_mul-plan-2 : goal.overflow_mul-plan-2
+overflow_mul-plan-2 c = omega (arith, few_numbers c.args.kind c.args.corners.now c.args.cells.now c.args.doors.now c.args.setting c.args.count c.args.room c.args.places c.requires.count_le_most_stands (sym c.check_into.ensures.value ∙ c.in_ok-plan.was))
 
-pub returns-then-room-n : goal.returns-then-room-n
-returns-then-room-n c = record { value = table_too_short c.args.kind c.args.corners.now c.args.cells.now c.args.doors.now c.args.setting c.args.count c.args.room c.args.places c.requires.count_le_most_stands (sym c.check_into.ensures.value ∙ c.in_ok-plan.was) c.is_wrong.ensures c.if-is_wrong.false c.if-room-n.true; faces_after = c.check_into.ensures.faces_after; firsts_after = c.check_into.ensures.firsts_after; backed = c.check_into.ensures.backed }
+pub returns-then-room-plan : goal.returns-then-room-plan
+returns-then-room-plan c = record { value = table_too_short c.args.kind c.args.corners.now c.args.cells.now c.args.doors.now c.args.setting c.args.count c.args.room c.args.places c.requires.count_le_most_stands (sym c.check_into.ensures.value ∙ c.in_ok-plan.was) c.is_wrong.ensures c.if-is_wrong.false c.if-room-plan.true; faces_after = c.check_into.ensures.faces_after; firsts_after = c.check_into.ensures.firsts_after; backed = c.check_into.ensures.backed }
 
 pub returns-then-places-count : goal.returns-then-places-count
-returns-then-places-count c = record { value = too_few_places c.args.kind c.args.corners.now c.args.cells.now c.args.doors.now c.args.setting c.args.count c.args.room c.args.places c.requires.count_le_most_stands (sym c.check_into.ensures.value ∙ c.in_ok-plan.was) c.is_wrong.ensures c.if-is_wrong.false c.if-room-n.false c.if-places-count.true; faces_after = c.check_into.ensures.faces_after; firsts_after = c.check_into.ensures.firsts_after; backed = c.check_into.ensures.backed }
+returns-then-places-count c = record { value = too_few_places c.args.kind c.args.corners.now c.args.cells.now c.args.doors.now c.args.setting c.args.count c.args.room c.args.places c.requires.count_le_most_stands (sym c.check_into.ensures.value ∙ c.in_ok-plan.was) c.is_wrong.ensures c.if-is_wrong.false c.if-room-plan.false c.if-places-count.true; faces_after = c.check_into.ensures.faces_after; firsts_after = c.check_into.ensures.firsts_after; backed = c.check_into.ensures.backed }
 
 pub returns-in_err-plan : goal.returns-in_err-plan
 returns-in_err-plan c = record { value = handed_on c.from_residual.ensures.1 ∙ plan_refused c.args.kind c.args.corners.now c.args.cells.now c.args.doors.now c.args.setting c.args.count c.args.room c.args.places c.requires.count_le_most_stands (sym c.check_into.ensures.value ∙ c.in_err-plan.was); faces_after = c.check_into.ensures.faces_after; firsts_after = c.check_into.ensures.firsts_after; backed = c.check_into.ensures.backed }
 
-pub returns-else-places-count : goal.returns-else-places-count
-returns-else-places-count c = record { value = granted c.args.kind c.args.corners.now c.args.cells.now c.args.doors.now c.args.setting c.args.count c.args.room c.args.places c.requires.count_le_most_stands (sym c.check_into.ensures.value ∙ c.in_ok-plan.was) c.is_wrong.ensures c.if-is_wrong.false c.if-room-n.false c.if-places-count.false; faces_after = c.check_into.ensures.faces_after; firsts_after = c.check_into.ensures.firsts_after; backed = c.check_into.ensures.backed }
+pub returns : goal.returns
+returns c = record { value = granted c.args.kind c.args.corners.now c.args.cells.now c.args.doors.now c.args.setting c.args.count c.args.room c.args.places c.requires.count_le_most_stands (sym c.check_into.ensures.value ∙ c.in_ok-plan.was) c.is_wrong.ensures c.if-is_wrong.false c.if-room-plan.false c.if-places-count.false; faces_after = c.check_into.ensures.faces_after; firsts_after = c.check_into.ensures.firsts_after; backed = c.check_into.ensures.backed }

@@ -16,12 +16,12 @@ asked_in-requires c = record { cells_value = c.requires.cells_value; count_le_mo
 
 pub list_each-requires : goal.list_each-requires
 list_each-requires c = let drawn = drawn_cells c.args.kind c.args.cells.now c.asked_in.ensures.faces_after c.asked_in.ensures.firsts_after in
-    let granted = grants c.args.kind c.args.corners.now c.args.cells.now c.args.doors.now c.asked_in.ensures.value c.in_ok.was in
+    let granted = grants c.args.kind c.args.corners.now c.args.cells.now c.args.doors.now c.asked_in.ensures.value c.in_ok-asked_in.was in
     let sound = sound_on_the_tables c.args.kind c.args.corners.now c.args.cells.now c.args.doors.now c.args.morning c.args.stands c.args.table.now c.args.replies.now drawn granted in
     record { sound = noted_boxes c.args.kind c.args.corners.now c.args.cells.now c.args.doors.now _ _ drawn c.asked_in.ensures.backed sound; room_for = room_for_all c.args.kind c.args.corners.now c.args.cells.now c.args.doors.now c.args.morning c.args.stands c.args.table.now c.args.replies.now drawn granted; lines_len = (room_for_lines c.args.kind c.args.cells.now drawn c.requires.lines_len.0, c.requires.lines_len.1) }
 
-pub returns-in_err : goal.returns-in_err
-returns-in_err c = ap (λ (r : Result Counts Refusal). (r, (c.args.table.now, c.args.replies.now))) (handed_on c.from_residual.ensures.1) ∙ call_refused c.args.kind c.args.corners.now c.args.cells.now c.args.doors.now c.args.morning c.args.stands c.args.table.now c.args.replies.now (sym c.asked_in.ensures.value ∙ c.in_err.was)
+pub returns-in_err-asked_in : goal.returns-in_err-asked_in
+returns-in_err-asked_in c = ap (λ (r : Result Counts Refusal). (r, (c.args.table.now, c.args.replies.now))) (handed_on c.from_residual.ensures.1) ∙ call_refused c.args.kind c.args.corners.now c.args.cells.now c.args.doors.now c.args.morning c.args.stands c.args.table.now c.args.replies.now (sym c.asked_in.ensures.value ∙ c.in_err-asked_in.was)
 
 pub returns : goal.returns
-returns c = call_done c.args.kind c.args.corners.now c.args.cells.now c.args.doors.now c.args.morning c.args.stands c.args.table.now c.args.replies.now (drawn_cells c.args.kind c.args.cells.now c.asked_in.ensures.faces_after c.asked_in.ensures.firsts_after) (grants c.args.kind c.args.corners.now c.args.cells.now c.args.doors.now c.asked_in.ensures.value c.in_ok.was) (c.list_each.ensures.rows_value, (c.list_each.ensures.crossings_value, (c.list_each.ensures.table_after, c.list_each.ensures.replies_after)))
+returns c = call_done c.args.kind c.args.corners.now c.args.cells.now c.args.doors.now c.args.morning c.args.stands c.args.table.now c.args.replies.now (drawn_cells c.args.kind c.args.cells.now c.asked_in.ensures.faces_after c.asked_in.ensures.firsts_after) (grants c.args.kind c.args.corners.now c.args.cells.now c.args.doors.now c.asked_in.ensures.value c.in_ok-asked_in.was) (c.list_each.ensures.rows_value, (c.list_each.ensures.crossings_value, (c.list_each.ensures.table_after, c.list_each.ensures.replies_after)))
