@@ -1,15 +1,19 @@
--- `records::list::get_numbers` meets its contract.
-use Rattle.records.proofs.Stores.{numbers_go_on, numbers_end, fills_begin}
+use mathlib.Core.Path.{◌≡◌, refl, sym, ◌∙◌}
+use native.Mathlib.Omega.{arith}
+use lib.ListN.{length}
+use Rattle.records.specs.Bytes.{numbers_at}
+use Rattle.records.proofs.Spelled.{length_numbers_at}
+use Rattle.records.proofs.Stores.{number_got, sets_all}
 use Rattle.records.proofs.list.get_numbers.Goals as goal
 
 pub loop-i-init : goal.loop-i-init
-loop-i-init c = fills_begin _ 0
+unfolding numbers_at
+loop-i-init c = refl
 
 pub loop-i-preserved : goal.loop-i-preserved
-loop-i-preserved c = numbers_go_on 2 _ _ c.loop-i.invariant c.loop-i-test.true c.two.ensures.0
-
-pub shape_of-numbers : goal.shape_of-numbers
-shape_of-numbers c = c.loop-i.invariant.same_length
+loop-i-preserved c = number_got 2 _ _ _ _ c.loop-i.invariant c.two.ensures
 
 pub returns : goal.returns
-returns c = numbers_end 2 _ _ c.loop-i.invariant c.loop-i-test.false
+returns c =
+    let all : length c.args.numbers.now ≡ c.loop-i.i = omega arith in
+    rw all (c.loop-i.invariant ∙ sets_all _ _ (all ∙ sym (length_numbers_at 2 _ _ _)))
