@@ -16,6 +16,7 @@ pub fn put_corners(s: &mut [u8], at: usize, corners: &[i32])
 }
 
 // Writes numbers, two bytes each, from `at` on.
+#[tactic(auto, using(crate::proofs::Stores::number_put), unfolding(crate::specs::Bytes::all_bytes))]
 pub fn put_numbers(s: &mut [u8], at: usize, numbers: &[u16])
     requires { at + 2 * length numbers.now ≤ length s.old }
     ensures { s.new ≡ sets s.old at (all_bytes 2 numbers.now) }
@@ -36,6 +37,7 @@ pub fn get_corners(s: &[u8], at: usize, corners: &mut [i32])
 }
 
 // Fills a list with the numbers from `at` on.
+#[tactic(auto, using(crate::proofs::Stores::number_got, crate::proofs::Stores::sets_all, crate::proofs::Spelled::length_numbers_at), unfolding(crate::specs::Bytes::numbers_at))]
 pub fn get_numbers(s: &[u8], at: usize, numbers: &mut [u16])
     requires { at + 2 * length numbers.old ≤ length s.now }
     ensures { numbers.new ≡ numbers_at 2 s.now at (length numbers.old) }
