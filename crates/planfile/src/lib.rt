@@ -35,7 +35,7 @@ pub fn write(corners: &[i32], cells: &[u16], doors: &[u16], kind: u16, file: &mu
         return Checked::Refused(Refusal::Room);
     }
     record::put_corners(file, corners);
-    record::put_numbers(file, second, kind as usize, cells);
+    record::put_numbers(file, second, kind, cells);
     record::put_numbers(file, third, 3, doors);
     reply
 }
@@ -50,7 +50,7 @@ fn count_polygons(file: &[u8], at: usize, m: usize) -> Counted
     let mut c: usize = 0;
     let mut f: usize = 0;
     while i < m {
-        let sides = bytes::two(file, at + 2 * i) as u16;
+        let sides = bytes::two(file, at + 2 * i);
         if sides < Plan::LEAST_SIDES {
             return Counted::Broken;
         }
@@ -110,9 +110,9 @@ fn hand_over(
     if doors.len() < ds.len() {
         return Checked::Refused(Refusal::Room);
     }
-    list::copy_corners(cs, corners);
-    list::copy_numbers(ts, cells);
-    list::copy_numbers(ds, doors);
+    corners[..cs.len()].copy_from_slice(cs);
+    cells[..ts.len()].copy_from_slice(ts);
+    doors[..ds.len()].copy_from_slice(ds);
     checked
 }
 

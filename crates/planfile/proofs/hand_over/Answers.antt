@@ -1,4 +1,7 @@
 -- `planfile::hand_over` meets its contract.
+use mathlib.Core.Path.{refl}
+use native.Mathlib.Omega.{arith}
+use Rattle.records.proofs.Stores.{part_copied}
 use Rattle.planfile.proofs.Hands.{not_accepted, no_room_for_corners, no_room_for_cells, no_room_for_doors, all_handed}
 use Rattle.planfile.proofs.hand_over.Goals as goal
 
@@ -19,5 +22,6 @@ returns-then-doors-ds c = let parts = no_room_for_doors c.check-checked.ensures 
     record { value = parts.0; doors_after = parts.1 }
 
 pub returns : goal.returns
-returns c = let parts = all_handed c.check-checked.ensures c.args.cs.now c.args.ts.now c.args.ds.now c.args.corners.now c.args.cells.now c.args.doors.now c.in-Accepted.is c.if-corners-cs.false c.if-cells-ts.false c.if-doors-ds.false c.copy_corners.ensures c.copy_numbers.ensures c.copy_numbers-2.ensures in
+returns c = let parts = all_handed c.check-checked.ensures c.args.cs.now c.args.ts.now c.args.ds.now c.args.corners.now c.args.cells.now c.args.doors.now c.in-Accepted.is c.if-corners-cs.false c.if-cells-ts.false c.if-doors-ds.false
+    (part_copied c.args.corners.now 0 _ _ c.copy_from_slice.ensures.after refl (omega arith)) (part_copied c.args.cells.now 0 _ _ c.copy_from_slice-2.ensures.after refl (omega arith)) (part_copied c.args.doors.now 0 _ _ c.copy_from_slice-3.ensures.after refl (omega arith)) in
     record { value = parts.0; doors_after = parts.1 }
