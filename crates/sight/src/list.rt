@@ -27,7 +27,6 @@ use checking::{Sizes, measure};
 use expand::{Followed, cross};
 use limits::{Plan, Refusal};
 use lines::lines_of;
-use records::list::copy_numbers;
 use stand::locate::Footing;
 
 #[derive(Clone, Copy)]
@@ -271,7 +270,7 @@ fn list_apart(
         return Listed::Refused(Refusal::Ceiling);
     }
     let numbers = 4 * followed.rows;
-    copy_numbers(&apart[..numbers], table);
+    table[..numbers].copy_from_slice(&apart[..numbers]);
     Listed::Rows(followed.rows, left - followed.left)
 }
 
