@@ -29,7 +29,7 @@ pub fn put_two(s: &mut [u8], at: usize, n: u16)
     s[at..at + 2].copy_from_slice(&n.to_le_bytes());
 }
 
-// Writes a number's four lowest bytes from `at` on.
+// Writes a number's four lowest bytes from `at` on. (A `usize`, since the length of a list of any length is written so.)
 pub fn put_four(s: &mut [u8], at: usize, n: usize)
     requires { at + 4 ≤ length s.old }
     ensures { s.new ≡ sets s.old at (bytes 4 n) }

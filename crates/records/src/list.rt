@@ -1,4 +1,5 @@
-// Lists of numbers as bytes, signed ones by their two's complement.
+// Lists of numbers as bytes, signed ones by their two's complement. (Two pairs, and not one over a trait of numbers: the trait, its two impls and their laws
+// would be longer than the two loops that they save, and at `u16` each clause would map the identity over the numbers.)
 ghost use Rattle.std.specs.Prelude.{◌≡◌, map, ◌+◌, ◌*◌, ◌≤◌, length};
 ghost use Rattle.std.proofs.lemmas.List.Edits.{sets};
 ghost use Rattle.records.specs.Bytes.{all_bytes, numbers_at, complement, signed};
