@@ -33,7 +33,7 @@ pub fn write(corners: &[i32], cells: &[u16], doors: &[u16], kind: u16, file: &mu
         return Err(Refusal::Room);
     }
     record::put_corners(file, corners);
-    record::put_numbers(file, second, kind as usize, cells);
+    record::put_numbers(file, second, kind, cells);
     record::put_numbers(file, third, 3, doors);
     Ok(plan)
 }
@@ -48,7 +48,7 @@ fn count_polygons(file: &[u8], at: usize, m: usize) -> Counted
     let mut c: usize = 0;
     let mut f: usize = 0;
     while i < m {
-        let sides = bytes::two(file, at + 2 * i) as u16;
+        let sides = bytes::two(file, at + 2 * i);
         if sides < Plan::LEAST_SIDES {
             return Counted::Broken;
         }
@@ -96,12 +96,18 @@ fn hand_over(
     ensures doors_after { (corners.new, (cells.new, doors.new)) ≡ lists_left result cs.now ts.now ds.now corners.old cells.old doors.old }
 {
     let plan = checking::check(cs, ts, ds, kind)?;
-    if corners.len() < cs.len() || cells.len() < ts.len() || doors.len() < ds.len() {
+    if corners.len() < cs.len() {
         return Err(Refusal::Room);
     }
-    list::copy_corners(cs, corners);
-    list::copy_numbers(ts, cells);
-    list::copy_numbers(ds, doors);
+    if cells.len() < ts.len() {
+        return Err(Refusal::Room);
+    }
+    if doors.len() < ds.len() {
+        return Err(Refusal::Room);
+    }
+    corners[..cs.len()].copy_from_slice(cs);
+    cells[..ts.len()].copy_from_slice(ts);
+    doors[..ds.len()].copy_from_slice(ds);
     Ok(plan)
 }
 

@@ -17,17 +17,14 @@ pub const MOST_INPUT: usize = 65536;
 pub const MOST_TEXT: usize = 64 + 24 * Plan::MOST_CORNERS;
 
 // Does the input begin with a record of this kind, with a body of so many bytes?
-fn begins(input: &[u8], kind: usize, size: usize) -> bool
+#[tactic(auto, unfolding(crate::specs::Print::begins))]
+fn begins(input: &[u8], kind: u16, size: usize) -> bool
     requires { size ≤ 26 }
     ensures { result ≡ Print·begins input.now kind size }
 {
-    if input.len() < 6 + size {
-        return false;
-    }
-    if bytes::four(input, 0) != size {
-        return false;
-    }
-    bytes::two(input, 4) == kind
+    6 + size <= input.len()
+        && bytes::four(input, 0) as usize == size
+        && bytes::two(input, 4) == kind
 }
 
 // Lists a plan file by way of three lists that have room for the largest plan.
@@ -104,7 +101,7 @@ fn print_input(input: &[u8], text: &mut [u8]) -> usize
         return print_file(&input[30..], bits::u64_at(input, 6), stand, text);
     }
     if begins(input, 5, 26) {
-        let corner = bytes::two(input, 14) as u16;
+        let corner = bytes::two(input, 14);
         let stand = Stand::Offset(corner, bits::f64_at(input, 16), bits::f64_at(input, 24));
         return print_file(&input[32..], bits::u64_at(input, 6), stand, text);
     }

@@ -1,15 +1,14 @@
--- The frame, way out by way out: what was read, and what is said of the file. And what is known of a framed file.
+-- One record and three: when they are refused. And what is known of a framed file.
 use mathlib.Core.Bool.{Bool, true, false}
 use mathlib.Core.List.{List}
 use mathlib.Core.Logic.{◌⊎◌, inl, inr}
-use mathlib.Core.Path.{◌≡◌, refl, sym, ap, ◌∙◌}
+use mathlib.Core.Path.{◌≡◌, refl, sym, ◌∙◌}
 use Prim.Native.Nat.{ℕ, ◌+◌, ◌%◌, ◌<◌, ◌≤◌}
 use native.Mathlib.Omega.{arith}
-use borrow.Author.Tests.{eq-eqb, ne_eqb, eqb-true}
+use borrow.Author.Tests.{ne_eqb, eqb-true}
 use lib.Dec.{eqb}
 use lib.ListN.{length}
 use Rattle.exact.proofs.Truth.{both_true, one_true}
-use Rattle.records.specs.Bytes.{number_at}
 use Rattle.records.specs.Record.{body_length, kind_at, end_of, second, third, is_record, is_cells, framed}
 
 -- ---- one record
@@ -18,10 +17,6 @@ module _ (s : List ℕ) (at kind size : ℕ) {k : ℕ} (is_k : k ≡ kind_at s a
   pub of_another_kind : (k ≡ kind → ⊥) → false ≡ is_record s at kind size
   unfolding is_record
   of_another_kind h = simp (ne_eqb _ _ (λ e. h (is_k ∙ e)))
-
-  pub by_its_size : k ≡ kind → {n : ℕ} → n ≡ number_at 4 s at → eqb (n % size) 0 ≡ is_record s at kind size
-  unfolding is_record
-  by_its_size h e = simp (eq-eqb _ _ (sym is_k ∙ h), e)
 
 -- ---- a list of cells
 
@@ -44,55 +39,6 @@ unfolding framed
 past_the_end s h =
     let k : eqb (end_of s (third s)) (length s) ≡ false = ne_eqb (end_of s (third s)) (length s) (λ e. omega arith) in
     simp k
-
-module _ (s : List ℕ) where
-  pub no_first : length s < 6 → false ≡ framed s
-  no_first h = past_the_end s (omega (arith, end_after s 0, end_after s (second s), end_after s (third s)))
-
-  module _ {b : ℕ} (is_b : b ≡ second s) where
-    pub no_second : length s < b + 6 → false ≡ framed s
-    no_second h = past_the_end s (omega (arith, end_after s (second s), end_after s (third s)))
-
-    module _ {c : ℕ} (is_c : c ≡ end_of s b) where
-      at_third : c ≡ third s
-      at_third = is_c ∙ ap (end_of s) is_b
-
-      pub no_third : length s < c + 6 → false ≡ framed s
-      no_third h = let e = at_third in past_the_end s (omega (arith, end_after s (third s)))
-
-      module _ {e : ℕ} (is_e : e ≡ end_of s c) where
-        at_end : e ≡ end_of s (third s)
-        at_end = is_e ∙ ap (end_of s) at_third
-
-        pub not_all : (e ≡ length s → ⊥) → false ≡ framed s
-        unfolding framed
-        not_all h = let k : eqb (end_of s (third s)) (length s) ≡ false = ne_eqb _ _ (λ w. h (at_end ∙ w)) in simp k
-
-        module _ (all : e ≡ length s) {f : Bool} (is_f : f ≡ is_record s 0 1 8) where
-          ends : eqb (end_of s (third s)) (length s) ≡ true
-          ends = eq-eqb _ _ (sym at_end ∙ all)
-
-          pub first_wrong : f ≡ false → false ≡ framed s
-          unfolding framed
-          first_wrong h = let k : is_record s 0 1 8 ≡ false = sym is_f ∙ h in simp (ends, k)
-
-          module _ (first : f ≡ true) {g : Bool} (is_g : g ≡ is_cells s b) where
-            first_right : is_record s 0 1 8 ≡ true
-            first_right = sym is_f ∙ first
-
-            at_second : g ≡ is_cells s (second s)
-            at_second = is_g ∙ ap (is_cells s) is_b
-
-            pub second_wrong : g ≡ false → false ≡ framed s
-            unfolding framed
-            second_wrong h = let k : is_cells s (second s) ≡ false = sym at_second ∙ h in simp (ends, first_right, k)
-
-            pub by_third : g ≡ true → {r : Bool} → r ≡ is_record s c 3 2 → r ≡ framed s
-            unfolding framed
-            by_third h {r} is_r =
-                let k : is_cells s (second s) ≡ true = sym at_second ∙ h in
-                let l : r ≡ is_record s (third s) 3 2 = is_r ∙ ap (λ (at : ℕ). is_record s at 3 2) at_third in
-                simp (ends, first_right, k, l)
 
 -- ---- a framed file
 

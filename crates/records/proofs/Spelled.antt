@@ -1,7 +1,7 @@
 -- Laws of numbers and records as bytes: lengths, and a list's bytes piece by piece.
 use mathlib.Core.List.{List, [], ◌∷◌, ◌++◌, append_assoc, append-nil, map}
 use mathlib.Core.Path.{◌≡◌, refl, sym, ap, ◌∙◌}
-use Prim.Native.Nat.{ℕ, zero, suc, ◌+◌, ◌*◌, ◌/◌, ◌^◌, ◌<◌, ◌≤◌}
+use Prim.Native.Nat.{ℕ, zero, suc, ◌+◌, ◌*◌, ◌/◌, ◌<◌}
 use native.Mathlib.Nat.{mul-zero, mul-suc, add-zero}
 use native.Mathlib.Numerals.{add-one}
 use native.Mathlib.Omega.{arith}
@@ -35,43 +35,11 @@ unfolding all_bytes
 all_bytes_one_more k ns i h =
     rw (add-one i, take-suc ns i 0 h, all_bytes_append k (take i ns) (get_or ns i 0 ∷ [])) (ap (λ (bs : List ℕ). all_bytes k (take i ns) ++ bs) (append-nil (bytes k (get_or ns i 0))))
 
--- two numbers of two bytes are one of four
-pub four_bytes : (n : ℕ) → bytes 2 n ++ bytes 2 (n / 65536) ≡ bytes 4 n
-unfolding bytes
-four_bytes n =
-    let e : n / 65536 ≡ n / 256 / 256 = omega arith in
-    rw e
-
--- ---- what was read
-
-pub two_at : (s : List ℕ) (at : ℕ) {a b : ℕ} → (a ≡ get_or s at 0) × (a < 256) → (b ≡ get_or s (at + 1) 0) × (b < 256) → (a + 256 * b ≡ number_at 2 s at) × (a + 256 * b < 2 ^ 16)
-unfolding number_at
-two_at s at {a} {b} ea eb =
-    let second : b ≡ get_or s (suc at) 0 = rw (← add-one at) eb.0 in
-    (omega arith, omega arith)
-
-pub four_at : (s : List ℕ) (at : ℕ) {a b : ℕ} → (a ≡ number_at 2 s at) × (a < 2 ^ 16) → (b ≡ number_at 2 s (at + 2)) × (b < 2 ^ 16) → (a + 65536 * b ≡ number_at 4 s at) × (a + 65536 * b < 2 ^ 32)
-unfolding number_at
-four_at s at {a} {b} ea eb =
-    let two_on : at + 2 ≡ suc (suc at) = omega arith in
-    let upper : b ≡ number_at 2 s (suc (suc at)) = eb.0 ∙ ap (number_at 2 s) two_on in
-    (omega arith, omega arith)
-
-pub eight_at : (s : List ℕ) (at : ℕ) {a b : ℕ} → (a ≡ number_at 4 s at) × (a < 2 ^ 32) → (b ≡ number_at 4 s (at + 4)) × (b < 2 ^ 32) → a + 4294967296 * b ≡ number_at 8 s at
-unfolding number_at
-eight_at s at {a} {b} ea eb =
-    let four_on : at + 4 ≡ suc (suc (suc (suc at))) = omega arith in
-    let upper : b ≡ number_at 4 s (suc (suc (suc (suc at)))) = eb.0 ∙ ap (number_at 4 s) four_on in
-    omega arith
-
 -- ---- the complements of a list
 
 module _ (cs : List ℤ) (i : ℕ) where
   pub complements_below : i < length cs → i < length (map complement cs)
   complements_below h = rw (length-map cs complement) h
-
-  pub complements_end : length cs ≤ i → length (map complement cs) ≤ i
-  complements_end h = rw (length-map cs complement) h
 
   pub complement_there : complement (get_or cs i (pos 0)) ≡ get_or (map complement cs) i 0
   complement_there = sym (get_or-map complement cs i (pos 0))
@@ -90,6 +58,16 @@ number_listed k s at (suc n) zero h = rw (mul-zero k, add-zero at)
 number_listed k s at (suc n) (suc i) h =
     let e : at + k * suc i ≡ at + k + k * i = rw (mul-suc k i) (omega arith) in
     rw e (number_listed k s (at + k) n i (omega arith))
+
+pub numbers_one_more : (k : ℕ) (s : List ℕ) (at i : ℕ) → numbers_at k s at (i + 1) ≡ numbers_at k s at i ++ number_at k s (at + k * i) ∷ []
+unfolding numbers_at
+numbers_one_more k s at i = rw (add-one i) (by_count i at)
+  where
+    by_count : (i at : ℕ) → numbers_at k s at (suc i) ≡ numbers_at k s at i ++ number_at k s (at + k * i) ∷ []
+    by_count zero at = rw (mul-zero k, add-zero at) refl
+    by_count (suc i) at =
+        let e : at + k * suc i ≡ at + k + k * i = rw (mul-suc k i) (omega arith) in
+        rw e (ap (λ (l : List ℕ). number_at k s at ∷ l) (by_count i (at + k)))
 
 -- ---- lengths of records
 

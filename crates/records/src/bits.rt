@@ -4,8 +4,6 @@ ghost use Rattle.std.specs.Float.{binary64};
 ghost use Rattle.std.specs.Float.Ieee.{of_bits};
 ghost use Rattle.records.specs.Bits.{bits_at};
 
-use crate::bytes::four;
-
 // The double of a bit pattern. Every NaN's pattern gives a NaN.
 pub fn from_bits(b: u64) -> f64
     ensures { result ≡ of_bits binary64 b }
@@ -18,13 +16,21 @@ pub fn from_bits(b: u64) -> f64
 }
 
 // The number of the eight bytes at a place.
+#[tactic(auto, unfolding(crate::specs::Bytes::number_at))]
 pub fn u64_at(bytes: &[u8], at: usize) -> u64
     requires { at + 8 ≤ length bytes.now }
     ensures { result ≡ bits_at bytes.now at }
 {
-    let low = four(bytes, at);
-    let high = four(bytes, at + 4);
-    (low + 0x1_0000_0000 * high) as u64
+    u64::from_le_bytes([
+        bytes[at],
+        bytes[at + 1],
+        bytes[at + 2],
+        bytes[at + 3],
+        bytes[at + 4],
+        bytes[at + 5],
+        bytes[at + 6],
+        bytes[at + 7],
+    ])
 }
 
 // The double of the eight bytes at a place.

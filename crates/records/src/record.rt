@@ -7,7 +7,8 @@ ghost use Rattle.records.specs.Record.{record_of, corner_record, kind_at, end_of
 use crate::{bytes, list};
 
 // Writes a body's length and kind from `at` on.
-fn put_head(s: &mut [u8], at: usize, len: usize, kind: usize)
+#[tactic(auto, using(crate::proofs::Stores::head_put))]
+fn put_head(s: &mut [u8], at: usize, len: usize, kind: u16)
     requires { at + 6 ≤ length s.old }
     ensures { s.new ≡ sets s.old at (bytes 4 len ++ bytes 2 kind) }
 {
@@ -16,6 +17,7 @@ fn put_head(s: &mut [u8], at: usize, len: usize, kind: usize)
 }
 
 // Writes the corners' record at the beginning.
+#[tactic(auto, using(crate::proofs::Stores::corner_record_put))]
 pub fn put_corners(s: &mut [u8], corners: &[i32])
     requires { 6 + 4 * length corners.now ≤ length s.old }
     ensures { s.new ≡ sets s.old 0 (corner_record corners.now) }
@@ -25,7 +27,8 @@ pub fn put_corners(s: &mut [u8], corners: &[i32])
 }
 
 // Writes a record of two-byte numbers from `at` on.
-pub fn put_numbers(s: &mut [u8], at: usize, kind: usize, numbers: &[u16])
+#[tactic(auto, using(crate::proofs::Stores::number_record_put))]
+pub fn put_numbers(s: &mut [u8], at: usize, kind: u16, numbers: &[u16])
     requires { at + 6 + 2 * length numbers.now ≤ length s.old }
     ensures { s.new ≡ sets s.old at (record_of kind (all_bytes 2 numbers.now)) }
 {
@@ -34,11 +37,13 @@ pub fn put_numbers(s: &mut [u8], at: usize, kind: usize, numbers: &[u16])
 }
 
 // Where the record that begins at `at` ends.
+#[tactic(auto, unfolding(crate::specs::Record::end_of))]
 pub fn end(s: &[u8], at: usize) -> usize
     requires { at + 6 ≤ length s.now }
-    ensures { (result ≡ end_of s.now at) × (result < at + 6 + 2 ^ 32) }
+    ensures value { result ≡ end_of s.now at }
+    ensures upper_bound { result < at + 6 + 2 ^ 32 }
 {
-    at + 6 + bytes::four(s, at)
+    at + 6 + bytes::four(s, at) as usize
 }
 
 // The kind of the record that begins at `at`.
@@ -46,33 +51,30 @@ pub fn kind(s: &[u8], at: usize) -> u16
     requires { at + 6 ≤ length s.now }
     ensures { result ≡ kind_at s.now at }
 {
-    bytes::two(s, at + 4) as u16
+    bytes::two(s, at + 4)
 }
 
 // Is the record that begins at `at` of this kind, and its body a multiple of `size`?
-fn is_of(s: &[u8], at: usize, wanted: u16, size: usize) -> bool
+#[tactic(auto, unfolding(crate::specs::Record::is_record))]
+fn is_of(s: &[u8], at: usize, wanted: u16, size: u32) -> bool
     requires at_in_bounds { at + 6 ≤ length s.now }
     requires size_nonzero { 0 < size }
     ensures { result ≡ is_record s.now at wanted size }
 {
-    if kind(s, at) != wanted {
-        return false;
-    }
-    bytes::four(s, at) % size == 0
+    kind(s, at) == wanted && bytes::four(s, at) % size == 0
 }
 
 // Is the record that begins at `at` a list of cells, of either kind?
+#[tactic(auto, unfolding(crate::specs::Record::is_cells))]
 fn is_cells(s: &[u8], at: usize) -> bool
     requires { at + 6 ≤ length s.now }
     ensures { result ≡ is_cells s.now at }
 {
-    if is_of(s, at, 2, 12) {
-        return true;
-    }
-    is_of(s, at, 12, 2)
+    is_of(s, at, 2, 12) || is_of(s, at, 12, 2)
 }
 
 // Is the file the three records in their order, and nothing after them?
+#[tactic(auto, using(crate::proofs::Frames::past_the_end, crate::proofs::Frames::end_after), unfolding(crate::specs::Record::framed))]
 pub fn is_framed(s: &[u8]) -> bool
     ensures { result ≡ framed s.now }
 {
@@ -87,15 +89,5 @@ pub fn is_framed(s: &[u8]) -> bool
     if s.len() < third + 6 {
         return false;
     }
-    let last = end(s, third);
-    if last != s.len() {
-        return false;
-    }
-    if !is_of(s, 0, 1, 8) {
-        return false;
-    }
-    if !is_cells(s, second) {
-        return false;
-    }
-    is_of(s, third, 3, 2)
+    end(s, third) == s.len() && is_of(s, 0, 1, 8) && is_cells(s, second) && is_of(s, third, 3, 2)
 }

@@ -24,7 +24,6 @@ use checking::measure;
 use expand::{Followed, cross};
 use limits::{Plan, Refusal};
 use lines::lines_of;
-use records::list::copy_numbers;
 use stand::locate::Footing;
 
 // How many rows were written and how many free lines were passed.
@@ -262,8 +261,11 @@ fn list_apart(
         return Err(Refusal::Ceiling);
     }
     let numbers = 4 * followed.rows;
-    copy_numbers(&apart[..numbers], table);
-    Ok(Counts { rows: followed.rows, crossings: left - followed.left })
+    table[..numbers].copy_from_slice(&apart[..numbers]);
+    Ok(Counts {
+        rows: followed.rows,
+        crossings: left - followed.left,
+    })
 }
 
 // Follows them with a ceiling or none.

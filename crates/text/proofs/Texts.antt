@@ -6,7 +6,6 @@ use native.Mathlib.Omega.{arith}
 use lib.ListN.{length, set, length-append, length-set}
 use lib.Seq.{length-sets}
 use Rattle.exact.proofs.Lent.{sets_append}
-use Rattle.records.proofs.Stores.{Fills, fills_end}
 use Rattle.text.specs.Text.{decimal, number_then}
 use Rattle.text.specs.Wrote.{Wrote}
 use Rattle.text.proofs.Decimals.{decimal_of_a_digit, decimal_of_more}
@@ -19,13 +18,6 @@ joined {old} {mid} {new} {a} {b} {at} {e} {f} u v =
       ends = let n = length-append a b in let p = u.ends in let q = v.ends in omega arith;
       fits = v.fits;
     }
-
--- a word that a loop has copied
-pub copied : {word old : List ℕ} {at : ℕ} {new : List ℕ} {i : ℕ} → Fills word old at new i → length word ≤ i → at + length word ≤ length old → Wrote old at word new (at + i)
-copied {word} {old} {at} {new} {i} f h room =
-    let same : length new ≡ length old = f.same_length in
-    let within : i ≤ length word = f.within in
-    record { is = fills_end f h; ends = omega arith; fits = omega arith }
 
 -- one byte more
 pub one_more : {old : List ℕ} {at x : ℕ} → at < length old → Wrote old at (x ∷ []) (set old at x) (at + 1)

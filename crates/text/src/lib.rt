@@ -1,4 +1,5 @@
-// Text as it is written into lent bytes: each function writes from `at` on and answers where what it wrote ends.
+// Text as it is written into lent bytes: each function writes from `at` on and answers where what it wrote ends. (Not `Display`: no clause says what a `fmt`
+// has written, and each byte that is printed is promised.)
 #![tactic(auto)]
 
 ghost use Rattle.std.specs.Prelude.{◌++◌, ◌≡◌, ◌+◌, ◌*◌, ◌<◌, ◌≤◌, length};
@@ -13,12 +14,9 @@ fn put(text: &mut [u8], at: usize, word: &[u8]) -> usize
     requires { at + length word.now ≤ length text.old }
     ensures { Wrote text.old at word.now text.new result }
 {
-    let mut i = 0;
-    while i < word.len() {
-        text[at + i] = word[i];
-        i += 1;
-    }
-    at + i
+    let end = at + word.len();
+    text[at..end].copy_from_slice(word);
+    end
 }
 
 // A number in decimal: the digits above the last, then the last.
@@ -81,31 +79,23 @@ fn put_row(text: &mut [u8], at: usize, f: u16, r: u16, l: u16, k: u16) -> usize
 
 // The lines of the first n rows of a table.
 fn put_rows(text: &mut [u8], at: usize, table: &[u16], n: usize) -> usize
-    requires n_in_bounds { at + 24 * n ≤ length text.old }
-    requires n_in_bounds_2 { 4 * n ≤ length table.now }
+    requires room { at + 24 * n ≤ length text.old }
+    requires rows_there { 4 * n ≤ length table.now }
     ensures wrote { Wrote text.old at (row_lines table.now n) text.new result }
     ensures upper_bound { result ≤ at + 24 * n }
 {
     let mut end = at;
-    let mut i = 0;
-    while i < n {
-        end = put_row(
-            text,
-            end,
-            table[4 * i],
-            table[4 * i + 1],
-            table[4 * i + 2],
-            table[4 * i + 3],
-        );
-        i += 1;
+    for i in 0..n {
+        let row = &table[4 * i..4 * i + 4];
+        end = put_row(text, end, row[0], row[1], row[2], row[3]);
     }
     end
 }
 
 // A listing's lines, at the beginning: the counts, then a line for each of the n rows of the table.
 pub fn put_listing(text: &mut [u8], table: &[u16], n: usize, k: usize) -> usize
-    requires n_in_bounds { 64 + 24 * n ≤ length text.old }
-    requires n_in_bounds_2 { 4 * n ≤ length table.now }
+    requires room { 64 + 24 * n ≤ length text.old }
+    requires rows_there { 4 * n ≤ length table.now }
     ensures { Wrote text.old 0 (count_line n k ++ row_lines table.now n) text.new result }
 {
     let end = put_counts(text, n, k);

@@ -14,7 +14,7 @@ use Rattle.planfile.proofs.read_framed.Goals.{After-end-third, Else-not-is_sized
 -- where the records lie
 places_at : (c : After-end-third) → Places c.args.file.now c.end-second.result c.end-third.result
 places_at c =
-    places c.args.file.now c.requires.file_value c.end-second.ensures.0 c.end-third.ensures.0
+    places c.args.file.now c.requires.file_value c.end-second.ensures.value c.end-third.ensures.value
 
 kind_is : {s : List ℕ} {b c k : ℕ} → Places s b c → k ≡ kind_at s b → k ≡ kind_in s
 kind_is p e = e ∙ p.kind
@@ -22,17 +22,17 @@ kind_is p e = e ∙ p.kind
 -- the lists that are lent for decoding have room
 spaces_at : (c : Else-not-is_sized) → Spaces c.args.file.now c.end-second.result c.end-third.result (length c.args.cs.now) (length c.args.ts.now) (length c.args.ds.now)
 spaces_at c =
-    let p = places c.args.file.now c.requires.file_value c.end-second.ensures.0 c.end-third.ensures.0 in
+    let p = places c.args.file.now c.requires.file_value c.end-second.ensures.value c.end-third.ensures.value in
     spaces _ p (sym c.is_sized.ensures ∙ c.if-not-is_sized.false) (few_cells c.args.file.now c.args.corners.now c.args.cells.now c.args.doors.now c.requires.file_value p (kind_is p c.kind-kind.ensures) c.count-counted.ensures c.in-Whole.is c.is_sized.ensures c.if-not-is_sized.false) c.requires.most_corners_in_bounds c.requires.most_cells_in_bounds c.requires.most_doors_in_bounds
 
 pub end-second-requires : goal.end-second-requires
 end-second-requires c = first_there c.args.file.now c.requires.file_value
 
 pub end-third-requires : goal.end-third-requires
-end-third-requires c = second_there c.args.file.now c.requires.file_value c.end-second.ensures.0
+end-third-requires c = second_there c.args.file.now c.requires.file_value c.end-second.ensures.value
 
 pub kind-kind-requires : goal.kind-kind-requires
-kind-kind-requires c = second_there c.args.file.now c.requires.file_value c.end-second.ensures.0
+kind-kind-requires c = second_there c.args.file.now c.requires.file_value c.end-second.ensures.value
 
 pub overflow_sub-n : goal.overflow_sub-n
 overflow_sub-n c = (places_at (goal.at.overflow_sub-n c).After-end-third).first

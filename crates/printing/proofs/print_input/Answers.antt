@@ -44,7 +44,7 @@ pub u64_at-requires-then-begins-2 : goal.u64_at-requires-then-begins-2
 u64_at-requires-then-begins-2 c = omega (arith, begins_whole c.args.input.now 5 26 (sym c.begins-2.ensures ∙ c.if-begins-2.true))
 
 pub returns-then-begins-2 : goal.returns-then-begins-2
-returns-then-begins-2 c = by_offset c.args.input.now c.if-input-gt-MOST_INPUT.false (sym c.begins.ensures ∙ c.if-begins.false) (sym c.begins-2.ensures ∙ c.if-begins-2.true) c.u64_at-then-begins-2.ensures c.two-corner.ensures.0 c.f64_at-then-begins-2.ensures c.f64_at-then-begins-2-2.ensures (rest c.args.input.now 32) c.print_file-then-begins-2.ensures
+returns-then-begins-2 c = by_offset c.args.input.now c.if-input-gt-MOST_INPUT.false (sym c.begins.ensures ∙ c.if-begins.false) (sym c.begins-2.ensures ∙ c.if-begins-2.true) c.u64_at-then-begins-2.ensures c.two-corner.ensures c.f64_at-then-begins-2.ensures c.f64_at-then-begins-2-2.ensures (rest c.args.input.now 32) c.print_file-then-begins-2.ensures
 
 pub returns : goal.returns
 returns c = no_query c.args.input.now c.if-input-gt-MOST_INPUT.false (sym c.begins.ensures ∙ c.if-begins.false) (sym c.begins-2.ensures ∙ c.if-begins-2.false) c.put_refusal-2.ensures

@@ -1,18 +1,7 @@
--- `text::put` meets its contract.
 use mathlib.Core.Path.{refl}
-use borrow.Author.Rules.{rules}
-use Rattle.records.proofs.Stores.{fills_begin, fills_go_on}
-use Rattle.text.proofs.Texts.{copied}
+use native.Mathlib.Omega.{arith}
+use Rattle.records.proofs.Stores.{part_copied}
 use Rattle.text.proofs.put.Goals as goal
 
-pub loop-i-init : goal.loop-i-init
-loop-i-init c = fills_begin _ _
-
-pub loop-i-preserved : goal.loop-i-preserved
-loop-i-preserved c = fills_go_on c.loop-i.invariant c.loop-i-test.true refl 0 refl
-
-pub shape_of-text : goal.shape_of-text
-shape_of-text c = c.loop-i.invariant.same_length
-
 pub returns : goal.returns
-returns c = copied c.loop-i.invariant c.loop-i-test.false (search rules)
+returns c = record { is = part_copied _ c.args.at _ _ c.copy_from_slice.ensures.after (omega arith) (omega arith); ends = refl; fits = omega arith }

@@ -1,13 +1,9 @@
--- `records::bytes::put_two` meets its contract.
+use mathlib.Core.Path.{◌∙◌}
 use native.Mathlib.Omega.{arith}
-use native.Mathlib.Numerals.{add-one}
-use lib.ListN.{length-set}
 use Rattle.records.specs.Bytes.{bytes}
+use Rattle.records.proofs.Stores.{part_copied}
 use Rattle.records.proofs.bytes.put_two.Goals as goal
-
-pub bounds-s-at-2 : goal.bounds-s-at-2
-bounds-s-at-2 c = simp length-set (omega arith)
 
 pub returns : goal.returns
 unfolding bytes
-returns c = rw add-one
+returns c = part_copied _ c.args.at _ (bytes 2 c.args.n) (c.copy_from_slice.ensures.after ∙ c.to_le_bytes.ensures) (omega arith) (omega arith)

@@ -1,12 +1,9 @@
 use mathlib.Core.List.{map}
-use Prim.Native.Nat.{◌-◌}
-use lib.ListN.{length}
-use Rattle.records.specs.Bytes.{complement}
-use Rattle.records.proofs.Stores.{Puts}
+use mathlib.Core.Path.{◌≡◌}
+use lib.ListN.{take}
+use lib.Seq.{sets}
+use Rattle.records.specs.Bytes.{all_bytes, complement}
 use Rattle.records.proofs.list.put_corners.Given as goal
 
 abbrev pub invariant-loop-i : goal.invariant-loop-i
-invariant-loop-i l = Puts 4 (map complement l.corners) l.initial.s l.at l.s l.i
-
-abbrev pub decreases-loop-i : goal.decreases-loop-i
-decreases-loop-i l = length l.corners - l.i
+invariant-loop-i l = l.s ≡ sets l.initial.s l.at (all_bytes 4 (take l.i (map complement l.corners)))

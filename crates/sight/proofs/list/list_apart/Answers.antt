@@ -1,8 +1,9 @@
 -- `sight::list::list_apart` meets its contract.
-use mathlib.Core.Path.{sym}
 use Prim.Native.Nat.{◌*◌, ◌≤◌}
 use native.Mathlib.Omega.{arith}
+use lib.ListN.{take}
 use lib.Seq.{length-take-le}
+use Rattle.records.proofs.Stores.{part_copied}
 use Rattle.cells.specs.Lists.{tabled}
 use Rattle.fan.specs.Sight.{Sight}
 use Rattle.sight.specs.CellTree.{stand_tree}
@@ -29,16 +30,12 @@ fits c = omega (arith, c.list_over-followed.ensures.no_more, c.requires.p_bound.
 pub slice_bounds-apart-end : goal.slice_bounds-apart-end
 slice_bounds-apart-end c = omega (arith, fits (goal.at.slice_bounds-apart-end c).Else-followed-eq0, c.list_over-followed.auto.table)
 
-pub slice_bounds-copy_numbers-end : goal.slice_bounds-copy_numbers-end
-slice_bounds-copy_numbers-end c = sym (length-take-le _ _ (omega (arith, fits (goal.at.slice_bounds-copy_numbers-end c).Else-followed-eq0, c.list_over-followed.auto.table)))
-
-pub copy_numbers-requires : goal.copy_numbers-requires
-copy_numbers-requires c = omega (arith, length-take-le (4 * c.list_over-followed.result.rows) c.list_over-followed.new.table (omega (arith, fits (goal.at.copy_numbers-requires c).Else-followed-eq0, c.list_over-followed.auto.table)), c.list_over-followed.ensures.no_more, c.requires.p_in_bounds)
-
 pub overflow_sub-result : goal.overflow_sub-result
 overflow_sub-result c = omega (arith, c.list_over-followed.ensures.passages)
 
 pub returns : goal.returns
 returns c = let x = c.list_over-followed in
     let none = c.if-followed-eq0.false in
-    ceiling_kept c.args.n c.allowance-left.ensures c.args.table.now (tree (goal.at.returns c).Start) x.ensures c.requires.p_bound.1 (omega arith) (omega (arith, c.requires.p_bound.0)) c.copy_numbers.ensures
+    let long = length-take-le (4 * x.result.rows) x.new.table (omega (arith, fits (goal.at.returns c).Else-followed-eq0, x.auto.table)) in
+    let copied = part_copied c.args.table.now 0 (4 * x.result.rows) (take (4 * x.result.rows) x.new.table) c.copy_from_slice.ensures.after long (omega (arith, x.ensures.no_more, c.requires.p_in_bounds)) in
+    ceiling_kept c.args.n c.allowance-left.ensures c.args.table.now (tree (goal.at.returns c).Start) x.ensures c.requires.p_bound.1 (omega arith) (omega (arith, c.requires.p_bound.0)) copied
