@@ -12,7 +12,6 @@ ghost use Rattle.cells.specs.Backed.{Backed};
 ghost use Rattle.boxes.specs.Boxes.{Boxed};
 ghost use Rattle.checking.specs.Sizes.{sizes_of, Fit};
 
-use draw::Counted;
 pub use limits::{Checked, Plan, Refusal};
 
 mod cell;
@@ -80,20 +79,18 @@ pub fn measure(corners: &[i32], cells: &[u16], doors: &[u16], kind: u16) -> Size
     if corners.len() % 2 != 0 {
         return Sizes::Refused(Refusal::Frame);
     }
-    match draw::count(kind, cells) {
-        Counted::Broken => Sizes::Refused(Refusal::Frame),
-        Counted::Whole(m, n) => {
-            let plan = Plan {
-                corners: corners.len() / 2,
-                cells: m,
-                doors: doors.len(),
-            };
-            if !plan.is_sized() {
-                return Sizes::Refused(Refusal::Size);
-            }
-            Sizes::Of(m, n)
-        }
+    let Some(sizes) = draw::count(kind, cells) else {
+        return Sizes::Refused(Refusal::Frame);
+    };
+    let plan = Plan {
+        corners: corners.len() / 2,
+        cells: sizes.cells,
+        doors: doors.len(),
+    };
+    if !plan.is_sized() {
+        return Sizes::Refused(Refusal::Size);
     }
+    Sizes::Of(sizes.cells, sizes.faces)
 }
 
 // The check of lists with room for their tables, which are drawn into it.

@@ -2,70 +2,69 @@
 // it, and of each cell its first face (document 01, "The plan file"; document 02, A14).
 #![tactic(auto)]
 
-ghost use Rattle.std.specs.Prelude.{suc, ◌+◌, ◌*◌, ◌^◌, ◌<◌, ◌≤◌, true, ◌≡◌, length, take, drop};
+ghost use Rattle.std.specs.Prelude.{List, ℕ, suc, ◌+◌, ◌*◌, ◌^◌, ◌<◌, ◌≤◌, true, ◌≡◌, length, take, drop};
 ghost use Rattle.std.proofs.lemmas.List.Edits.{sets};
 ghost use Rattle.limits.specs.Limits.{triangles, polygons};
 ghost use Rattle.cells.specs.Lists.{cell_count, face_count};
 ghost use Rattle.cells.specs.Cut.{cut, is_whole, cells_of, pairs};
-ghost use Rattle.draw.specs.Counted.{counted};
+ghost use Rattle.draw.specs.Counted.{counted, Tells};
 
 use limits::Plan;
 
-// The counts of cells and of faces.
+// How many cells and faces a list has.
 #[derive(Clone, Copy)]
-pub enum Counted {
-    Whole(usize, usize),
-    Broken,
+pub struct Sizes {
+    pub cells: usize,
+    pub faces: usize,
 }
 
 // Six numbers a cell, two a face.
-fn count_triangles(cells: &[u16]) -> Counted
+#[tactic(auto, using(crate::proofs::Counts::triangles_or_none))]
+fn count_triangles(cells: &[u16]) -> Option<Sizes>
     ensures { result ≡ counted triangles cells.now }
 {
-    if cells.len() % 6 != 0 {
-        return Counted::Broken;
-    }
-    Counted::Whole(cells.len() / 6, cells.len() / 2)
+    let sizes = Sizes {
+        cells: cells.len() / 6,
+        faces: cells.len() / 2,
+    };
+    (cells.len() % 6 == 0).then_some(sizes)
 }
 
-// Each cell begins with its corner count, which says where the next one begins.
-fn count_polygons(cells: &[u16]) -> Counted
-    ensures { result ≡ counted polygons cells.now }
+// The cells and faces of a list of m numbers of kind 12, where `number` tells number i. Each cell begins with its corner count, which says where the next
+// one begins, so the loop goes from cell to cell and counts no place by hand.
+pub fn count_polygons<F: Fn(usize) -> u16>(m: usize, number: F) -> Option<Sizes>
+    requires { (i : ℕ) → i < m → F.pre number i }
+    ensures { (ts : List ℕ) → length ts ≡ m → Tells (F.post number) ts → result ≡ counted polygons ts }
 {
     let mut at = 0;
-    let mut c: usize = 0;
-    let mut f: usize = 0;
-    while at < cells.len() {
-        let sides = cells[at];
-        if sides < Plan::LEAST_SIDES {
-            return Counted::Broken;
-        }
-        if Plan::MOST_SIDES < sides {
-            return Counted::Broken;
+    let mut cells = 0;
+    let mut faces = 0;
+    while at < m {
+        let sides = number(at);
+        if sides < Plan::LEAST_SIDES || Plan::MOST_SIDES < sides {
+            return None;
         }
         let n = sides as usize;
-        let last = at + 2 * n;
-        if cells.len() <= last {
-            return Counted::Broken;
+        if m - at <= 2 * n {
+            return None;
         }
-        at = last + 1;
-        c += 1;
-        f += n;
+        at += 2 * n + 1;
+        cells += 1;
+        faces += n;
     }
-    Counted::Whole(c, f)
+    Some(Sizes { cells, faces })
 }
 
 // Cuts a list of cells of the kind told into its cells: how many, and how many faces they have.
-pub fn count(kind: u16, cells: &[u16]) -> Counted
+#[tactic(auto, using(crate::proofs::Counts::other_kind_counted))]
+pub fn count(kind: u16, cells: &[u16]) -> Option<Sizes>
     ensures { result ≡ counted kind cells.now }
 {
-    if kind == Plan::TRIANGLES {
-        return count_triangles(cells);
+    match kind {
+        Plan::TRIANGLES => count_triangles(cells),
+        Plan::POLYGONS => count_polygons(cells.len(), |i| cells[i]),
+        _ => None,
     }
-    if kind == Plan::POLYGONS {
-        return count_polygons(cells);
-    }
-    Counted::Broken
 }
 
 // Draws the faces of one cell, the first of them face f. Its n corners stand at `at`, its neighbours behind them.
