@@ -1,7 +1,7 @@
 -- The counts of a list, by what it is cut into.
 use mathlib.Core.List.{List, []}
 use mathlib.Core.Path.{◌≡◌, refl, sym, ap, ap₂, ◌∙◌}
-use Prim.Native.Nat.{ℕ, ◌/◌, ◌%◌, ◌≤◌}
+use Prim.Native.Nat.{ℕ, ◌/◌, ◌%◌}
 use native.Mathlib.Omega.{arith}
 use native.Mathlib.Decide.{ℕ_discrete}
 use borrow.Author.Tests.{eq-eqb, ne_eqb}
@@ -34,8 +34,8 @@ module _ (k : ℕ) (ts : List ℕ) where
   counted_broken e = rw (ap is_whole e, counted) refl
 
   -- a loop has come to the end
-  pub all_counted : {at c f : ℕ} {done : List Cell} → Passed k ts at c f done → length ts ≤ at → cut k [] ≡ whole [] → Some (sizes c f) ≡ counted k ts
-  all_counted {at} {c} {f} {done} p h e =
+  pub all_counted : {rest : List ℕ} {c f : ℕ} {done : List Cell} → Passed k ts rest c f done → length rest ≡ 0 → cut k [] ≡ whole [] → Some (sizes c f) ≡ counted k ts
+  all_counted {rest} {c} {f} {done} p h e =
       counted_whole (all_passed p h e) (sym (cell_count_of done ∙ p.cells)) (sym (face_count_of p.polygons ∙ p.sides))
 
 -- kind 2: six numbers a cell, two a face, and nothing besides

@@ -67,57 +67,55 @@ pub fn count(kind: u16, cells: &[u16]) -> Option<Sizes>
     }
 }
 
-// Draws the faces of one cell, the first of them face f. Its n corners stand at `at`, its neighbours behind them.
-fn draw_cell(cells: &[u16], at: usize, n: usize, faces: &mut [u16], f: usize)
-    requires n_in_bounds { at + 2 * n ≤ length cells.now }
-    requires n_in_bounds_2 { 2 * (f + n) ≤ length faces.old }
-    ensures { faces.new ≡ sets faces.old (2 * f) (pairs (take n (drop at cells.now)) (take n (drop (at + n) cells.now))) }
+// Draws the faces of one cell, the first of them face f: of each side the corner at which it starts, and the neighbour across it.
+fn draw_cell(corners: &[u16], neighbours: &[u16], faces: &mut [u16], f: usize)
+    requires as_many { length neighbours.now ≡ length corners.now }
+    requires room { 2 * (f + length corners.now) ≤ length faces.old }
+    ensures { faces.new ≡ sets faces.old (2 * f) (pairs corners.now neighbours.now) }
 {
-    let mut i = 0;
-    while i < n {
+    for (i, corner) in corners.iter().enumerate() {
         let to = 2 * (f + i);
-        faces[to] = cells[at + i];
-        faces[to + 1] = cells[at + n + i];
-        i += 1;
+        faces[to] = *corner;
+        faces[to + 1] = neighbours[i];
     }
 }
 
 // The tables of cells of three corners. They are drawn before every call: where the corner count is a constant, the loop over a cell's sides is unrolled.
 fn draw_triangles(cells: &[u16], faces: &mut [u16], firsts: &mut [u16])
-    requires cells_value { is_whole (cut triangles cells.now) ≡ true }
+    requires cut_whole { is_whole (cut triangles cells.now) ≡ true }
     requires faces_len { length faces.old ≡ 2 * face_count (cells_of triangles cells.now) }
     requires firsts_len { length firsts.old ≡ suc (cell_count (cells_of triangles cells.now)) }
-    requires cells_bound { face_count (cells_of triangles cells.now) < 2 ^ 16 }
+    requires faces_bound { face_count (cells_of triangles cells.now) < 2 ^ 16 }
     ensures faces_after { faces.new ≡ (cells_of triangles cells.now).faces }
     ensures firsts_after { firsts.new ≡ (cells_of triangles cells.now).firsts }
 {
-    let m = cells.len() / 6;
     firsts[0] = 0;
-    let mut c = 0;
-    while c < m {
-        draw_cell(cells, 6 * c, 3, faces, 3 * c);
-        c += 1;
-        firsts[c] = (3 * c) as u16;
+    for (c, cell) in cells.chunks_exact(6).enumerate() {
+        let (corners, neighbours) = cell.split_at(3);
+        draw_cell(corners, neighbours, faces, 3 * c);
+        firsts[c + 1] = (3 * (c + 1)) as u16;
     }
 }
 
 // The tables of cells of any number of corners.
 fn draw_polygons(cells: &[u16], faces: &mut [u16], firsts: &mut [u16])
-    requires cells_value { is_whole (cut polygons cells.now) ≡ true }
+    requires cut_whole { is_whole (cut polygons cells.now) ≡ true }
     requires faces_len { length faces.old ≡ 2 * face_count (cells_of polygons cells.now) }
     requires firsts_len { length firsts.old ≡ suc (cell_count (cells_of polygons cells.now)) }
-    requires cells_bound { face_count (cells_of polygons cells.now) < 2 ^ 16 }
+    requires faces_bound { face_count (cells_of polygons cells.now) < 2 ^ 16 }
     ensures faces_after { faces.new ≡ (cells_of polygons cells.now).faces }
     ensures firsts_after { firsts.new ≡ (cells_of polygons cells.now).firsts }
 {
     firsts[0] = 0;
-    let mut at = 0;
+    let mut rest = cells;
     let mut c = 0;
     let mut first = 0;
-    while at < cells.len() {
-        let n = cells[at] as usize;
-        draw_cell(cells, at + 1, n, faces, first);
-        at += 2 * n + 1;
+    while let Some((sides, behind)) = rest.split_first() {
+        let n = *sides as usize;
+        let (corners, behind) = behind.split_at(n);
+        let (neighbours, behind) = behind.split_at(n);
+        draw_cell(corners, neighbours, faces, first);
+        rest = behind;
         c += 1;
         first += n;
         firsts[c] = first as u16;
@@ -126,10 +124,10 @@ fn draw_polygons(cells: &[u16], faces: &mut [u16], firsts: &mut [u16])
 
 // Draws the tables of a list that is cut into whole cells.
 pub fn draw(kind: u16, cells: &[u16], faces: &mut [u16], firsts: &mut [u16])
-    requires cells_value { is_whole (cut kind cells.now) ≡ true }
+    requires cut_whole { is_whole (cut kind cells.now) ≡ true }
     requires faces_len { length faces.old ≡ 2 * face_count (cells_of kind cells.now) }
     requires firsts_len { length firsts.old ≡ suc (cell_count (cells_of kind cells.now)) }
-    requires cells_bound { face_count (cells_of kind cells.now) < 2 ^ 16 }
+    requires faces_bound { face_count (cells_of kind cells.now) < 2 ^ 16 }
     ensures faces_after { faces.new ≡ (cells_of kind cells.now).faces }
     ensures firsts_after { firsts.new ≡ (cells_of kind cells.now).firsts }
 {
