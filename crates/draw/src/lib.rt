@@ -33,7 +33,8 @@ fn count_triangles(cells: &[u16]) -> Option<Sizes>
 // The cells and faces of a list of m numbers of kind 12, where `number` tells number i. Each cell begins with its corner count, which says where the next
 // one begins, so the loop goes from cell to cell and counts no place by hand.
 pub fn count_polygons<F: Fn(usize) -> u16>(m: usize, number: F) -> Option<Sizes>
-    requires { (i : ℕ) → i < m → F.pre number i }
+    requires m_bound { m < 2 ^ 63 }
+    requires callable { (i : ℕ) → i < m → F.pre number i }
     ensures { (ts : List ℕ) → length ts ≡ m → Tells (F.post number) ts → result ≡ counted polygons ts }
 {
     let mut at = 0;
@@ -45,10 +46,11 @@ pub fn count_polygons<F: Fn(usize) -> u16>(m: usize, number: F) -> Option<Sizes>
             return None;
         }
         let n = sides as usize;
-        if m - at <= 2 * n {
+        let last = at + 2 * n;
+        if m <= last {
             return None;
         }
-        at += 2 * n + 1;
+        at = last + 1;
         cells += 1;
         faces += n;
     }

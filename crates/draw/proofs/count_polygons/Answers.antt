@@ -14,8 +14,8 @@ returns-then-sides-lt-LEAST_SIDES g c = λ ts long l.
       | inr many ↦ too_many_corners c.loop-at.invariant c.loop-at-test.true c.number-sides.ensures ts long l (omega arith)
     ]
 
-pub returns-then-m-at : goal.returns-then-m-at
-returns-then-m-at g c = λ ts long l. past_the_end c.loop-at.invariant c.loop-at-test.true c.number-sides.ensures ts long l (omega arith)
+pub returns-then-m-last : goal.returns-then-m-last
+returns-then-m-last g c = λ ts long l. past_the_end c.loop-at.invariant c.loop-at-test.true c.number-sides.ensures ts long l (omega arith)
 
 pub loop-at-preserved : goal.loop-at-preserved
 loop-at-preserved g c = walk_goes_on c.loop-at.invariant c.loop-at-test.true c.number-sides.ensures (omega arith) (omega arith) (omega arith) (omega arith)
