@@ -1,7 +1,7 @@
 -- The counts of three lists: what was found, and what is known where they are counted.
 use mathlib.Core.Bool.{Bool, true, false}
 use mathlib.Core.List.{List}
-use mathlib.Core.Path.{◌≡◌, refl, ap, sym, ◌∙◌}
+use mathlib.Core.Path.{◌≡◌, refl, ap, ap₂, sym, ◌∙◌}
 use Prim.Native.Nat.{ℕ, suc, ◌+◌, ◌*◌, ◌%◌, ◌<◌, ◌≤◌}
 use native.Mathlib.Numerals.{add-one}
 use native.Mathlib.Omega.{arith}
@@ -10,6 +10,7 @@ use lib.Dec.{eqb}
 use lib.ListN.{length, take}
 use lib.Seq.{length-take-le}
 use lib.IntN.{ℤ}
+use Rattle.std.specs.Prelude.{Option, Some, None}
 use Rattle.exact.proofs.Truth.{both_true}
 use Rattle.limits.specs.Limits.{most_cells, most_sides, sized}
 use Rattle.limits.specs.declared.Refusal.{Refusal}
@@ -22,8 +23,7 @@ use Rattle.cells.proofs.Tables.{numbered}
 use Rattle.cells.proofs.Plans.{counts, faces_at_most}
 use Rattle.cells.proofs.Checks.{not_framed, in_a_frame, out_of_size}
 use Rattle.draw.specs.Counted.{counted}
-use Rattle.draw.specs.declared.Counted.{Counted}
-use Rattle.draw.specs.declared.Counted.TheVariants.{Whole, Broken}
+use Rattle.draw.proofs.Counts.{sizes}
 use Rattle.checking.specs.Sizes.{sizes_of, Fit}
 use Rattle.draw.specs.declared.Sizes.{Sizes}
 use Rattle.std.specs.Prelude.{Err, Ok, Result}
@@ -41,24 +41,27 @@ few_faces N h = omega (arith, faces_at_most N)
 
 module _ (k : ℕ) (ts : List ℕ) where
   -- a list that is counted is cut into whole cells
-  whole_cells : {m n : ℕ} → counted k ts ≡ Whole m n → (is_whole (cut k ts) ≡ true) × ((m ≡ cell_count (cells_of k ts)) × (n ≡ face_count (cells_of k ts)))
+  whole_cells : {z : Sizes} → counted k ts ≡ Some z → (is_whole (cut k ts) ≡ true) × ((z.cells ≡ cell_count (cells_of k ts)) × (z.faces ≡ face_count (cells_of k ts)))
   unfolding counted
-  whole_cells {m} {n} e = by_cut (is_whole (cut k ts)) refl
+  whole_cells {z} e = by_cut (is_whole (cut k ts)) refl
     where
-      by_cut : (b : Bool) → is_whole (cut k ts) ≡ b → (is_whole (cut k ts) ≡ true) × ((m ≡ cell_count (cells_of k ts)) × (n ≡ face_count (cells_of k ts)))
-      by_cut true h = let is : Whole (cell_count (cells_of k ts)) (face_count (cells_of k ts)) ≡ Whole m n = rw (h, counted) at e in (h, (cc, cc))
+      by_cut : (b : Bool) → is_whole (cut k ts) ≡ b → (is_whole (cut k ts) ≡ true) × ((z.cells ≡ cell_count (cells_of k ts)) × (z.faces ≡ face_count (cells_of k ts)))
+      by_cut true h =
+          let is : Some (sizes (cell_count (cells_of k ts)) (face_count (cells_of k ts))) ≡ Some z = rw (h, counted) at e in
+          let same : sizes (cell_count (cells_of k ts)) (face_count (cells_of k ts)) ≡ z = cc in
+          (h, (ap (λ (y : Sizes). y.cells) (sym same), ap (λ (y : Sizes). y.faces) (sym same)))
       by_cut false h =
-          let is : Broken ≡ Whole m n = rw (h, counted) at e in
+          let is : None ≡ Some z = rw (h, counted) at e in
           let z : ◌≡◌ {A = ℕ} 0 1 = cc in
           absurd (omega arith)
 
-  broken_cells : counted k ts ≡ Broken → is_whole (cut k ts) ≡ false
+  broken_cells : counted k ts ≡ None → is_whole (cut k ts) ≡ false
   unfolding counted
   broken_cells e = by_cut (is_whole (cut k ts)) refl
     where
       by_cut : (b : Bool) → is_whole (cut k ts) ≡ b → is_whole (cut k ts) ≡ false
       by_cut true h =
-          let is : Whole (cell_count (cells_of k ts)) (face_count (cells_of k ts)) ≡ Broken = rw (h, counted) at e in
+          let is : Some (sizes (cell_count (cells_of k ts)) (face_count (cells_of k ts))) ≡ None = rw (h, counted) at e in
           let z : ◌≡◌ {A = ℕ} 0 1 = cc in
           absurd (omega arith)
       by_cut false h = h
@@ -74,12 +77,12 @@ module _ (k : ℕ) (cs : List ℤ) (ts ds : List ℕ) where
   unfolding framed
   odd_corners h = unframed (simp (ne_eqb (length cs % 2) 0 h))
 
-  module _ (even : length cs % 2 ≡ 0) {r : Counted} (is_r : r ≡ counted k ts) where
-    pub no_whole_cells : r ≡ Broken → Err Frame ≡ sizes_of k cs ts ds
+  module _ (even : length cs % 2 ≡ 0) {r : Option Sizes} (is_r : r ≡ counted k ts) where
+    pub no_whole_cells : r ≡ None → Err Frame ≡ sizes_of k cs ts ds
     unfolding framed
     no_whole_cells e = unframed (simp (eq-eqb (length cs % 2) 0 even, broken_cells k ts (sym is_r ∙ e)))
 
-    module _ {m n : ℕ} (e : r ≡ Whole m n) {b : Bool} (is_b : b ≡ sized (corner_count cs) m (length ds)) where
+    module _ {z : Sizes} (e : r ≡ Some z) {b : Bool} (is_b : b ≡ sized (corner_count cs) z.cells (length ds)) where
       in_a_whole : framed k cs ts ≡ true
       unfolding framed
       in_a_whole = simp (eq-eqb (length cs % 2) 0 even, (whole_cells k ts (sym is_r ∙ e)).0)
@@ -91,11 +94,11 @@ module _ (k : ℕ) (cs : List ℤ) (ts ds : List ℕ) where
       unfolding sizes_of
       not_in_size h = rw (in_a_whole, size ∙ h, sizes_of)
 
-      pub all_counted : b ≡ true → Ok (record { cells = m; faces = n }) ≡ sizes_of k cs ts ds
+      pub all_counted : b ≡ true → Ok z ≡ sizes_of k cs ts ds
       unfolding sizes_of
       all_counted h =
           let same = (whole_cells k ts (sym is_r ∙ e)).1 in
-          rw (in_a_whole, size ∙ h, sizes_of, same.0, same.1)
+          ap₂ (λ (m n : ℕ). Ok (record { cells = m; faces = n })) same.0 same.1 ∙ rw (in_a_whole, size ∙ h, sizes_of) refl
 
   -- ---- what an answer says
 

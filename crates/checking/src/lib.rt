@@ -12,7 +12,7 @@ ghost use Rattle.cells.specs.Backed.{Backed};
 ghost use Rattle.boxes.specs.Boxes.{Boxed};
 ghost use Rattle.checking.specs.Sizes.{sizes_of, Fit};
 
-use draw::{Counted, Sizes};
+use draw::Sizes;
 use limits::{Plan, Refusal};
 
 mod cell;
@@ -74,20 +74,16 @@ pub fn measure(corners: &[i32], cells: &[u16], doors: &[u16], kind: u16) -> Resu
     if corners.len() % 2 != 0 {
         return Err(Refusal::Frame);
     }
-    match draw::count(kind, cells) {
-        Counted::Broken => Err(Refusal::Frame),
-        Counted::Whole(m, n) => {
-            let plan = Plan {
-                corners: corners.len() / 2,
-                cells: m,
-                doors: doors.len(),
-            };
-            if !plan.is_sized() {
-                return Err(Refusal::Size);
-            }
-            Ok(Sizes { cells: m, faces: n })
-        }
+    let sizes = draw::count(kind, cells).ok_or(Refusal::Frame)?;
+    let plan = Plan {
+        corners: corners.len() / 2,
+        cells: sizes.cells,
+        doors: doors.len(),
+    };
+    if !plan.is_sized() {
+        return Err(Refusal::Size);
     }
+    Ok(sizes)
 }
 
 // The check of lists with room for their tables, which are drawn into it.

@@ -4,3 +4,5 @@ pub mod Passed
 pub mod Counts
 -- loops that draw tables: the sides of one cell, and the cells drawn so far
 pub mod Drawn
+-- a loop over cells that knows its list number by number
+pub mod Walked

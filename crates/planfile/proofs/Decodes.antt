@@ -7,14 +7,14 @@ use native.Mathlib.Omega.{arith}
 use lib.ListN.{length, take, drop, length-map}
 use lib.Seq.{length-take-le, length_front, take_at}
 use lib.IntN.{ℤ}
+use Rattle.std.specs.Prelude.{Option, Some, None}
 use Rattle.limits.specs.Limits.{sized}
 use Rattle.limits.specs.declared.Refusal.{Refusal}
 use Rattle.limits.specs.declared.Refusal.TheVariants.{Frame, Size}
 use Rattle.cells.specs.Check.{checked}
 use Rattle.checking.proofs.Measures.{whole_in_frame, no_whole_cells, not_in_size, all_counted, refused_likewise, counted_fit}
 use Rattle.draw.specs.Counted.{counted}
-use Rattle.draw.specs.declared.Counted.{Counted}
-use Rattle.draw.specs.declared.Counted.TheVariants.{Whole, Broken}
+use Rattle.draw.specs.declared.Sizes.{Sizes}
 use Rattle.records.specs.Bytes.{numbers_at, signed}
 use Rattle.records.specs.Record.{framed}
 use Rattle.records.proofs.Spelled.{length_numbers_at}
@@ -111,7 +111,7 @@ module _ (s : List ℕ) (corners : List ℤ) (cells doors : List ℕ) where
     refused : {r : Refusal} → Err r ≡ checked (kind_in s) (corners_in s) (cells_in s) (doors_in s) → (Err r, (corners, (cells, doors))) ≡ read s corners cells doors
     refused {r} e = replied (sym (its_lists ∙ ap (given_room room) (sym e) ∙ refused_stays room r))
 
-    module _ {b c : ℕ} (p : Places s b c) {k : ℕ} (is_k : k ≡ kind_in s) {r : Counted} (is_r : r ≡ counted k (cells_in s)) where
+    module _ {b c : ℕ} (p : Places s b c) {k : ℕ} (is_k : k ≡ kind_in s) {r : Option Sizes} (is_r : r ≡ counted k (cells_in s)) where
       its_counts : r ≡ counted (kind_in s) (cells_in s)
       its_counts = is_r ∙ ap (λ (j : ℕ). counted j (cells_in s)) is_k
 
@@ -120,20 +120,20 @@ module _ (s : List ℕ) (corners : List ℤ) (cells doors : List ℕ) where
           let e = p.eight in
           omega (arith, corners_long p)
 
-      pub not_cut : r ≡ Broken → (Err Frame, (corners, (cells, doors))) ≡ read s corners cells doors
+      pub not_cut : r ≡ None → (ReadRefused Frame, (corners, (cells, doors))) ≡ read s corners cells doors
       not_cut h =
           refused (refused_likewise (kind_in s) (corners_in s) (cells_in s) (doors_in s) (no_whole_cells (kind_in s) (corners_in s) (cells_in s) (doors_in s) even_corners its_counts h) refl)
 
-      module _ {n f : ℕ} (w : r ≡ Whole n f) {q : Bool} (is_q : q ≡ sized ((b - 6) / 4 / 2) n ((length s - c - 6) / 2)) where
-        its_size : q ≡ sized (length (corners_in s) / 2) n (length (doors_in s))
-        its_size = is_q ∙ ap₂ (λ (i j : ℕ). sized (i / 2) n j) (sym (corners_long p)) (sym (doors_long p))
+      module _ {z : Sizes} (w : r ≡ Some z) {q : Bool} (is_q : q ≡ sized ((b - 6) / 4 / 2) z.cells ((length s - c - 6) / 2)) where
+        its_size : q ≡ sized (length (corners_in s) / 2) z.cells (length (doors_in s))
+        its_size = is_q ∙ ap₂ (λ (i j : ℕ). sized (i / 2) z.cells j) (sym (corners_long p)) (sym (doors_long p))
 
         pub wrong_size : q ≡ false → (Err Size, (corners, (cells, doors))) ≡ read s corners cells doors
         wrong_size h =
             refused (refused_likewise (kind_in s) (corners_in s) (cells_in s) (doors_in s) (not_in_size (kind_in s) (corners_in s) (cells_in s) (doors_in s) even_corners its_counts w its_size h) refl)
 
         -- a list of no more cells than a plan may have is not too long to be decoded
-        pub few_cells : q ≡ true → (c - b - 6) / 2 ≤ 17 * n
+        pub few_cells : q ≡ true → (c - b - 6) / 2 ≤ 17 * z.cells
         few_cells h =
             let fit = counted_fit (kind_in s) (corners_in s) (cells_in s) (doors_in s) (all_counted (kind_in s) (corners_in s) (cells_in s) (doors_in s) even_corners its_counts w its_size h) refl in
             omega (arith, fit.cells, cells_long p, few_numbers (by_kind (kind_in s) (cells_in s) (whole_in_frame (kind_in s) (corners_in s) (cells_in s) fit.in_frame)))

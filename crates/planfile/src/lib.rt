@@ -2,14 +2,14 @@
 #![tactic(auto)]
 
 ghost use Rattle.std.specs.Prelude.{true, ◌≡◌, ◌+◌, ◌*◌, ◌≤◌, length};
-ghost use Rattle.limits.specs.Limits.{most_corners, most_cells, most_doors, polygons};
+ghost use Rattle.limits.specs.Limits.{most_corners, most_cells, most_doors};
 ghost use Rattle.records.specs.Bytes.{numbers_at};
 ghost use Rattle.records.specs.Record.{framed};
 ghost use Rattle.draw.specs.Counted.{counted};
 ghost use Rattle.planfile.specs.File.{cells_in, kind_in};
 ghost use Rattle.planfile.specs.Calls.{written, lists_checked, lists_left, told as Calls·told, read as Calls·read};
 
-use draw::Counted;
+use draw::Sizes;
 use limits::{Plan, Refusal};
 use records::{bytes, list, record};
 
@@ -38,38 +38,9 @@ pub fn write(corners: &[i32], cells: &[u16], doors: &[u16], kind: u16, file: &mu
     Ok(plan)
 }
 
-// The cells and faces of the m numbers in the bytes from `at` on, a list of kind 12: each cell says how many corners it has, and so where the next one
-// begins.
-fn count_polygons(file: &[u8], at: usize, m: usize) -> Counted
-    requires { at + 2 * m ≤ length file.now }
-    ensures { result ≡ counted polygons (numbers_at 2 file.now at m) }
-{
-    let mut i = 0;
-    let mut c: usize = 0;
-    let mut f: usize = 0;
-    while i < m {
-        let sides = bytes::two(file, at + 2 * i);
-        if sides < Plan::LEAST_SIDES {
-            return Counted::Broken;
-        }
-        if Plan::MOST_SIDES < sides {
-            return Counted::Broken;
-        }
-        let n = sides as usize;
-        let last = i + 2 * n;
-        if m <= last {
-            return Counted::Broken;
-        }
-        i = last + 1;
-        c += 1;
-        f += n;
-    }
-    Counted::Whole(c, f)
-}
-
 // The cells and faces of a framed file's list of cells, which is of this kind and has m numbers, from `at` on. It may be longer than any list that is
 // accepted, so it is counted where it stands.
-fn count(file: &[u8], at: usize, m: usize, kind: u16) -> Counted
+fn count(file: &[u8], at: usize, m: usize, kind: u16) -> Option<Sizes>
     requires file_value { framed file.now ≡ true }
     requires m_in_bounds { at + 2 * m ≤ length file.now }
     requires kind_value { kind ≡ kind_in file.now }
@@ -77,9 +48,12 @@ fn count(file: &[u8], at: usize, m: usize, kind: u16) -> Counted
     ensures { result ≡ counted kind (cells_in file.now) }
 {
     if kind == Plan::TRIANGLES {
-        return Counted::Whole(m / 6, m / 2);
+        return Some(Sizes {
+            cells: m / 6,
+            faces: m / 2,
+        });
     }
-    count_polygons(file, at, m)
+    draw::count_polygons(m, |i| bytes::two(file, at + 2 * i) as u16)
 }
 
 // Checks three lists, the cells in a list of the kind told, and hands them over, where each has room in the list that is lent for it.
@@ -133,13 +107,10 @@ fn read_framed(
     let n = (second - 6) / 4;
     let m = (third - second - 6) / 2;
     let k = (file.len() - third - 6) / 2;
-    let counted = count(file, second + 6, m, kind);
-    let Counted::Whole(c, _) = counted else {
-        return Err(Refusal::Frame);
-    };
+    let sizes = count(file, second + 6, m, kind).ok_or(Refusal::Frame)?;
     let told = Plan {
         corners: n / 2,
-        cells: c,
+        cells: sizes.cells,
         doors: k,
     };
     if !told.is_sized() {

@@ -16,7 +16,7 @@ use Rattle.checking.proofs.Measures.{whole_in_frame, few_faces}
 use Rattle.checking.proofs.check_into.Goals as goal
 
 pub draw-requires : goal.draw-requires
-draw-requires c = record { cells_value = whole_in_frame _ _ _ c.requires.cells_value; faces_len = c.requires.faces_len; firsts_len = c.requires.firsts_len; cells_bound = few_faces (numbered c.args.kind c.args.cells.now) (counts _ _ _ c.requires.doors_value).cells_at_most }
+draw-requires c = record { cut_whole = whole_in_frame _ _ _ c.requires.cells_value; faces_len = c.requires.faces_len; firsts_len = c.requires.firsts_len; faces_bound = few_faces (numbered c.args.kind c.args.cells.now) (counts _ _ _ c.requires.doors_value).cells_at_most }
 
 pub check_tables-requires : goal.check_tables-requires
 check_tables-requires c = let T = cells_of c.args.kind c.args.cells.now in

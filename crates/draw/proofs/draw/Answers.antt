@@ -28,15 +28,15 @@ asked ts fs gs e w x y z = subst (Asked ts fs gs) e (w, (x, (y, z)))
 pub draw_triangles-requires : goal.draw_triangles-requires
 draw_triangles-requires c =
     let r = c.requires in
-    let a = asked c.args.cells.now c.args.faces.now c.args.firsts.now c.if-kind-eq-TRIANGLES.true r.cells_value r.faces_len r.firsts_len r.cells_bound in
-    record { cells_value = a.0; faces_len = a.1.0; firsts_len = a.1.1.0; cells_bound = a.1.1.1 }
+    let a = asked c.args.cells.now c.args.faces.now c.args.firsts.now c.if-kind-eq-TRIANGLES.true r.cut_whole r.faces_len r.firsts_len r.faces_bound in
+    record { cut_whole = a.0; faces_len = a.1.0; firsts_len = a.1.1.0; faces_bound = a.1.1.1 }
 
 pub draw_polygons-requires : goal.draw_polygons-requires
 draw_polygons-requires c =
     let r = c.requires in
-    let e = polygons_otherwise c.args.kind c.args.cells.now r.cells_value c.if-kind-eq-TRIANGLES.false in
-    let a = asked c.args.cells.now c.args.faces.now c.args.firsts.now e r.cells_value r.faces_len r.firsts_len r.cells_bound in
-    record { cells_value = a.0; faces_len = a.1.0; firsts_len = a.1.1.0; cells_bound = a.1.1.1 }
+    let e = polygons_otherwise c.args.kind c.args.cells.now r.cut_whole c.if-kind-eq-TRIANGLES.false in
+    let a = asked c.args.cells.now c.args.faces.now c.args.firsts.now e r.cut_whole r.faces_len r.firsts_len r.faces_bound in
+    record { cut_whole = a.0; faces_len = a.1.0; firsts_len = a.1.1.0; faces_bound = a.1.1.1 }
 
 -- and its tables are those of that kind
 told : (ts : List ℕ) {fs gs : List ℕ} {k m : ℕ} → k ≡ m → fs ≡ (cells_of m ts).faces → gs ≡ (cells_of m ts).firsts → Told ts fs gs k
@@ -51,6 +51,6 @@ returns-then-kind-eq-TRIANGLES c =
 pub returns-else-kind-eq-TRIANGLES : goal.returns-else-kind-eq-TRIANGLES
 returns-else-kind-eq-TRIANGLES c =
     let l = c.draw_polygons in
-    let e = polygons_otherwise c.args.kind c.args.cells.now c.requires.cells_value c.if-kind-eq-TRIANGLES.false in
+    let e = polygons_otherwise c.args.kind c.args.cells.now c.requires.cut_whole c.if-kind-eq-TRIANGLES.false in
     let t = told c.args.cells.now e l.ensures.faces_after l.ensures.firsts_after in
     record { faces_after = t.0; firsts_after = t.1 }

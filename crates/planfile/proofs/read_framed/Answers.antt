@@ -49,15 +49,15 @@ overflow_sub-k c = omega (arith, places_at (goal.at.overflow_sub-k c).After-end-
 pub overflow_sub-k-2 : goal.overflow_sub-k-2
 overflow_sub-k-2 c = omega (arith, places_at (goal.at.overflow_sub-k-2 c).After-end-third)
 
-pub count-counted-requires : goal.count-counted-requires
-count-counted-requires c = let p = places_at (goal.at.count-counted-requires c).After-end-third in
+pub count-requires : goal.count-requires
+count-requires c = let p = places_at (goal.at.count-requires c).After-end-third in
     record { file_value = c.requires.file_value; m_in_bounds = omega arith; kind_value = kind_is p c.kind-kind.ensures; m_value = sym p.cells }
 
 pub returns-in_default : goal.returns-in_default
-returns-in_default c = not_cut c.args.file.now c.args.corners.now c.args.cells.now c.args.doors.now c.requires.file_value (places_at (goal.at.returns-in_default c).After-end-third) (kind_is (places_at (goal.at.returns-in_default c).After-end-third) c.kind-kind.ensures) c.count-counted.ensures c.in_default.is
+returns-in_default c = not_cut c.args.file.now c.args.corners.now c.args.cells.now c.args.doors.now c.requires.file_value (places_at (goal.at.returns-in_default c).After-end-third) (kind_is (places_at (goal.at.returns-in_default c).After-end-third) c.kind-kind.ensures) c.count.ensures c.in_default.is
 
 pub returns-then-not-is_sized : goal.returns-then-not-is_sized
-returns-then-not-is_sized c = wrong_size c.args.file.now c.args.corners.now c.args.cells.now c.args.doors.now c.requires.file_value (places_at (goal.at.returns-then-not-is_sized c).After-end-third) (kind_is (places_at (goal.at.returns-then-not-is_sized c).After-end-third) c.kind-kind.ensures) c.count-counted.ensures c.in-Whole.is c.is_sized.ensures c.if-not-is_sized.true
+returns-then-not-is_sized c = wrong_size c.args.file.now c.args.corners.now c.args.cells.now c.args.doors.now c.requires.file_value (places_at (goal.at.returns-then-not-is_sized c).After-end-third) (kind_is (places_at (goal.at.returns-then-not-is_sized c).After-end-third) c.kind-kind.ensures) c.count.ensures c.in-Some.is c.is_sized.ensures c.if-not-is_sized.true
 
 pub slice_bounds-get_corners-end : goal.slice_bounds-get_corners-end
 slice_bounds-get_corners-end c = (spaces_at (goal.at.slice_bounds-get_corners-end c).Else-not-is_sized).corners
