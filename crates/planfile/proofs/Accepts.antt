@@ -1,7 +1,7 @@
 -- What is known of lists that the plan check accepts, and of a reply that asks for room.
 use mathlib.Core.Bool.{Bool, true, false, not}
 use mathlib.Core.List.{List}
-use mathlib.Core.Path.{◌≡◌, refl}
+use mathlib.Core.Path.{◌≡◌, refl, ap}
 use Prim.Native.Nat.{ℕ, ◌*◌, ◌≤◌}
 use native.Mathlib.Omega.{arith}
 use borrow.Author.Tests.{not-false}
@@ -20,6 +20,8 @@ use Rattle.checking.proofs.Measures.{whole_in_frame}
 use Rattle.planfile.specs.Calls.{given_room, told}
 use Rattle.planfile.proofs.CellLists.{Whole, by_kind, few_numbers}
 use Rattle.std.specs.Prelude.{Err, Ok, Result}
+use Rattle.limits.proofs.Handed.{ok_same}
+use Rattle.planfile.specs.declared.ReadPlan.{ReadPlan}
 
 -- a refusal does not ask for room
 pub refused_stays : (b : Bool) (r : Refusal) → given_room b (Err r) ≡ Err r
@@ -41,7 +43,9 @@ had_room false (Err r) e = let z : ◌≡◌ {A = ℕ} 0 1 = cc in absurd (omega
 
 -- the reader's answer is an acceptance where the lists were accepted, and it has their list of cells' kind and length
 pub was_told : (k m : ℕ) (c : Result Plan Refusal) {p : Plan} {j n : ℕ} → told k m c ≡ Ok (record { counts = p; kind = j; numbers = n }) → (c ≡ Ok p) × ((k ≡ j) × (m ≡ n))
-was_told k m (Ok q) e = (cc, (cc, cc))
+was_told k m (Ok q) e =
+    let same = ok_same e in
+    (ap (λ (r : ReadPlan). Ok r.counts) same, (ap (λ (r : ReadPlan). r.kind) same, ap (λ (r : ReadPlan). r.numbers) same))
 was_told k m (Err r) e = let z : ◌≡◌ {A = ℕ} 0 1 = cc in absurd (omega arith)
 
 module _ (k : ℕ) (cs : List ℤ) (ts ds : List ℕ) {p : Plan} (ok : checked k cs ts ds ≡ Ok p) where

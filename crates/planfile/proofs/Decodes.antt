@@ -120,7 +120,7 @@ module _ (s : List ℕ) (corners : List ℤ) (cells doors : List ℕ) where
           let e = p.eight in
           omega (arith, corners_long p)
 
-      pub not_cut : r ≡ None → (ReadRefused Frame, (corners, (cells, doors))) ≡ read s corners cells doors
+      pub not_cut : r ≡ None → (Err Frame, (corners, (cells, doors))) ≡ read s corners cells doors
       not_cut h =
           refused (refused_likewise (kind_in s) (corners_in s) (cells_in s) (doors_in s) (no_whole_cells (kind_in s) (corners_in s) (cells_in s) (doors_in s) even_corners its_counts h) refl)
 

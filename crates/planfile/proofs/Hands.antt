@@ -21,9 +21,8 @@ module _ {reply said : Result Plan Refusal} (is_reply : reply ≡ said) (cs : Li
   abbrev Handed : Result Plan Refusal → List ℤ → List ℕ → List ℕ → Type 0
   Handed r x y z = (r ≡ given_room room said) × ((x, (y, z)) ≡ lists_left r cs ts ds corners cells doors)
 
-  pub not_accepted : {r : Refusal} → reply ≡ Err r → Handed reply corners cells doors
-  not_accepted {r} e =
-      (e ∙ sym (ap (given_room room) (sym is_reply ∙ e) ∙ refused_stays room r), sym (ap (λ (q : Result Plan Refusal). lists_left q cs ts ds corners cells doors) e))
+  pub not_accepted : {r : Refusal} → reply ≡ Err r → Handed (Err r) corners cells doors
+  not_accepted {r} e = (sym (ap (given_room room) (sym is_reply ∙ e) ∙ refused_stays room r), refl)
 
   module _ {p : Plan} (e : reply ≡ Ok p) where
     no_room : room ≡ false → Handed (Err Room) corners cells doors
@@ -40,9 +39,9 @@ module _ {reply said : Result Plan Refusal} (is_reply : reply ≡ said) (cs : Li
         pub no_room_for_doors : length doors < length ds → Handed (Err Room) corners cells doors
         no_room_for_doors h = no_room (simp (le-leb _ _ a, le-leb _ _ b, lt-leb _ _ h))
 
-        pub all_handed : length ds ≤ length doors → {x : List ℤ} {y z : List ℕ} → x ≡ sets corners 0 cs → y ≡ sets cells 0 ts → z ≡ sets doors 0 ds → Handed reply x y z
+        pub all_handed : length ds ≤ length doors → {x : List ℤ} {y z : List ℕ} → x ≡ sets corners 0 cs → y ≡ sets cells 0 ts → z ≡ sets doors 0 ds → Handed (Ok p) x y z
         all_handed c {x} {y} {z} f g h =
             let there : room ≡ true = simp (le-leb _ _ a, le-leb _ _ b, le-leb _ _ c) in (
-              e ∙ sym (ap₂ given_room there (sym is_reply ∙ e)),
-              ap₂ (λ (l : List ℤ) (m : List ℕ × List ℕ). (l, m)) f (ap₂ (λ (l m : List ℕ). (l, m)) g h) ∙ sym (ap (λ (q : Result Plan Refusal). lists_left q cs ts ds corners cells doors) e),
+              sym (ap₂ given_room there (sym is_reply ∙ e)),
+              ap₂ (λ (l : List ℤ) (m : List ℕ × List ℕ). (l, m)) f (ap₂ (λ (l m : List ℕ). (l, m)) g h),
             )

@@ -146,7 +146,7 @@ pub the_reader_accepts_all_that_can_be_written : {s : List ℕ} {p : Plan} {k j 
 the_reader_accepts_all_that_can_be_written {p = p} {k = k} w n m l g h i =
     ap (λ (s : List ℕ). read_reply s n m l) w.is_file
     ∙ the_file_is_told k w.corners w.cells w.doors w.accepted n m l g h i
-    ∙ ap (ReadAccepted p k) w.long
+    ∙ ap (λ (n : ℕ). Ok (record { counts = p; kind = k; numbers = n })) w.long
 
 -- ---- no second reply
 

@@ -39,12 +39,11 @@ module _ (k : ℕ) (cs : List ℤ) (ts ds file : List ℕ) where
       ap (λ (l : List ℕ). (q, l)) f ∙ sym (ap (λ (p : Result Plan Refusal). (p, left_by p file (file_of k cs ts ds))) e)
 
   module _ {reply : Result Plan Refusal} (is_reply : reply ≡ checked k cs ts ds) where
-    pub not_accepted : {r : Refusal} → reply ≡ Err r → (reply, file) ≡ written k cs ts ds file
+    pub not_accepted : {r : Refusal} → reply ≡ Err r → (Err r, file) ≡ written k cs ts ds file
     unfolding written_reply
     not_accepted {r} e =
         let refused : checked k cs ts ds ≡ Err r = sym is_reply ∙ e in
-        ap (λ (q : Result Plan Refusal). (q, file)) e
-        ∙ told (ap (given_room (leb (length (file_of k cs ts ds)) (length file))) refused ∙ refused_stays (leb (length (file_of k cs ts ds)) (length file)) r) refl
+        told (ap (given_room (leb (length (file_of k cs ts ds)) (length file))) refused ∙ refused_stays (leb (length (file_of k cs ts ds)) (length file)) r) refl
 
     module _ {p : Plan} (e : reply ≡ Ok p) where
       accepted : checked k cs ts ds ≡ Ok p
@@ -55,11 +54,10 @@ module _ (k : ℕ) (cs : List ℤ) (ts ds file : List ℕ) where
       no_room is_n h =
           told (ap₂ given_room (lt-leb (length (file_of k cs ts ds)) (length file) (omega arith)) accepted) refl
 
-      pub all_written : {n : ℕ} → n ≡ length (file_of k cs ts ds) → n ≤ length file → {l : List ℕ} → l ≡ sets file 0 (file_of k cs ts ds) → (reply, l) ≡ written k cs ts ds file
+      pub all_written : {n : ℕ} → n ≡ length (file_of k cs ts ds) → n ≤ length file → {l : List ℕ} → l ≡ sets file 0 (file_of k cs ts ds) → (Ok p, l) ≡ written k cs ts ds file
       unfolding written_reply
       all_written is_n h {l} is_l =
-          ap (λ (q : Result Plan Refusal). (q, l)) e
-          ∙ told (ap₂ given_room (le-leb (length (file_of k cs ts ds)) (length file) (omega arith)) accepted) is_l
+          told (ap₂ given_room (le-leb (length (file_of k cs ts ds)) (length file) (omega arith)) accepted) is_l
 
 -- the three records, by what was left by each
 pub records_put : (k : ℕ) (cs : List ℤ) (ts ds l : List ℕ) {b c : ℕ} → b ≡ 6 + 4 * length cs → c ≡ b + 6 + 2 * length ts → {l₁ l₂ l₃ : List ℕ} → l₁ ≡ sets l 0 (corner_record cs) → l₂ ≡ sets l₁ b (record_of k (all_bytes 2 ts)) → l₃ ≡ sets l₂ c (record_of 3 (all_bytes 2 ds)) → l₃ ≡ sets l 0 (file_of k cs ts ds)

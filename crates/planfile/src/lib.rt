@@ -53,7 +53,7 @@ fn count(file: &[u8], at: usize, m: usize, kind: u16) -> Option<Sizes>
             faces: m / 2,
         });
     }
-    draw::count_polygons(m, |i| bytes::two(file, at + 2 * i) as u16)
+    draw::count_polygons(m, |i| bytes::two(file, at + 2 * i))
 }
 
 // Checks three lists, the cells in a list of the kind told, and hands them over, where each has room in the list that is lent for it.
