@@ -51,6 +51,7 @@ use Rattle.manopluea.proofs.Replies.{check_answers, read_answers, write_answers,
 use Rattle.sight.specs.declared.list.Counts.{Counts}
 use Rattle.sight.specs.declared.view.View.{View}
 use Rattle.std.specs.Prelude.{Err, Ok, Option, Result}
+use Rattle.limits.proofs.Handed.{ok_same}
 
 -- Every plan file, however damaged, every stand and every door setting gets an ending and one fixed reply. Each refusal has its own number and exact
 -- condition and writes nothing into lent memory.
@@ -94,10 +95,10 @@ module _ (kind : ℕ) (cs : List ℤ) (ts ds : List ℕ) (a : Query) (table : Li
       answer_is = ap (λ (p : Result Counts Refusal × List ℕ). p.0) from_the_view
 
       pub row_count_is : n ≡ listing_row_count cs (cells_of kind ts) ds a.setting (range a.reach) q p
-      row_count_is = let h = answer_is in cc
+      row_count_is = ap (λ (m : Counts). m.rows) (ok_same answer_is)
 
       pub crossings_are : k ≡ listing_crossings cs (cells_of kind ts) ds a.setting (range a.reach) q p
-      crossings_are = let h = answer_is in cc
+      crossings_are = ap (λ (m : Counts). m.crossings) (ok_same answer_is)
 
       pub first_numbers_are : take (4 * n) t ≡ listing_numbers cs (cells_of kind ts) ds a.setting (range a.reach) q p
       first_numbers_are = listed_anew says.sound a.setting (range a.reach) q p says.spotted.stand_place table row_count_is (has_room cs table room) (ap (λ (p : Result Counts Refusal × List ℕ). p.1) from_the_view)
