@@ -5,7 +5,7 @@
 
 ghost use Rattle.std.specs.Prelude.{◌≡◌};
 ghost use Rattle.stand.specs.declared.spot.Stand.TheVariants.{Point, Offset};
-ghost use Rattle.exports.specs.Reply.{check_left, read_left, write_left, find_left, list_left, draw_left, change_left, list_stands_left, print_left};
+ghost use Rattle.exports.specs.Reply.{query, ceiling_of, check_left, read_left, write_left, find_left, list_left, draw_left, change_left, list_stands_left, print_left};
 
 use manopluea::{Listing, Morning, Query, Refusal, Stand, Terms};
 
@@ -123,6 +123,28 @@ pub extern "C" fn manopluea_find_offset(
     reply::put_found(reply, answer);
 }
 
+// A query for a caller that has no enums: whether a reach is stated, and which; where none is, the number means nothing.
+fn query_of(setting: u64, stand: Stand, stated: bool, reach: u64) -> Query
+    ensures { result ≡ query setting stand stated reach }
+{
+    Query {
+        setting,
+        stand,
+        reach: stated.then_some(reach),
+    }
+}
+
+// A listing's query with its ceiling, which is told likewise.
+fn listing_of(query: Query, limited: bool, ceiling: u64) -> Listing
+    ensures query { result.query ≡ query }
+    ensures ceiling { result.ceiling ≡ ceiling_of limited ceiling }
+{
+    Listing {
+        query,
+        ceiling: limited.then_some(ceiling),
+    }
+}
+
 // The listing from a point; the values are row count and crossings.
 #[unsafe(no_mangle)]
 pub extern "C" fn manopluea_list_point(
@@ -150,14 +172,11 @@ pub extern "C" fn manopluea_list_point(
         cells,
         doors,
         Terms { kind },
-        Listing {
-            query: Query {
-                setting,
-                stand: Stand::Point(x, y),
-                reach: stated.then_some(reach),
-            },
-            ceiling: limited.then_some(ceiling),
-        },
+        listing_of(
+            query_of(setting, Stand::Point(x, y), stated, reach),
+            limited,
+            ceiling,
+        ),
         table,
     );
     reply::put_listed(reply, answer);
@@ -191,14 +210,11 @@ pub extern "C" fn manopluea_list_offset(
         cells,
         doors,
         Terms { kind },
-        Listing {
-            query: Query {
-                setting,
-                stand: Stand::Offset(corner, dx, dy),
-                reach: stated.then_some(reach),
-            },
-            ceiling: limited.then_some(ceiling),
-        },
+        listing_of(
+            query_of(setting, Stand::Offset(corner, dx, dy), stated, reach),
+            limited,
+            ceiling,
+        ),
         table,
     );
     reply::put_listed(reply, answer);
@@ -229,11 +245,7 @@ pub extern "C" fn manopluea_draw_point(
         cells,
         doors,
         Terms { kind },
-        Query {
-            setting,
-            stand: Stand::Point(x, y),
-            reach: stated.then_some(reach),
-        },
+        query_of(setting, Stand::Point(x, y), stated, reach),
         offsets,
     );
     reply::put_listed(reply, answer);
@@ -265,11 +277,7 @@ pub extern "C" fn manopluea_draw_offset(
         cells,
         doors,
         Terms { kind },
-        Query {
-            setting,
-            stand: Stand::Offset(corner, dx, dy),
-            reach: stated.then_some(reach),
-        },
+        query_of(setting, Stand::Offset(corner, dx, dy), stated, reach),
         offsets,
     );
     reply::put_listed(reply, answer);
@@ -303,11 +311,7 @@ pub extern "C" fn manopluea_change_point(
         cells,
         doors,
         Terms { kind },
-        Query {
-            setting,
-            stand: Stand::Point(x, y),
-            reach: stated.then_some(reach),
-        },
+        query_of(setting, Stand::Point(x, y), stated, reach),
         given,
         door,
         shut,
@@ -345,11 +349,7 @@ pub extern "C" fn manopluea_change_offset(
         cells,
         doors,
         Terms { kind },
-        Query {
-            setting,
-            stand: Stand::Offset(corner, dx, dy),
-            reach: stated.then_some(reach),
-        },
+        query_of(setting, Stand::Offset(corner, dx, dy), stated, reach),
         given,
         door,
         shut,
@@ -386,6 +386,8 @@ pub extern "C" fn manopluea_list_stands(
     }
     let count = stands.len() / 3;
     let given = stands::stands_of(stands);
+    let reach = stated.then_some(reach);
+    let ceiling = limited.then_some(ceiling);
     let answer = manopluea::list_stands(
         corners,
         cells,
@@ -394,8 +396,8 @@ pub extern "C" fn manopluea_list_stands(
         Morning {
             setting,
             count,
-            reach: stated.then_some(reach),
-            ceiling: limited.then_some(ceiling),
+            reach,
+            ceiling,
         },
         given,
         table,

@@ -74,7 +74,7 @@ module _ (file : List ℕ) (cs₀ : List ℤ) (ts₀ ds₀ : List ℕ) (room : (
             (sym (plan_refused (kind_in file) (corners_in file) (cells_in file) (doors_in file) (asks w s) (sym (by_the_check fr) ∙ e)))
             ∙ sym (framed_is_listed file w s table fr)
         by_frame false fr =
-            let both : ◌≡◌ {A = Result ReadPlan Refusal} (Err R.Frame) (Err r) = sym (unframed file (length cs₀) (length ts₀) (length ds₀) fr) ∙ e in
+            let both : ◌≡◌ {A = Result Plan Refusal} (Err R.Frame) (Err r) = sym (unframed file (length cs₀) (length ts₀) (length ds₀) fr) ∙ e in
             let same : R.Frame ≡ r = cc in
             ap (λ (q : Refusal). (Err q, table)) (sym same) ∙ sym (unframed_is_refused file w s table fr)
 
@@ -86,7 +86,7 @@ module _ (file : List ℕ) (cs₀ : List ℤ) (ts₀ ds₀ : List ℕ) (room : (
         by_frame : (b : Bool) → framed file ≡ b → framed file ≡ true
         by_frame true fr = fr
         by_frame false fr =
-            let both : ◌≡◌ {A = Result ReadPlan Refusal} (Err R.Frame) (Ok p) = sym (unframed file (length cs₀) (length ts₀) (length ds₀) fr) ∙ e in
+            let both : ◌≡◌ {A = Result Plan Refusal} (Err R.Frame) (Ok p) = sym (unframed file (length cs₀) (length ts₀) (length ds₀) fr) ∙ e in
             let z : ◌≡◌ {A = ℕ} 0 1 = cc in
             absurd (omega arith)
 
