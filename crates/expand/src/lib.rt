@@ -9,7 +9,7 @@
 ghost use Rattle.std.specs.Prelude.{ℕ, ◌+◌, ◌*◌, ◌/◌, ◌<◌, ◌≤◌, ◌||◌, List, ◌≡◌, eqb, length, get_or};
 ghost use Rattle.plane.specs.Cone.{cross as Cone·cross};
 ghost use Rattle.limits.specs.Limits.{most_reach, wall};
-ghost use Rattle.reach.specs.Reach.{far as Reach·far};
+ghost use Rattle.reach.specs.Reach.{out_of_reach};
 ghost use Rattle.fan.specs.Sight.{fan, follow, row_count, crossings, Whole};
 ghost use Rattle.expand.specs.Floor.{seen_at, placed, Near, floor_of, Lines, Starts};
 ghost use Rattle.expand.specs.Narrows.{Narrows, Splits};
@@ -74,31 +74,27 @@ fn narrow(seen: &[i32], lines: &[u16], e: usize, more: usize, r: u16, l: u16) ->
     Sides { side, more: after }
 }
 
-// Whether a line is in reach, by the corners at which it starts and ends: 0 where it is, 1 where it is not.
-fn far(seen: &[i32], start: u16, end: u16, reach: u64) -> u16
+// Is a line out of reach, by the corners at which it starts and ends?
+fn is_far(seen: &[i32], start: u16, end: u16, reach: u64) -> bool
     requires near { Near seen.now × (reach ≤ most_reach) }
     requires start_in_bounds { (start < length seen.now / 2) × (end < length seen.now / 2) }
-    ensures { result ≡ Reach·far reach (seen_at seen.now start) (seen_at seen.now end) }
+    ensures { result ≡ out_of_reach reach (seen_at seen.now start) (seen_at seen.now end) }
 {
-    if reach == 0 {
-        return 0;
-    }
-    let right = corner::at(seen, start as usize);
-    let left = corner::at(seen, end as usize);
-    if is_in_reach([right, left], reach) {
-        return 0;
-    }
-    1
+    reach != 0
+        && !is_in_reach(
+            [
+                corner::at(seen, start as usize),
+                corner::at(seen, end as usize),
+            ],
+            reach,
+        )
 }
 
 // Does sight end at a line that has this across it and is so far?
-fn is_end(across: u16, mark: u16) -> bool
-    ensures { result ≡ (eqb across wall || eqb mark 1) }
+fn is_end(across: u16, far: bool) -> bool
+    ensures { result ≡ (eqb across wall || far) }
 {
-    if across == Plan::WALL {
-        return true;
-    }
-    mark == 1
+    across == Plan::WALL || far
 }
 
 // Follows the line of face f with limits r and l to its rows, which go to the table from `at` on; `unentered` is how many cells are not yet entered, and
@@ -133,12 +129,12 @@ pub fn cross(
         let across = lines[4 * face + 1];
         let start = faces[2 * face];
         let finish = lines[4 * face];
-        let mark = far(seen, start, finish, reach);
-        if is_end(across, mark) {
+        let far = is_far(seen, start, finish, reach);
+        if is_end(across, far) {
             table[end] = face as u16;
             table[end + 1] = right;
             table[end + 2] = l;
-            table[end + 3] = mark;
+            table[end + 3] = u16::from(far);
             return Followed {
                 rows: rows + 1,
                 left: passages,

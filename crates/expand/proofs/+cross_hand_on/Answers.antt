@@ -1,28 +1,48 @@
 -- The proof of the cycle of calls {cross, hand_on}.
-use mathlib.Core.Path.{◌≡◌, refl, sym, ◌∙◌, subst}
+use mathlib.Core.Bool.{Bool, true, false, ◌||◌}
+use mathlib.Core.Path.{◌≡◌, refl, sym, ap, ◌∙◌, subst}
 use Prim.Native.Nat.{ℕ, ◌+◌, ◌*◌, ◌-◌, ◌/◌, ◌<◌, ◌≤◌}
 use mathlib.Core.List.{[]}
 use native.Mathlib.Omega.{arith}
 use lib.ListN.{length, get_or, length-set}
+use mir.Val.{bool_byte}
+use Rattle.plane.specs.Side.{Point}
+use Rattle.reach.specs.Reach.{out_of_reach, far}
 use Rattle.fan.specs.Sight.{fan, follow}
 use Rattle.fan.specs.Sight.Sight.{row, both}
+use Rattle.fan.proofs.Trees.{follow_a_wall}
 use Rattle.expand.specs.Floor.{floor_of}
 use Rattle.expand.specs.Remains.{Remains}
-use Rattle.expand.proofs.Expansion.{ends_as_tested, no_wall_where_passed, gives_a_row, Passed, passed, beyond_remains, less_remains, second_remains, none_remains, room_remains, room_for_a_row, room_for_the_first, row_follows, hands_the_last, hands_both, last_is_taken, first_takes_all, all_is_taken, ends_there}
+use Rattle.expand.proofs.Expansion.{no_wall_where_passed, Passed, passed, beyond_remains, less_remains, second_remains, none_remains, room_remains, room_for_a_row, room_for_the_first, row_follows, hands_the_last, hands_both, last_is_taken, first_takes_all, all_is_taken, ends_there}
 use Rattle.expand.proofs.+cross_hand_on.Goals as goal
 use Rattle.expand.proofs.+cross_hand_on.Goals.{cross-Then-is_end, cross-Else-is_end, cross-Else-handed-eq0, hand_on-After-narrow-sides, hand_on-Else-sides-eq0}
 
+-- a row's fourth number is what the test says, as a number
+fourth_number : (R : ℕ) (a b : Point) {test : Bool} {n : ℕ} → n ≡ bool_byte test → test ≡ out_of_reach R a b → far R a b ≡ n
+unfolding far
+fourth_number R a b {test} is_n e = ap number (sym e) ∙ by_test test ∙ sym is_n
+  where
+    number : Bool → ℕ
+    number t = elim t [ true ↦ 1 | false ↦ 0 ]
+
+    by_test : (t : Bool) → number t ≡ bool_byte t
+    by_test true = refl
+    by_test false = refl
+
 -- ---- crossing a line
+
+-- sight ends by what is across the line and how far it is, as tested
+ends_as_tested : (wall : Bool) {a far test : Bool} → a ≡ far → test ≡ (wall || a) → (wall || far) ≡ test
+ends_as_tested wall e t = sym (t ∙ ap (λ (b : Bool). wall || b) e)
 
 pub cross-bounds-faces-face : goal.cross-bounds-faces-face
 cross-bounds-faces-face t c = c.requires.lines.1.stands _ c.loop-table.invariant.1.1.0
 
 is_row : (t : ℕ) (c : cross-Then-is_end t) →
     let i = c.loop-table in
-    follow (floor_of c.args.seen.now c.args.lines.now c.args.faces.now c.args.reach) i.cells i.face i.right c.args.l ≡ row i.face i.right c.args.l c.far-mark.result
-is_row t c =
-    let ends = ends_as_tested (get_or c.args.lines.now (4 * c.loop-table.face + 1) 0) _ _ _ c.far-mark.ensures c.is_end.ensures in
-    gives_a_row (floor_of c.args.seen.now c.args.lines.now c.args.faces.now c.args.reach) c.loop-table.cells c.loop-table.face c.loop-table.right c.args.l (ends ∙ c.if-is_end.true) c.far-mark.ensures
+    let F = floor_of c.args.seen.now c.args.lines.now c.args.faces.now c.args.reach in
+    follow F i.cells i.face i.right c.args.l ≡ row i.face i.right c.args.l (F.far i.face)
+is_row t c = follow_a_wall _ _ _ _ _ (ends_as_tested _ c.is_far-far.ensures c.is_end.ensures ∙ c.if-is_end.true)
 
 row_fits : (t : ℕ) (c : cross-Then-is_end t) → c.args.at + 4 * c.loop-table.rows + 4 ≤ length c.loop-table.table
 row_fits t c = room_for_a_row _ _ (is_row t c) (room_remains _ _ _ _ _ _ _ _ c.loop-table.invariant.0 (c.requires.whole, c.requires.l_in_bounds))
@@ -37,17 +57,18 @@ pub cross-bounds-table-end-then-is_end-2 : goal.cross-bounds-table-end-then-is_e
 cross-bounds-table-end-then-is_end-2 t c = simp length-set (omega (arith, row_fits t c))
 
 pub cross-bounds-table-end-then-is_end-3 : goal.cross-bounds-table-end-then-is_end-3
-cross-bounds-table-end-then-is_end-3 t c = simp length-set (omega (arith, row_fits t c))
+cross-bounds-table-end-then-is_end-3 t c = simp length-set (omega (arith, row_fits t (goal.at.cross-bounds-table-end-then-is_end-3 t c).Then-is_end))
 
 pub cross-returns-then-is_end : goal.cross-returns-then-is_end
-cross-returns-then-is_end t c = none_remains _ _ _ _ _ _ _ _ c.loop-table.invariant.0 (row_follows _ _ _ (is_row t c)) refl
+cross-returns-then-is_end t c =
+    let number = fourth_number _ _ _ c.from.ensures c.is_far-far.ensures in
+    none_remains _ _ _ _ _ _ _ _ c.loop-table.invariant.0 (row_follows _ _ _ (is_row t (goal.at.cross-returns-then-is_end t c).Then-is_end ∙ ap (row c.loop-table.face c.loop-table.right c.args.l) number)) refl
 
 is_passed : (t : ℕ) (c : cross-Else-is_end t) →
     let i = c.loop-table in
     Passed (floor_of c.args.seen.now c.args.lines.now c.args.faces.now c.args.reach) i.cells i.face i.right c.args.l
 is_passed t c =
-    let ends = ends_as_tested (get_or c.args.lines.now (4 * c.loop-table.face + 1) 0) _ _ _ c.far-mark.ensures c.is_end.ensures in
-    passed _ c.loop-table.cells _ _ _ (ends ∙ c.if-is_end.false) c.loop-table.invariant.0.whole
+    passed _ c.loop-table.cells _ _ _ (ends_as_tested _ c.is_far-far.ensures c.is_end.ensures ∙ c.if-is_end.false) c.loop-table.invariant.0.whole
 
 -- the face on the other side
 abbrev across : (t : ℕ) → cross-Else-is_end t → ℕ
