@@ -80,14 +80,12 @@ fn is_far(seen: &[i32], start: u16, end: u16, reach: u64) -> bool
     requires start_in_bounds { (start < length seen.now / 2) × (end < length seen.now / 2) }
     ensures { result ≡ out_of_reach reach (seen_at seen.now start) (seen_at seen.now end) }
 {
-    reach != 0
-        && !is_in_reach(
-            [
-                corner::at(seen, start as usize),
-                corner::at(seen, end as usize),
-            ],
-            reach,
-        )
+    if reach == 0 {
+        return false;
+    }
+    let right = corner::at(seen, start as usize);
+    let left = corner::at(seen, end as usize);
+    !is_in_reach([right, left], reach)
 }
 
 // Does sight end at a line that has this across it and is so far?

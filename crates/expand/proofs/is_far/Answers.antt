@@ -2,7 +2,6 @@
 use mathlib.Core.Bool.{false, not}
 use mathlib.Core.Path.{◌≡◌, refl, sym, ◌∙◌, ap, ap₂}
 use Prim.Native.Nat.{ℕ, zero, suc}
-use borrow.Author.Tests.{eq-eqb}
 use Rattle.plane.specs.Side.{Point}
 use Rattle.reach.specs.Reach.{in_reach, out_of_reach}
 use Rattle.expand.proofs.is_far.Goals as goal
@@ -17,10 +16,10 @@ module _ (a b : Point) where
   limited zero n = absurd (n refl)
   limited (suc r) n = refl
 
-pub returns-then-reach-ne0 : goal.returns-then-reach-ne0
-returns-then-reach-ne0 c =
-    ap not (c.is_in_reach.ensures ∙ ap₂ (in_reach c.args.reach) c.at.ensures c.at-then-reach-ne0.ensures)
-    ∙ sym (limited _ _ c.args.reach c.if-reach-ne0.true)
+pub returns-then-reach-eq0 : goal.returns-then-reach-eq0
+returns-then-reach-eq0 c = sym (unlimited _ _ c.args.reach c.if-reach-eq0.true)
 
-pub returns-else-reach-ne0 : goal.returns-else-reach-ne0
-returns-else-reach-ne0 c = ap not (eq-eqb _ _ c.if-reach-ne0.false) ∙ sym (unlimited _ _ c.args.reach c.if-reach-ne0.false)
+pub returns : goal.returns
+returns c =
+    ap not (c.is_in_reach.ensures ∙ ap₂ (in_reach c.args.reach) c.at-right.ensures c.at-left.ensures)
+    ∙ sym (limited _ _ c.args.reach c.if-reach-eq0.false)
