@@ -21,13 +21,16 @@ struct Line {
     next: u16,
 }
 
-// Draws the line of face f.
+// Draws the line of face f. Its numbers are written one by one: a copy of four from an array takes several times as long.
 fn draw_side(lines: &mut [u16], f: usize, line: Line)
     requires { 4 * f + 3 < length lines.old }
     ensures { lines.new ≡ with_face lines.old f line.end line.across line.more line.next }
 {
     let at = 4 * f;
-    lines[at..at + 4].copy_from_slice(&[line.end, line.across, line.more, line.next]);
+    lines[at] = line.end;
+    lines[at + 1] = line.across;
+    lines[at + 2] = line.more;
+    lines[at + 3] = line.next;
 }
 
 // What is across face f, without doors.
