@@ -6,7 +6,7 @@ ghost use Rattle.std.specs.Prelude.{suc, ◌+◌, ◌*◌, ◌<◌, ◌≤◌, [
 ghost use Rattle.limits.specs.Limits.{most_cells, most_sides, wall};
 ghost use Rattle.cells.specs.Lists.{cell_count, face_count, first, neighbour, back};
 ghost use Rattle.cells.specs.Backed.{Backed};
-ghost use Rattle.face.specs.Tables.{tables};
+ghost use Rattle.face.specs.Tables.{around, tables};
 ghost use Rattle.lines.specs.Lined.{SoundCells, across as Lined·across, Drawn, Lined, with_face, shut_line};
 
 use face::Cells;
@@ -31,6 +31,15 @@ fn draw_side(lines: &mut [u16], f: usize, line: Line)
     lines[at + 1] = line.across;
     lines[at + 2] = line.more;
     lines[at + 3] = line.next;
+}
+
+// The side after side f, of the cell whose sides go from `begin` to before `end`: as `Cells::next`, which would read both numbers again for each side.
+#[tactic(auto, using(face::proofs::Tables::comes_round, face::proofs::Tables::goes_on))]
+fn after(f: usize, begin: usize, end: usize) -> usize
+    requires { f < end }
+    ensures { result ≡ around begin end f }
+{
+    if f + 1 == end { begin } else { f + 1 }
 }
 
 // What is across face f, without doors.
@@ -58,7 +67,7 @@ fn draw_cell(cells: &Cells, backs: &[u16], lines: &mut [u16], c: usize)
     let end = cells.end(c);
     let more = (end - begin - 2) as u16;
     for f in begin..end {
-        let next = cells.next(c, f);
+        let next = after(f, begin, end);
         let line = Line {
             end: cells.faces[2 * next],
             across: beyond(cells, backs, f),
