@@ -21,8 +21,3 @@ module _ (ds : List ℕ) (f g e : ℕ) where
   pub names_neither : (get_or ds e 0 ≡ f → ⊥) → (get_or ds e 0 ≡ g → ⊥) → names ds f g e ≡ false
   unfolding names
   names_neither h k = simp (ne_eqb _ _ h, ne_eqb _ _ k)
-
-  -- where it does not name the face, the other face decides
-  pub names_by_the_back : (get_or ds e 0 ≡ f → ⊥) → names ds f g e ≡ eqb (get_or ds e 0) g
-  unfolding names
-  names_by_the_back h = simp (ne_eqb (get_or ds e 0) f h)

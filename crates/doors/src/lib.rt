@@ -26,17 +26,7 @@ fn is_same_list(given: &[u16], table: &[u16], n: usize) -> bool
     requires { n ≤ length table.now }
     ensures { result ≡ same_list given.now (take n table.now) }
 {
-    if given.len() != n {
-        return false;
-    }
-    let mut i = 0;
-    while i < n {
-        if given[i] != table[i] {
-            return false;
-        }
-        i += 1;
-    }
-    true
+    given == &table[..n]
 }
 
 // Is the given list the true one under the setting? It is listed anew in the table that is lent for this; `lines` and `seen` are room to draw in.
@@ -73,11 +63,7 @@ fn is_in_wished_state(setting: u64, i: usize, shut: bool) -> bool
     requires { i < 64 }
     ensures { result ≡ in_state shut setting i }
 {
-    let now_shut = setting::is_shut(setting, i);
-    if shut {
-        return now_shut;
-    }
-    !now_shut
+    setting::is_shut(setting, i) == shut
 }
 
 // The setting with door i in the wished state.

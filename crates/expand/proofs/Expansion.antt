@@ -13,11 +13,8 @@ use lib.IntN.{ℤ}
 use lib.Signed.{le_z}
 use Rattle.exact.proofs.Order.{𝟘}
 use Rattle.exact.proofs.Truth.{neither_true}
-use Rattle.plane.specs.Side.{Point}
 use Rattle.plane.specs.Cone.{cross}
 use Rattle.limits.specs.Limits.{wall}
-use Rattle.reach.specs.Reach.{out_of_reach, far}
-use Rattle.reach.proofs.Reaching.{out_of_reach_by_its_number}
 use Rattle.exact.proofs.Lent.{sets_append}
 use Rattle.fan.specs.Sight.{Floor, Sight, fan, follow, hand_on, numbers, row_count, crossings, Whole}
 use Rattle.fan.specs.Sight.Place.{between, right_of_r, left_of_l}
@@ -26,23 +23,14 @@ use Rattle.fan.specs.Sight.Whole.{whole_row, whole_pass, whole_both}
 use Rattle.expand.specs.Floor.{seen_at, placed}
 use Rattle.expand.specs.Narrows.{Narrows}
 use Rattle.expand.specs.Remains.{Remains, Follows}
-use Rattle.fan.proofs.Trees.{follow_a_wall, follow_too_far, follow_across, fan_last, fan_both, fan_skips, fan_ends, four_numbers_a_row}
+use Rattle.fan.proofs.Trees.{follow_too_far, follow_across, fan_last, fan_both, fan_skips, fan_ends, four_numbers_a_row}
 
 -- ---- where sight ends
-
--- what is across a line, its number, and the test of both
-pub ends_as_tested : (across R : ℕ) (a b : Point) {k : ℕ} {t : Bool} → k ≡ far R a b → t ≡ (eqb across wall || eqb k 1) → (eqb across wall || out_of_reach R a b) ≡ t
-ends_as_tested across R a b h e =
-    sym (e ∙ ap (λ (k : ℕ). eqb across wall || eqb k 1) h ∙ ap (λ (b : Bool). eqb across wall || b) (out_of_reach_by_its_number R a b))
 
 pub no_wall_where_passed : (across : ℕ) (b : Bool) → (eqb across wall || b) ≡ false → across ≡ wall → ⊥
 no_wall_where_passed across b e = eqb-false _ _ (neither_true (eqb across wall) b e).0
 
 -- ---- what a line is followed to
-
--- where sight ends, to a row with the number told
-pub gives_a_row : (F : Floor) (n f r l : ℕ) {k : ℕ} → F.ends f ≡ true → k ≡ F.far f → follow F n f r l ≡ row f r l k
-gives_a_row F n f r l e h = follow_a_wall F n f r l e ∙ ap (row f r l) (sym h)
 
 not_cut : {t : Sight} → Whole t → t ≡ cut → ⊥
 not_cut whole_row e = let z : ◌≡◌ {A = ℕ} 0 1 = cc in omega arith

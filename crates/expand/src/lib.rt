@@ -9,7 +9,7 @@
 ghost use Rattle.std.specs.Prelude.{ℕ, ◌+◌, ◌*◌, ◌/◌, ◌<◌, ◌≤◌, ◌||◌, List, ◌≡◌, eqb, length, get_or};
 ghost use Rattle.plane.specs.Cone.{cross as Cone·cross};
 ghost use Rattle.limits.specs.Limits.{most_reach, wall};
-ghost use Rattle.reach.specs.Reach.{far as Reach·far};
+ghost use Rattle.reach.specs.Reach.{out_of_reach};
 ghost use Rattle.fan.specs.Sight.{fan, follow, row_count, crossings, Whole};
 ghost use Rattle.expand.specs.Floor.{seen_at, placed, Near, floor_of, Lines, Starts};
 ghost use Rattle.expand.specs.Narrows.{Narrows, Splits};
@@ -52,53 +52,46 @@ struct Sides {
 
 // The first of side e of an entered cell and the `more` sides after it that is handed on: sides that end on or right of the right limit are skipped. Where
 // it ends on or left of the left limit, no side is handed on after it; else it is the last, or ends strictly between the limits.
-fn narrow(seen: &[i32], lines: &[u16], e: usize, more: usize, r: u16, l: u16) -> Sides
+fn narrow(seen: &[i32], lines: &[u16], mut e: usize, mut more: usize, r: u16, l: u16) -> Sides
     requires lines { Lines seen.now lines.now }
     requires e_in_bounds { (4 * e + 3 < length lines.now) × (r < length seen.now / 2) × (l < length seen.now / 2) }
     ensures by_index { ((fs : List ℕ) (R : ℕ) → Narrows (floor_of seen.now lines.now fs R) r l more e result.more result.side) × (4 * result.side + 3 < length lines.now) }
     ensures splits { Splits (placed seen.now) (get_or lines.now (4 * result.side) 0) r l result.more }
 {
-    let mut side = e;
-    let mut after = more;
-    while after > 0 {
-        let v = lines[4 * side];
+    // no `for`: where it goes on is read of the table, and what is left is returned
+    while more > 0 {
+        let v = lines[4 * e];
         if turn(seen, r, v) > 0 {
             if turn(seen, v, l) > 0 {
-                return Sides { side, more: after };
+                return Sides { side: e, more };
             }
-            return Sides { side, more: 0 };
+            return Sides { side: e, more: 0 };
         }
-        side = lines[4 * side + 3] as usize;
-        after -= 1;
+        e = lines[4 * e + 3] as usize;
+        more -= 1;
     }
-    Sides { side, more: after }
+    Sides { side: e, more }
 }
 
-// Whether a line is in reach, by the corners at which it starts and ends: 0 where it is, 1 where it is not.
-fn far(seen: &[i32], start: u16, end: u16, reach: u64) -> u16
+// Is a line out of reach, by the corners at which it starts and ends?
+fn is_far(seen: &[i32], start: u16, end: u16, reach: u64) -> bool
     requires near { Near seen.now × (reach ≤ most_reach) }
     requires start_in_bounds { (start < length seen.now / 2) × (end < length seen.now / 2) }
-    ensures { result ≡ Reach·far reach (seen_at seen.now start) (seen_at seen.now end) }
+    ensures { result ≡ out_of_reach reach (seen_at seen.now start) (seen_at seen.now end) }
 {
     if reach == 0 {
-        return 0;
+        return false;
     }
     let right = corner::at(seen, start as usize);
     let left = corner::at(seen, end as usize);
-    if is_in_reach([right, left], reach) {
-        return 0;
-    }
-    1
+    !is_in_reach([right, left], reach)
 }
 
 // Does sight end at a line that has this across it and is so far?
-fn is_end(across: u16, mark: u16) -> bool
-    ensures { result ≡ (eqb across wall || eqb mark 1) }
+fn is_end(across: u16, far: bool) -> bool
+    ensures { result ≡ (eqb across wall || far) }
 {
-    if across == Plan::WALL {
-        return true;
-    }
-    mark == 1
+    across == Plan::WALL || far
 }
 
 // Follows the line of face f with limits r and l to its rows, which go to the table from `at` on; `unentered` is how many cells are not yet entered, and
@@ -110,12 +103,12 @@ pub fn cross(
     faces: &[u16],
     reach: u64,
     table: &mut [u16],
-    f: usize,
-    r: u16,
+    mut f: usize,
+    mut r: u16,
     l: u16,
     at: usize,
-    unentered: usize,
-    left: usize,
+    mut unentered: usize,
+    mut left: usize,
 ) -> Followed
     requires lines { Lines seen.now lines.now × Starts seen.now lines.now faces.now × (reach ≤ most_reach) }
     requires f_in_bounds { (4 * f + 3 < length lines.now) × (r < length seen.now / 2) × (l < length seen.now / 2) × (0 < left) }
@@ -123,45 +116,41 @@ pub fn cross(
     requires l_in_bounds { at + 4 * row_count (follow (floor_of seen.now lines.now faces.now reach) unentered f r l) ≤ length table.old }
     ensures { Follows table.old at left (follow (floor_of seen.now lines.now faces.now reach) unentered f r l) table.new result.rows result.left }
 {
-    let mut face = f;
-    let mut right = r;
-    let mut cells = unentered;
     let mut rows = 0;
-    let mut passages = left;
     loop {
         let end = at + 4 * rows;
-        let across = lines[4 * face + 1];
-        let start = faces[2 * face];
-        let finish = lines[4 * face];
-        let mark = far(seen, start, finish, reach);
-        if is_end(across, mark) {
-            table[end] = face as u16;
-            table[end + 1] = right;
+        let across = lines[4 * f + 1];
+        let start = faces[2 * f];
+        let finish = lines[4 * f];
+        let far = is_far(seen, start, finish, reach);
+        if is_end(across, far) {
+            table[end] = f as u16;
+            table[end + 1] = r;
             table[end + 2] = l;
-            table[end + 3] = mark;
+            table[end + 3] = u16::from(far);
             return Followed {
                 rows: rows + 1,
-                left: passages,
+                left,
             };
         }
-        cells -= 1;
-        passages -= 1;
-        if passages == 0 {
+        unentered -= 1;
+        left -= 1;
+        if left == 0 {
             return Followed { rows, left: 0 };
         }
         let g = 4 * (across as usize);
         let more = lines[g + 2] as usize;
         let e = lines[g + 3] as usize;
         let handed = hand_on(
-            seen, lines, faces, reach, table, e, more, right, l, end, cells, passages,
+            seen, lines, faces, reach, table, e, more, r, l, end, unentered, left,
         );
         if handed.left == 0 {
             return Followed { rows, left: 0 };
         }
         rows += handed.rows;
-        passages = handed.left;
-        face = handed.last;
-        right = handed.right;
+        left = handed.left;
+        f = handed.last;
+        r = handed.right;
     }
 }
 
@@ -183,13 +172,13 @@ fn hand_on(
     faces: &[u16],
     reach: u64,
     table: &mut [u16],
-    e: usize,
-    more: usize,
-    r: u16,
+    mut e: usize,
+    mut more: usize,
+    mut r: u16,
     l: u16,
     at: usize,
     unentered: usize,
-    left: usize,
+    mut left: usize,
 ) -> Handed
     requires lines { Lines seen.now lines.now × Starts seen.now lines.now faces.now × (reach ≤ most_reach) }
     requires e_in_bounds { (4 * e + 3 < length lines.now) × (r < length seen.now / 2) × (l < length seen.now / 2) × (0 < left) }
@@ -199,20 +188,16 @@ fn hand_on(
     ensures remains { 0 < result.left → Remains table.old at left (fan (floor_of seen.now lines.now faces.now reach) (follow (floor_of seen.now lines.now faces.now reach) unentered) more e r l) table.new (at + 4 * result.rows) result.rows result.left (follow (floor_of seen.now lines.now faces.now reach) unentered result.last result.right l) }
     ensures last_in_bounds { (4 * result.last + 3 < length lines.now) × (result.right < length seen.now / 2) }
 {
-    let mut side = e;
-    let mut after = more;
-    let mut right = r;
     let mut rows = 0;
-    let mut passages = left;
     loop {
-        let sides = narrow(seen, lines, side, after, right, l);
+        let sides = narrow(seen, lines, e, more, r, l);
         let here = sides.side;
         if sides.more == 0 {
             return Handed {
                 rows,
-                left: passages,
+                left,
                 last: here,
-                right,
+                right: r,
             };
         }
         let v = lines[4 * here];
@@ -223,24 +208,24 @@ fn hand_on(
             reach,
             table,
             here,
-            right,
+            r,
             v,
             at + 4 * rows,
             unentered,
-            passages,
+            left,
         );
         if one.left == 0 {
             return Handed {
                 rows,
                 left: 0,
                 last: here,
-                right,
+                right: r,
             };
         }
         rows += one.rows;
-        passages = one.left;
-        side = lines[4 * here + 3] as usize;
-        after = sides.more - 1;
-        right = v;
+        left = one.left;
+        e = lines[4 * here + 3] as usize;
+        more = sides.more - 1;
+        r = v;
     }
 }

@@ -11,10 +11,10 @@ ghost use Rattle.cells.specs.Backed.{Backed};
 ghost use Rattle.cells.specs.Sound.{Sound};
 ghost use Rattle.boxes.specs.Boxes.{Boxed};
 ghost use Rattle.lines.specs.Lined.{Lined};
-ghost use Rattle.checking.specs.Sizes.{sizes_of};
 ghost use Rattle.morning.specs.OverLines.{listed_on, single_on, RoomFor};
 ghost use Rattle.morning.specs.Morning.{rows_of, crossings_of, three_of, rows_in_all, crossings_in_all, all_rows, all_replies, listed_stands};
 
+use face::Cells;
 use grant::{asked_in, measure_for};
 use limits::{Plan, Refusal, reply};
 use lines::lines_of;
@@ -152,7 +152,8 @@ fn list_each(
     ensures table_after { table.new ≡ sets table.old 0 (all_rows (single_on corners.now (tabled faces.now firsts.now) doors.now setting reach ceiling) (take count stands)) }
     ensures replies_after { replies.new ≡ sets replies.old 0 (all_replies (single_on corners.now (tabled faces.now firsts.now) doors.now setting reach ceiling) (take count stands)) }
 {
-    lines_of(faces, firsts, backs, doors, setting, lines);
+    let cells = Cells { faces, firsts };
+    lines_of(&cells, backs, doors, setting, lines);
     let mut rows = 0;
     let mut crossings = 0;
     let mut i = 0;

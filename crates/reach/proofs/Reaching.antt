@@ -103,14 +103,6 @@ unfolding far
 out_of_reach_is_1 R a b e = rw (e, far)
 
 -- so the number tells
-pub out_of_reach_by_its_number : (R : ℕ) (a b : Point) → eqb (far R a b) 1 ≡ out_of_reach R a b
-unfolding far
-out_of_reach_by_its_number R a b = by_test (out_of_reach R a b)
-  where
-    by_test : (t : Bool) → eqb (elim t [ true ↦ 1 | false ↦ 0 ]) 1 ≡ t
-    by_test true = refl
-    by_test false = refl
-
 pub in_reach_by_its_number : (R : ℕ) (a b : Point) → eqb (far R a b) 0 ≡ not (out_of_reach R a b)
 unfolding far
 in_reach_by_its_number R a b = by_test (out_of_reach R a b)

@@ -21,7 +21,7 @@ use Rattle.cells.specs.Lists.{Cells, face_count, neighbour, back}
 use Rattle.cells.specs.Check.{names}
 use Rattle.cells.specs.Sound.{Sound}
 use Rattle.setting.specs.Setting.{shut, with_shut, with_open, wrong_setting, bars, ends}
-use Rattle.cells.proofs.Least.{not_both, none_holds, least_is_none, Seeks, seek_goes_on, seek_found}
+use Rattle.cells.proofs.Least.{not_both, none_holds, least_is_none}
 use Rattle.cells.proofs.Plans.{back_is_free, back_of_back}
 use Rattle.cells.proofs.Doors.{names_the_face, names_the_back, names_neither}
 
@@ -260,9 +260,9 @@ module _ (w k : ℕ) where
           absurd (omega arith)
 
   -- none is wrong for 64 doors, and one for fewer where the shift leaves something
-  pub not_wrong_for_64 : k ≡ 64 → w < 2 ^ 64 → wrong_setting w k ≡ false
+  pub none_wrong_for_64 : k ≡ 64 → w < 2 ^ 64 → wrong_setting w k ≡ false
   unfolding wrong_setting
-  not_wrong_for_64 h small =
+  none_wrong_for_64 h small =
       let l : w < 2 ^ k = rw h small in
       simp (lt-ltb _ _ l)
 
@@ -291,10 +291,6 @@ module _ (ds : List ℕ) (w f g e : ℕ) where
   pub a_door_elsewhere_bars_nothing : names ds f g e ≡ false → bars ds w f g e ≡ false
   unfolding bars
   a_door_elsewhere_bars_nothing h = simp (h, and-false (shut w e))
-
-  pub a_shut_door_bars_what_it_names : shut w e ≡ true → bars ds w f g e ≡ names ds f g e
-  unfolding bars
-  a_shut_door_bars_what_it_names h = ap (λ (a : Bool). a && names ds f g e) h
 
 module _ (T : Cells) (ds : List ℕ) (w f : ℕ) where
   pub sight_ends_at_a_wall : neighbour T f ≡ wall → ends T ds w f ≡ true
@@ -326,17 +322,6 @@ module _ (T : Cells) (ds : List ℕ) (w f : ℕ) where
   pub the_doors_decide : (neighbour T f ≡ wall → ⊥) → {g : ℕ} → g ≡ back T f → {b : Bool} → b ≡ ltb (least (bars ds w f g) (length ds) 0) (length ds) → not b ≡ not (ends T ds w f)
   the_doors_decide free is_g is_b =
       ap not (is_b ∙ ap (λ (g : ℕ). ltb (least (bars ds w f g) (length ds) 0) (length ds)) is_g ∙ sym (sight_by_the_doors free))
-
--- a loop over the doors, by the code's answer for door e
-module _ (ds : List ℕ) (w f g : ℕ) {e : ℕ} (s : Seeks (bars ds w f g) (length ds) e) (h : e < length ds) {b : Bool} (is_b : b ≡ bars ds w f g e) where
-  pub a_door_is_met : b ≡ true → true ≡ ltb (least (bars ds w f g) (length ds) 0) (length ds)
-  a_door_is_met k =
-      let is_e : e ≡ least (bars ds w f g) (length ds) 0 = seek_found s h (sym is_b ∙ k) in
-      let below : least (bars ds w f g) (length ds) 0 < length ds = rw is_e at h in
-      sym (lt-ltb _ _ below)
-
-  pub a_door_is_passed : b ≡ false → Seeks (bars ds w f g) (length ds) (e + 1)
-  a_door_is_passed k = seek_goes_on s h (sym is_b ∙ k)
 
 -- only the doors that name a face count there
 pub sight_by_the_doors_named : (T : Cells) (ds : List ℕ) (v w f : ℕ) → ((e : ℕ) → names ds f (back T f) e ≡ true → shut v e ≡ shut w e) → ends T ds v f ≡ ends T ds w f

@@ -22,6 +22,7 @@ use crate::seen::see;
 use crate::view::{Query, view_in};
 use checking::measure;
 use expand::{Followed, cross};
+use face::Cells;
 use limits::{Plan, Refusal};
 use lines::lines_of;
 use stand::locate::Footing;
@@ -318,7 +319,8 @@ pub fn list_from(
     ensures crossings_value { result.crossings ≡ listing_crossings corners.now (tabled faces.now firsts.now) doors.now setting reach (point q) p }
     ensures table_after { table.new ≡ sets table.old 0 (listing_numbers corners.now (tabled faces.now firsts.now) doors.now setting reach (point q) p) }
 {
-    lines_of(faces, firsts, backs, doors, setting, lines);
+    let cells = Cells { faces, firsts };
+    lines_of(&cells, backs, doors, setting, lines);
     see(corners, q, seen);
     list_all(seen, lines, faces, firsts, reach, table, p)
 }
@@ -345,7 +347,8 @@ fn list_at(
     requires lines_len { (length lines.old ≡ 4 * face_count (tabled faces.now firsts.now)) × (length seen.old ≡ length corners.now) }
     ensures { (result, table.new) ≡ up_to ceiling table.old (rows_from corners.now (tabled faces.now firsts.now) doors.now setting reach table.old (point q) p) }
 {
-    lines_of(faces, firsts, backs, doors, setting, lines);
+    let cells = Cells { faces, firsts };
+    lines_of(&cells, backs, doors, setting, lines);
     see(corners, q, seen);
     list_up_to(seen, lines, faces, firsts, reach, table, p, ceiling)
 }

@@ -15,9 +15,7 @@ pub fn difference(corners: &[i32], i: usize, q: [i64; 2]) -> [i64; 2]
     ensures { point result ≡ minus (corner_at corners.now i) (point q) }
 {
     let p = corner::at(corners, i);
-    let x = p[0] - q[0];
-    let y = p[1] - q[1];
-    [x, y]
+    [p[0] - q[0], p[1] - q[1]]
 }
 
 // Corner i.
@@ -27,9 +25,7 @@ fn see_corner(corners: &[i32], q: [i64; 2], seen: &mut [i32], i: usize)
     requires seen_len { length seen.old ≡ length corners.now }
     ensures { seen.new ≡ set (set seen.old (2 * i) (minus (corner_at corners.now i) (point q)).x) (2 * i + 1) (minus (corner_at corners.now i) (point q)).y }
 {
-    let d = difference(corners, i, q);
-    let x = d[0];
-    let y = d[1];
+    let [x, y] = difference(corners, i, q);
     seen[2 * i] = x as i32;
     seen[2 * i + 1] = y as i32;
 }
@@ -40,10 +36,7 @@ pub fn see(corners: &[i32], q: [i64; 2], seen: &mut [i32])
     requires seen_len { length seen.old ≡ length corners.now }
     ensures { SeenFrom corners.now (point q) seen.new }
 {
-    let n = corners.len() / 2;
-    let mut i = 0;
-    while i < n {
+    for i in 0..corners.len() / 2 {
         see_corner(corners, q, seen, i);
-        i += 1;
     }
 }

@@ -9,6 +9,7 @@ ghost use Rattle.boxes.specs.Boxes.{Boxed};
 ghost use Rattle.stand.specs.Find.{against, within_free, first_within, side_at, by_places, located};
 
 use cells::corner;
+use face::Cells;
 use limits::Refusal;
 use plane::Containment;
 
@@ -114,7 +115,8 @@ fn is_in_doorway(
     if !plane::is_within([from, to, q]) {
         return false;
     }
-    setting::is_free(faces, firsts, backs, doors, setting, f)
+    let cells = Cells { faces, firsts };
+    setting::is_free(&cells, backs, doors, setting, f)
 }
 
 // The first free side of cell c that q is strictly within, or the first face of the next cell.

@@ -1,28 +1,48 @@
 -- The proof of the cycle of calls {cross, hand_on}.
-use mathlib.Core.Path.{◌≡◌, refl, sym, ◌∙◌, subst}
+use mathlib.Core.Bool.{Bool, true, false, ◌||◌}
+use mathlib.Core.Path.{◌≡◌, refl, sym, ap, ◌∙◌, subst}
 use Prim.Native.Nat.{ℕ, ◌+◌, ◌*◌, ◌-◌, ◌/◌, ◌<◌, ◌≤◌}
 use mathlib.Core.List.{[]}
 use native.Mathlib.Omega.{arith}
 use lib.ListN.{length, get_or, length-set}
+use mir.Val.{bool_byte}
+use Rattle.plane.specs.Side.{Point}
+use Rattle.reach.specs.Reach.{out_of_reach, far}
 use Rattle.fan.specs.Sight.{fan, follow}
 use Rattle.fan.specs.Sight.Sight.{row, both}
+use Rattle.fan.proofs.Trees.{follow_a_wall}
 use Rattle.expand.specs.Floor.{floor_of}
 use Rattle.expand.specs.Remains.{Remains}
-use Rattle.expand.proofs.Expansion.{ends_as_tested, no_wall_where_passed, gives_a_row, Passed, passed, beyond_remains, less_remains, second_remains, none_remains, room_remains, room_for_a_row, room_for_the_first, row_follows, hands_the_last, hands_both, last_is_taken, first_takes_all, all_is_taken, ends_there}
+use Rattle.expand.proofs.Expansion.{no_wall_where_passed, Passed, passed, beyond_remains, less_remains, second_remains, none_remains, room_remains, room_for_a_row, room_for_the_first, row_follows, hands_the_last, hands_both, last_is_taken, first_takes_all, all_is_taken, ends_there}
 use Rattle.expand.proofs.+cross_hand_on.Goals as goal
 use Rattle.expand.proofs.+cross_hand_on.Goals.{cross-Then-is_end, cross-Else-is_end, cross-Else-handed-eq0, hand_on-After-narrow-sides, hand_on-Else-sides-eq0}
 
+-- a row's fourth number is what the test says, as a number
+fourth_number : (R : ℕ) (a b : Point) {test : Bool} {n : ℕ} → n ≡ bool_byte test → test ≡ out_of_reach R a b → far R a b ≡ n
+unfolding far
+fourth_number R a b {test} is_n e = ap number (sym e) ∙ by_test test ∙ sym is_n
+  where
+    number : Bool → ℕ
+    number t = elim t [ true ↦ 1 | false ↦ 0 ]
+
+    by_test : (t : Bool) → number t ≡ bool_byte t
+    by_test true = refl
+    by_test false = refl
+
 -- ---- crossing a line
 
-pub cross-bounds-faces-face : goal.cross-bounds-faces-face
-cross-bounds-faces-face t c = c.requires.lines.1.stands _ c.loop-table.invariant.1.1.0
+-- sight ends by what is across the line and how far it is, as tested
+ends_as_tested : (wall : Bool) {a far test : Bool} → a ≡ far → test ≡ (wall || a) → (wall || far) ≡ test
+ends_as_tested wall e t = sym (t ∙ ap (λ (b : Bool). wall || b) e)
+
+pub cross-bounds-faces-f : goal.cross-bounds-faces-f
+cross-bounds-faces-f t c = c.requires.lines.1.stands _ c.loop-table.invariant.1.1.0
 
 is_row : (t : ℕ) (c : cross-Then-is_end t) →
     let i = c.loop-table in
-    follow (floor_of c.args.seen.now c.args.lines.now c.args.faces.now c.args.reach) i.cells i.face i.right c.args.l ≡ row i.face i.right c.args.l c.far-mark.result
-is_row t c =
-    let ends = ends_as_tested (get_or c.args.lines.now (4 * c.loop-table.face + 1) 0) _ _ _ c.far-mark.ensures c.is_end.ensures in
-    gives_a_row (floor_of c.args.seen.now c.args.lines.now c.args.faces.now c.args.reach) c.loop-table.cells c.loop-table.face c.loop-table.right c.args.l (ends ∙ c.if-is_end.true) c.far-mark.ensures
+    let F = floor_of c.args.seen.now c.args.lines.now c.args.faces.now c.args.reach in
+    follow F i.unentered i.f i.r c.args.l ≡ row i.f i.r c.args.l (F.far i.f)
+is_row t c = follow_a_wall _ _ _ _ _ (ends_as_tested _ c.is_far-far.ensures c.is_end.ensures ∙ c.if-is_end.true)
 
 row_fits : (t : ℕ) (c : cross-Then-is_end t) → c.args.at + 4 * c.loop-table.rows + 4 ≤ length c.loop-table.table
 row_fits t c = room_for_a_row _ _ (is_row t c) (room_remains _ _ _ _ _ _ _ _ c.loop-table.invariant.0 (c.requires.whole, c.requires.l_in_bounds))
@@ -37,21 +57,22 @@ pub cross-bounds-table-end-then-is_end-2 : goal.cross-bounds-table-end-then-is_e
 cross-bounds-table-end-then-is_end-2 t c = simp length-set (omega (arith, row_fits t c))
 
 pub cross-bounds-table-end-then-is_end-3 : goal.cross-bounds-table-end-then-is_end-3
-cross-bounds-table-end-then-is_end-3 t c = simp length-set (omega (arith, row_fits t c))
+cross-bounds-table-end-then-is_end-3 t c = simp length-set (omega (arith, row_fits t (goal.at.cross-bounds-table-end-then-is_end-3 t c).Then-is_end))
 
 pub cross-returns-then-is_end : goal.cross-returns-then-is_end
-cross-returns-then-is_end t c = none_remains _ _ _ _ _ _ _ _ c.loop-table.invariant.0 (row_follows _ _ _ (is_row t c)) refl
+cross-returns-then-is_end t c =
+    let number = fourth_number _ _ _ c.from.ensures c.is_far-far.ensures in
+    none_remains _ _ _ _ _ _ _ _ c.loop-table.invariant.0 (row_follows _ _ _ (is_row t (goal.at.cross-returns-then-is_end t c).Then-is_end ∙ ap (row c.loop-table.f c.loop-table.r c.args.l) number)) refl
 
 is_passed : (t : ℕ) (c : cross-Else-is_end t) →
     let i = c.loop-table in
-    Passed (floor_of c.args.seen.now c.args.lines.now c.args.faces.now c.args.reach) i.cells i.face i.right c.args.l
+    Passed (floor_of c.args.seen.now c.args.lines.now c.args.faces.now c.args.reach) i.unentered i.f i.r c.args.l
 is_passed t c =
-    let ends = ends_as_tested (get_or c.args.lines.now (4 * c.loop-table.face + 1) 0) _ _ _ c.far-mark.ensures c.is_end.ensures in
-    passed _ c.loop-table.cells _ _ _ (ends ∙ c.if-is_end.false) c.loop-table.invariant.0.whole
+    passed _ c.loop-table.unentered _ _ _ (ends_as_tested _ c.is_far-far.ensures c.is_end.ensures ∙ c.if-is_end.false) c.loop-table.invariant.0.whole
 
 -- the face on the other side
 abbrev across : (t : ℕ) → cross-Else-is_end t → ℕ
-across t c = get_or c.args.lines.now (4 * c.loop-table.face + 1) 0
+across t c = get_or c.args.lines.now (4 * c.loop-table.f + 1) 0
 
 back_exists : (t : ℕ) (c : cross-Else-is_end t) → 4 * across t c + 3 < length c.args.lines.now
 back_exists t c = c.requires.lines.0.across_exists _ c.loop-table.invariant.1.1.0 (no_wall_where_passed _ _ (sym c.is_end.ensures ∙ c.if-is_end.false))
@@ -64,23 +85,23 @@ next_exists t c = c.requires.lines.0.next_exists (across t c) (back_exists t c)
 entered : (t : ℕ) (c : cross-Else-is_end t) →
     let i = c.loop-table in
     let F = floor_of c.args.seen.now c.args.lines.now c.args.faces.now c.args.reach in
-    Remains c.args.table.now c.args.at c.args.left (follow F c.args.unentered c.args.f c.args.r c.args.l) i.table (c.args.at + 4 * i.rows) i.rows (i.passages - 1) (fan F (follow F (i.cells - 1)) (F.more (across t c)) (F.next (across t c)) i.right c.args.l)
+    Remains c.args.table.now c.args.at c.args.left (follow F c.args.unentered c.args.f c.args.r c.args.l) i.table (c.args.at + 4 * i.rows) i.rows (i.left - 1) (fan F (follow F (i.unentered - 1)) (F.more (across t c)) (F.next (across t c)) i.r c.args.l)
 entered t c = let i = c.loop-table.invariant in beyond_remains _ _ _ _ _ _ _ _ i.0 (is_passed t c).is i.1.1.2
 
-pub cross-overflow_sub-cells : goal.cross-overflow_sub-cells
-cross-overflow_sub-cells t c = (is_passed t c).one_unentered
+pub cross-overflow_sub-unentered : goal.cross-overflow_sub-unentered
+cross-overflow_sub-unentered t c = (is_passed t c).one_unentered
 
-pub cross-returns-then-passages-eq0 : goal.cross-returns-then-passages-eq0
-cross-returns-then-passages-eq0 t c =
-    let d = (goal.at.cross-returns-then-passages-eq0 t c).Else-is_end in
+pub cross-returns-then-left-eq0 : goal.cross-returns-then-left-eq0
+cross-returns-then-left-eq0 t c =
+    let d = (goal.at.cross-returns-then-left-eq0 t c).Else-is_end in
     let h = c.loop-table.invariant.0 in
-    ends_there _ _ _ _ _ _ _ _ h (last_is_taken _ _ _ _ _ _ _ _ h (is_passed t d).is (omega (arith, c.if-passages-eq0.true)))
+    ends_there _ _ _ _ _ _ _ _ h (last_is_taken _ _ _ _ _ _ _ _ h (is_passed t d).is (omega (arith, c.if-left-eq0.true)))
 
 pub cross-hand_on-handed-requires : goal.cross-hand_on-handed-requires
 cross-hand_on-handed-requires t c =
     let d = (goal.at.cross-hand_on-handed-requires t c).Else-is_end in
     let i = c.loop-table.invariant in
-    let none = c.if-passages-eq0.false in (
+    let none = c.if-left-eq0.false in (
       omega (arith, c.decreases, i.1.0, (is_passed t d).one_unentered),
       (c.requires.lines, ((next_exists t d, i.1.1.1, c.requires.f_in_bounds.2, omega arith), room_remains _ _ _ _ _ _ _ _ (entered t d) (c.requires.whole, c.requires.l_in_bounds))),
     )
@@ -94,7 +115,7 @@ cross-returns-then-handed-eq0 t c =
 one_remains : (t : ℕ) (c : cross-Else-handed-eq0 t) → let i = c.loop-table in
     let F = floor_of c.args.seen.now c.args.lines.now c.args.faces.now c.args.reach in
     let o = c.hand_on-handed.result in
-    Remains i.table (c.args.at + 4 * i.rows) (i.passages - 1) (fan F (follow F (i.cells - 1)) (F.more (get_or c.args.lines.now (4 * i.face + 1) 0)) (F.next (get_or c.args.lines.now (4 * i.face + 1) 0)) i.right c.args.l) c.hand_on-handed.new.table (c.args.at + 4 * i.rows + 4 * o.rows) o.rows o.left (follow F (i.cells - 1) o.last o.right c.args.l)
+    Remains i.table (c.args.at + 4 * i.rows) (i.left - 1) (fan F (follow F (i.unentered - 1)) (F.more (get_or c.args.lines.now (4 * i.f + 1) 0)) (F.next (get_or c.args.lines.now (4 * i.f + 1) 0)) i.r c.args.l) c.hand_on-handed.new.table (c.args.at + 4 * i.rows + 4 * o.rows) o.rows o.left (follow F (i.unentered - 1) o.last o.right c.args.l)
 one_remains t c = let none = c.if-handed-eq0.false in c.hand_on-handed.ensures.remains (omega arith)
 
 pub cross-overflow_add-rows : goal.cross-overflow_add-rows
@@ -120,12 +141,12 @@ narrowed : (t : ℕ) (c : hand_on-After-narrow-sides t) →
     let i = c.loop-sides in
     let o = c.narrow-sides.result in
     let F = floor_of c.args.seen.now c.args.lines.now c.args.faces.now c.args.reach in
-    Remains c.args.table.now c.args.at c.args.left (fan F (follow F c.args.unentered) c.args.more c.args.e c.args.r c.args.l) i.table (c.args.at + 4 * i.rows) i.rows i.passages (fan F (follow F c.args.unentered) o.more o.side i.right c.args.l)
+    Remains c.args.table.now c.args.at c.args.left (fan F (follow F c.args.unentered) c.args.more c.args.e c.args.r c.args.l) i.table (c.args.at + 4 * i.rows) i.rows i.left (fan F (follow F c.args.unentered) o.more o.side i.r c.args.l)
 narrowed t c =
     let i = c.loop-sides in
     let F = floor_of c.args.seen.now c.args.lines.now c.args.faces.now c.args.reach in
     subst
-    (Remains c.args.table.now c.args.at c.args.left (fan F (follow F c.args.unentered) c.args.more c.args.e c.args.r c.args.l) i.table (c.args.at + 4 * i.rows) i.rows i.passages)
+    (Remains c.args.table.now c.args.at c.args.left (fan F (follow F c.args.unentered) c.args.more c.args.e c.args.r c.args.l) i.table (c.args.at + 4 * i.rows) i.rows i.left)
     ((c.narrow-sides.ensures.by_index.0 c.args.faces.now c.args.reach).same (follow F c.args.unentered))
     i.invariant.0
 
@@ -134,8 +155,8 @@ hand_on-returns-then-sides-eq0-clause-remains t c =
     let i = c.loop-sides in
     let F = floor_of c.args.seen.now c.args.lines.now c.args.faces.now c.args.reach in
     λ some. subst
-    (Remains c.args.table.now c.args.at c.args.left (fan F (follow F c.args.unentered) c.args.more c.args.e c.args.r c.args.l) i.table (c.args.at + 4 * i.rows) i.rows i.passages)
-    (hands_the_last F c.args.unentered c.narrow-sides.result.side i.right c.args.l c.if-sides-eq0.true)
+    (Remains c.args.table.now c.args.at c.args.left (fan F (follow F c.args.unentered) c.args.more c.args.e c.args.r c.args.l) i.table (c.args.at + 4 * i.rows) i.rows i.left)
+    (hands_the_last F c.args.unentered c.narrow-sides.result.side i.r c.args.l c.if-sides-eq0.true)
     (narrowed t (goal.at.hand_on-returns-then-sides-eq0-clause-remains t c).After-narrow-sides)
 
 -- the corner at which the side ends, and the side after it
@@ -155,10 +176,10 @@ hands_two : (t : ℕ) (c : hand_on-Else-sides-eq0 t) →
     let i = c.loop-sides in
     let o = c.narrow-sides.result in
     let F = floor_of c.args.seen.now c.args.lines.now c.args.faces.now c.args.reach in
-    fan F (follow F c.args.unentered) o.more o.side i.right c.args.l ≡ both (follow F c.args.unentered o.side i.right (F.left_end o.side)) (fan F (follow F c.args.unentered) (o.more - 1) (F.next o.side) (F.left_end o.side) c.args.l)
+    fan F (follow F c.args.unentered) o.more o.side i.r c.args.l ≡ both (follow F c.args.unentered o.side i.r (F.left_end o.side)) (fan F (follow F c.args.unentered) (o.more - 1) (F.next o.side) (F.left_end o.side) c.args.l)
 hands_two t c =
     let n = c.narrow-sides in
-    hands_both (floor_of c.args.seen.now c.args.lines.now c.args.faces.now c.args.reach) c.args.unentered n.result.side c.loop-sides.right c.args.l n.result.more c.if-sides-eq0.false (n.ensures.splits c.if-sides-eq0.false)
+    hands_both (floor_of c.args.seen.now c.args.lines.now c.args.faces.now c.args.reach) c.args.unentered n.result.side c.loop-sides.r c.args.l n.result.more c.if-sides-eq0.false (n.ensures.splits c.if-sides-eq0.false)
 
 pub hand_on-cross-one-requires : goal.hand_on-cross-one-requires
 hand_on-cross-one-requires t c =

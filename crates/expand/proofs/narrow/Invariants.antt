@@ -5,8 +5,8 @@ use Rattle.expand.specs.Floor.{floor_of}
 use Rattle.expand.specs.Narrows.{Narrows}
 use Rattle.expand.proofs.narrow.Given as goal
 
-abbrev pub invariant-loop-after : goal.invariant-loop-after
-invariant-loop-after l = ((fs : List ℕ) (R : ℕ) → Narrows (floor_of l.seen l.lines fs R) l.r l.l l.more l.e l.after l.side) × (4 * l.side + 3 < length l.lines)
+abbrev pub invariant-loop-more : goal.invariant-loop-more
+invariant-loop-more l = ((fs : List ℕ) (R : ℕ) → Narrows (floor_of l.seen l.lines fs R) l.r l.l l.fn.more l.fn.e l.more l.e) × (4 * l.e + 3 < length l.lines)
 
-abbrev pub decreases-loop-after : goal.decreases-loop-after
-decreases-loop-after l = l.after
+abbrev pub decreases-loop-more : goal.decreases-loop-more
+decreases-loop-more l = l.more
