@@ -2,7 +2,8 @@
 use mathlib.Core.Bool.{Bool, true, false, not}
 use mathlib.Core.List.{List, [], ◌∷◌}
 use mathlib.Core.Path.{◌≡◌, sym, ap, ◌∙◌, subst}
-use Prim.Native.Nat.{ℕ, suc, ◌<◌}
+use Prim.Native.Nat.{ℕ, suc, ◌≤◌, ◌<◌}
+use native.Mathlib.Omega.{arith}
 use lib.IntN.{ℤ, pos}
 use lib.Signed.{lt_z}
 use Rattle.plane.specs.Side.{point, side, Near, AllNear}
@@ -11,8 +12,11 @@ use Rattle.cells.specs.Check.{some_face, wrong_for_side, missing_corner, wrong_s
 use Rattle.cells.specs.Sound.{Numbered, CornersNear}
 use Rattle.cells.proofs.Faces.{SideOf, next_is_a_side, no_face}
 use Rattle.cells.proofs.Cells.{at, not_missing, starts_there_again, its_own_finish, by_side_value}
-use Rattle.face.specs.Tables.{around}
-use Rattle.face.proofs.Tables.{read_next}
+
+-- ---- a face from the first of a cell on and before its end, by what was read of them
+
+pub side_from : {T : Cells} {c a b f : ℕ} → a ≡ first T c → b ≡ first T (suc c) → a ≤ f → f < b → SideOf T c f
+side_from is_a is_b h l = record { not_before = omega arith; not_after = omega arith }
 
 -- ---- three corners, by what was read of them
 
@@ -35,10 +39,8 @@ pub record Ends (T : Cells) (f n a b : ℕ) : Type 0 where
   pub from : a ≡ start T f
   pub towards : b ≡ start T (next T f)
 
-pub ends_of : {T : Cells} → Numbered T → {c f n a b : ℕ} → c < cell_count T → SideOf T c f → n ≡ around (first T c) (first T (suc c)) f → a ≡ start T f → b ≡ start T n → Ends T f n a b
-ends_of {T} N h s is_n is_a is_b =
-    let then = read_next N h s is_n in
-    record { then = then; from = is_a; towards = is_b ∙ ap (start T) then }
+pub ends_of : {T : Cells} {f n a b : ℕ} → n ≡ next T f → a ≡ start T f → b ≡ start T n → Ends T f n a b
+ends_of {T} is_n is_a is_b = record { then = is_n; from = is_a; towards = is_b ∙ ap (start T) is_n }
 
 -- another corner of the cell, where face g starts
 module _ (cs : List ℤ) {T : Cells} {f n a b g d : ℕ} (E : Ends T f n a b) (other : g ≡ f → ⊥) (is_d : d ≡ start T g) where
