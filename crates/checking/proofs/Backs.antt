@@ -1,10 +1,9 @@
 -- The table of the faces on the other side, face by face, and the search for a wrong face, cell by cell.
 use mathlib.Core.Bool.{true, false}
 use mathlib.Core.List.{List}
-use mathlib.Core.Path.{◌≡◌, refl, ap, sym, ◌∙◌, subst}
-use Prim.Native.Nat.{ℕ, suc, ◌+◌, ◌-◌, ◌<◌, ◌≤◌}
+use mathlib.Core.Path.{◌≡◌, refl, ◌∙◌, subst}
+use Prim.Native.Nat.{ℕ, ◌+◌, ◌<◌}
 use native.Mathlib.Decide.{dec_lt}
-use native.Mathlib.Numerals.{add-one}
 use native.Mathlib.Omega.{arith}
 use lib.IntN.{ℤ}
 use lib.ListN.{length, get_or, set, length-set}
@@ -12,9 +11,9 @@ use lib.Seq.{get_or-set_same, get_or-set_other}
 use Rattle.std.specs.Prelude.{Some, None}
 use Rattle.limits.specs.Limits.{wall}
 use Rattle.cells.specs.Least.{least, before}
-use Rattle.cells.specs.Lists.{Cells, cell_count, face_count, first, side_count, neighbour, back}
+use Rattle.cells.specs.Lists.{Cells, face_count, neighbour, back}
 use Rattle.cells.specs.Check.{wrong_neighbour}
-use Rattle.cells.specs.Sound.{Numbered, Sound}
+use Rattle.cells.specs.Sound.{Sound}
 use Rattle.cells.proofs.Least.{Seeks, seek_begins, seek_goes_on, seek_found, seek_ends}
 use Rattle.cells.proofs.Searches.{at_the_least, past_the_end}
 use Rattle.cells.specs.Backed.{Backed}

@@ -20,7 +20,8 @@ fn is_reversed(cells: &Cells, c: usize, f: usize, d: usize, g: usize) -> bool
     requires g_side { SideOf (tables cells.now) d g }
     ensures { result ≡ reversed (tables cells.now) f g }
 {
-    cells.start(g) == cells.start(cells.next(c, f)) && cells.start(cells.next(d, g)) == cells.start(f)
+    cells.start(g) == cells.start(cells.next(c, f))
+        && cells.start(cells.next(d, g)) == cells.start(f)
 }
 
 // The side of cell d that answers side f of cell c.
@@ -31,7 +32,8 @@ fn answer(cells: &Cells, c: usize, f: usize, d: usize) -> Option<usize>
     requires is_neighbour { neighbour (tables cells.now) f ≡ d }
     ensures { result ≡ before (first (tables cells.now) (suc d)) (Lists·back (tables cells.now) f) }
 {
-    (cells.first(d)..cells.end(d)).find(|&g| cells.neighbour(g) == c && is_reversed(cells, c, f, d, g))
+    (cells.first(d)..cells.end(d)).find(|&g| cells.neighbour(g) == c
+        && is_reversed(cells, c, f, d, g))
 }
 
 // The face of cell d at which it meets cell c: the search over the sides of both stops at the first match (document 01, "Side value and

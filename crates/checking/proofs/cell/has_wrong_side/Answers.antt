@@ -1,11 +1,9 @@
 -- `checking::cell::has_wrong_side` meets its contract.
 use mathlib.Core.Path.{refl}
 use Rattle.std.proofs.Common.{rules}
-use Rattle.std.proofs.lemmas.Iterator.{serves_from_Range}
 use Rattle.cells.specs.Check.{some_face, wrong_side}
 use Rattle.cells.proofs.Searches.{some_from_any}
 use Rattle.face.specs.Tables.{tables}
-use Rattle.checking.proofs.Cells.{side_from}
 use Rattle.checking.proofs.cell.has_wrong_side.Goals as goal
 
 pub returns : goal.returns

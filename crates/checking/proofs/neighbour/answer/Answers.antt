@@ -25,7 +25,6 @@ find-requires-clause-callable c = serves_from_Range (λ x q k. search rules)
 
 pub returns : goal.returns
 returns c =
-    let T = tables c.args.cells.now in
     let at_home = home_is c.args.cells.now.numbered c.requires.c_bound c.requires.f_side in
-    subst (λ (k : ℕ). c.find.result ≡ before (first T (suc c.args.d)) k) (back_by T c.args.f at_home c.requires.is_neighbour)
-    (least_from_find (λ g. eqb (neighbour T g) c.args.c && reversed T c.args.f g) _ _ _ c.first.ensures c.end.ensures refl _ c.find.ensures.ran (λ x q k. search (rules, tests)) (λ x q k. search (rules, tests)))
+    subst (λ (k : ℕ). c.find.result ≡ before (first (tables c.args.cells.now) (suc c.args.d)) k) (back_by (tables c.args.cells.now) c.args.f at_home c.requires.is_neighbour)
+    (least_from_find (λ g. eqb (neighbour (tables c.args.cells.now) g) c.args.c && reversed (tables c.args.cells.now) c.args.f g) _ _ _ c.first.ensures c.end.ensures refl _ c.find.ensures.ran (λ x q k. search (rules, tests)) (λ x q k. search (rules, tests)))

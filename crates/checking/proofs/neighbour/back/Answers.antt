@@ -1,5 +1,5 @@
 -- `checking::neighbour::back` meets its contract.
-use mathlib.Core.Path.{sym, ◌∙◌}
+use mathlib.Core.Path.{◌∙◌}
 use Prim.Native.Nat.{◌<◌}
 use Rattle.cells.specs.Lists.{cell_count}
 use Rattle.cells.proofs.Faces.{side_exists}

@@ -7,7 +7,7 @@ use Rattle.cells.proofs.Faces.{side_exists}
 use Rattle.cells.proofs.Neighbours.{wall_is_right}
 use Rattle.cells.proofs.Searches.{is_before}
 use Rattle.face.specs.Tables.{tables}
-use Rattle.checking.proofs.Neighbours.{no_such_cell, it_exists, none_answers, right_if_answered, answer_exists}
+use Rattle.checking.proofs.Neighbours.{no_such_cell, none_answers, right_if_answered, answer_exists}
 use Rattle.checking.proofs.Backs.{wall_backed, face_backed}
 use Rattle.checking.proofs.neighbour.is_wrong.Goals as goal
 use Rattle.checking.proofs.neighbour.is_wrong.Goals.{Start}

@@ -1,12 +1,12 @@
 -- `checking::neighbour::least_wrong` meets its contract.
 use mathlib.Core.Path.{◌≡◌, ap, sym, ◌∙◌}
-use Prim.Native.Nat.{ℕ, ◌<◌}
+use Prim.Native.Nat.{◌<◌}
 use native.Mathlib.Omega.{arith}
 use Rattle.cells.specs.Lists.{first, face_count, cell_count}
 use Rattle.cells.proofs.Faces.{SideOf, side_exists}
 use Rattle.face.specs.Tables.{tables}
 use Rattle.checking.proofs.Cells.{side_from}
-use Rattle.checking.proofs.Backs.{sweep_begins, sweep_found, sweep_on, sweep_ends}
+use Rattle.checking.proofs.Backs.{sweep_found, sweep_on, sweep_ends}
 use Rattle.checking.proofs.neighbour.least_wrong.Goals as goal
 use Rattle.checking.proofs.neighbour.least_wrong.Goals.{After-is_wrong}
 

@@ -2,9 +2,8 @@
 use mathlib.Core.Path.{sym, ◌∙◌}
 use native.Mathlib.Omega.{arith}
 use Rattle.cells.proofs.Faces.{side_exists}
-use Rattle.face.specs.Tables.{tables}
 use Rattle.checking.proofs.Cells.{side_from}
-use Rattle.checking.proofs.Meetings.{none_yet, one_more, passed_by, met, unmet}
+use Rattle.checking.proofs.Meetings.{one_more, passed_by, met, unmet}
 use Rattle.checking.proofs.neighbour.meeting.Goals as goal
 use Rattle.checking.proofs.neighbour.meeting.Goals.{then-neighbour-d+in_default, else-neighbour-d}
 
