@@ -24,7 +24,5 @@ find-requires-clause-callable c = serves_from_Range (λ x q k. search rules)
     search rules)
 
 pub returns : goal.returns
-returns c =
-    let at_home = home_is c.args.cells.now.numbered c.requires.c_bound c.requires.f_side in
-    subst (λ (k : ℕ). c.find.result ≡ before (first (tables c.args.cells.now) (suc c.args.d)) k) (back_by (tables c.args.cells.now) c.args.f at_home c.requires.is_neighbour)
+returns c = subst (λ (k : ℕ). c.find.result ≡ before (first (tables c.args.cells.now) (suc c.args.d)) k) (back_by (tables c.args.cells.now) c.args.f (home_is c.args.cells.now.numbered c.requires.c_bound c.requires.f_side) c.requires.is_neighbour)
     (least_from_find (λ g. eqb (neighbour (tables c.args.cells.now) g) c.args.c && reversed (tables c.args.cells.now) c.args.f g) _ _ _ c.first.ensures c.end.ensures refl _ c.find.ensures.ran (λ x q k. search (rules, tests)) (λ x q k. search (rules, tests)))
