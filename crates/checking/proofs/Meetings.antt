@@ -1,10 +1,10 @@
 -- Where two cells meet: the search for it, and what it says of a face.
-use mathlib.Core.Bool.{Bool, true, false, ◌&&◌}
+use mathlib.Core.Bool.{Bool, true, false, ◌&&◌, and-true, and-false}
 use mathlib.Core.Path.{◌≡◌, refl, ap, sym, ◌∙◌, subst}
 use Prim.Native.Nat.{ℕ, suc, ◌+◌, ◌<◌, ◌≤◌}
 use native.Mathlib.Decide.{dec_lt}
 use native.Mathlib.Omega.{arith}
-use borrow.Author.Tests.{eq-eqb, eqb-true, lt-ltb, le-ltb}
+use borrow.Author.Tests.{eq-eqb, ne_eqb, eqb-true}
 use lib.Dec.{eqb}
 use Rattle.std.specs.Prelude.{Some, None}
 use Rattle.std.specs.Bool.{then_some}
@@ -14,43 +14,52 @@ use Rattle.cells.specs.Lists.{Cells, cell_count, face_count, first, side_count, 
 use Rattle.cells.specs.Meeting.{reversed, Answered, Meeting, MeetOnce}
 use Rattle.cells.specs.Meeting.Meeting.{at, nowhere}
 use Rattle.cells.specs.Sound.{Numbered}
-use Rattle.cells.proofs.Least.{not_both, least_by_the_same_test}
+use Rattle.cells.proofs.Least.{not_both, least_bounds, holds_at_least, least_from}
 use Rattle.cells.proofs.Faces.{SideOf, side_exists, side_of_home, home_is}
 use Rattle.cells.proofs.Neighbours.{Answer, answered, answered_by}
-use Rattle.cells.proofs.Searches.{is_before, not_before}
+use Rattle.cells.proofs.Searches.{at_the_least, past_the_end}
 
--- ---- a side answers face f where its neighbour is f's cell and it is f reversed
+-- ---- a side answers face f of cell c or not, by what was read of it
 
-turned : (a b : Bool) → a && b ≡ b && a
-turned true true = refl
-turned true false = refl
-turned false true = refl
-turned false false = refl
+module _ (T : Cells) (f g : ℕ) {c : ℕ} (at_home : home T f ≡ c) where
+  both : reversed T f g && eqb (neighbour T g) c ≡ answers T f g
+  unfolding answers reversed
+  both = rw at_home
 
-answers_by : (T : Cells) (f g : ℕ) {c : ℕ} → home T f ≡ c → answers T f g ≡ (eqb (neighbour T g) c && reversed T f g)
-unfolding answers reversed
-answers_by T f g {c} at_home = rw at_home (turned (eqb (start T g) (start T (next T f)) && eqb (start T (next T g)) (start T f)) (eqb (neighbour T g) c))
+  pub answers_where_reversed : {r : Bool} → neighbour T g ≡ c → r ≡ reversed T f g → answers T f g ≡ r
+  answers_where_reversed names is_r = sym both ∙ simp (eq-eqb _ _ names, and-true) (sym is_r)
 
-pub back_by : (T : Cells) (f : ℕ) {c d : ℕ} → home T f ≡ c → neighbour T f ≡ d → least (λ g. eqb (neighbour T g) c && reversed T f g) (side_count T d) (first T d) ≡ back T f
-unfolding back
-back_by T f {c} {d} at_home e = rw e (sym (least_by_the_same_test (answers T f) (λ g. eqb (neighbour T g) c && reversed T f g) (side_count T d) (first T d) (λ k l m. answers_by T f k at_home)))
+  pub names_another_cell : (neighbour T g ≡ c → ⊥) → answers T f g ≡ false
+  names_another_cell other = sym both ∙ simp (ne_eqb _ _ other, and-false)
 
--- ---- the search: of the sides of cell c before face f, cell d answers none
+-- ---- the search: of the sides of cell d before face g, none answers face f
+
+pub record Unanswered (T : Cells) (d f g : ℕ) : Type 0 where
+  pub none : (k : ℕ) → first T d ≤ k → k < g → answers T f k ≡ false
+
+module _ {T : Cells} {d f : ℕ} where
+  pub one_asked : {g : ℕ} → Unanswered T d f g → answers T f g ≡ false → Unanswered T d f (g + 1)
+  one_asked {g} u e = record { none = λ k l m. before_or_at k l (dec_lt k g) m }
+    where
+      before_or_at : (k : ℕ) → first T d ≤ k → Dec (k < g) → k < g + 1 → answers T f k ≡ false
+      before_or_at k l (yes less) m = u.none k l less
+      before_or_at k l (no not_less) m =
+          let same : k ≡ g = omega arith in
+          rw same e
+
+  pub passed_by : {g : ℕ} → Unanswered T d f g → first T (suc d) ≤ g → neighbour T f ≡ d → Answered T f → ⊥
+  unfolding back
+  passed_by {g} u l n a =
+      let there : least (answers T f) (side_count T d) (first T d) < first T (suc d) = rw n at a in
+      let bounds = least_bounds (answers T f) (side_count T d) (first T d) in
+      not_both (holds_at_least (answers T f) (side_count T d) (first T d) (omega (arith, bounds))) (u.none _ bounds.0 (omega arith))
+
+-- of the sides of cell c before face f, cell d answers none
 
 pub record Unmet (T : Cells) (c d f : ℕ) : Type 0 where
   pub none : (k : ℕ) → first T c ≤ k → k < f → neighbour T k ≡ d → Answered T k → ⊥
 
--- where no side of d answers face f
-pub passed_by : (T : Cells) (d f : ℕ) → None ≡ before (first T (suc d)) (back T f) → neighbour T f ≡ d → Answered T f → ⊥
-passed_by T d f e n a =
-    let past : first T (suc d) ≤ back T f = not_before e in
-    let until : first T (suc (neighbour T f)) ≡ first T (suc d) = ap (λ (e : ℕ). first T (suc e)) n in
-    omega arith
-
 module _ {T : Cells} {c d : ℕ} where
-  pub none_yet : {f : ℕ} → f ≡ first T c → Unmet T c d f
-  none_yet e = record { none = λ k l m n a. omega arith }
-
   pub one_more : {f : ℕ} → Unmet T c d f → (neighbour T f ≡ d → Answered T f → ⊥) → Unmet T c d (f + 1)
   one_more {f} u unmet = record { none = λ k l m. before_or_at k l m (dec_lt k f) }
     where
@@ -61,10 +70,12 @@ module _ {T : Cells} {c d : ℕ} where
           rw same unmet
 
   module _ (N : Numbered T) (h : c < cell_count T) where
-    pub met : {f g : ℕ} → SideOf T c f → neighbour T f ≡ d → Some g ≡ before (first T (suc d)) (back T f) → Meeting T c d (Some g)
-    met {f} {g} s n e =
-        let found = is_before e in
-        at f (side_exists N h s) (home_is N h s) n (rw n found.1) (ap Some found.0)
+    pub met : {f g : ℕ} → SideOf T c f → neighbour T f ≡ d → Unanswered T d f g → SideOf T d g → answers T f g ≡ true → Meeting T c d (Some g)
+    unfolding back
+    met {f} {g} s n u t e =
+        let is_back : g ≡ back T f = rw n (least_from (answers T f) (first T d) (first T (suc d)) g t.not_before t.not_after e u.none) in
+        let before_it : back T f < first T (suc (neighbour T f)) = rw (← is_back, n) t.not_after in
+        at f (side_exists N h s) (home_is N h s) n before_it (ap Some is_back)
 
     pub unmet : {f : ℕ} → Unmet T c d f → first T (suc c) ≤ f → Meeting T c d None
     unmet {f} u l = nowhere (λ k m at_home. none k (subst (λ (b : ℕ). SideOf T b k) at_home (side_of_home N k m))) refl
@@ -107,7 +118,7 @@ module _ {T : Cells} (N : Numbered T) (once : MeetOnce T) {c d f : ℕ} (h : c <
 
   -- no side answers f
   unanswered : (Answered T f → ⊥) → None ≡ before (first T (suc (neighbour T f))) (back T f)
-  unanswered none = rw (le-ltb (back T f) (first T (suc (neighbour T f))) (past (dec_lt (back T f) (first T (suc (neighbour T f))))), before) refl
+  unanswered none = past_the_end (past (dec_lt (back T f) (first T (suc (neighbour T f)))))
     where
       past : Dec (Answered T f) → first T (suc (neighbour T f)) ≤ back T f
       past (yes a) = absurd (none a)
@@ -136,7 +147,7 @@ module _ {T : Cells} (N : Numbered T) (once : MeetOnce T) {c d f : ℕ} (h : c <
             let here : r ≡ back T g = cc in
             let same : f ≡ g = is_the_face j o n a (subst (λ (x : ℕ). reversed T f x ≡ true) here e) in
             let answered : Answered T f = subst (λ (x : ℕ). Answered T x) (sym same) a in
-            rw (lt-ltb _ _ answered, before) (ap Some (here ∙ ap (back T) (sym same)))
+            at_the_least (here ∙ ap (back T) (sym same)) (subst (λ (x : ℕ). x < first T (suc (neighbour T f))) (sym (here ∙ ap (back T) (sym same))) answered)
         by_meeting (nowhere none i) = cc
 
     met_at_another : reversed T f r ≡ false → None ≡ before (first T (suc (neighbour T f))) (back T f)

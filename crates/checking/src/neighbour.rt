@@ -24,18 +24,6 @@ fn is_reversed(cells: &Cells, c: usize, f: usize, d: usize, g: usize) -> bool
         && cells.start(cells.next(d, g)) == cells.start(f)
 }
 
-// The side of cell d that answers side f of cell c.
-fn answer(cells: &Cells, c: usize, f: usize, d: usize) -> Option<usize>
-    requires c_bound { c < cell_count (tables cells.now) }
-    requires f_side { SideOf (tables cells.now) c f }
-    requires d_bound { d < cell_count (tables cells.now) }
-    requires is_neighbour { neighbour (tables cells.now) f ≡ d }
-    ensures { result ≡ before (first (tables cells.now) (suc d)) (Lists·back (tables cells.now) f) }
-{
-    (cells.first(d)..cells.end(d)).find(|&g| cells.neighbour(g) == c
-        && is_reversed(cells, c, f, d, g))
-}
-
 // The face of cell d at which it meets cell c: the search over the sides of both stops at the first match (document 01, "Side value and
 // plan check").
 fn meeting(cells: &Cells, c: usize, d: usize) -> Option<usize>
@@ -43,14 +31,18 @@ fn meeting(cells: &Cells, c: usize, d: usize) -> Option<usize>
     requires d_bound { d < cell_count (tables cells.now) }
     ensures { Meeting (tables cells.now) c d result }
 {
-    for f in cells.first(c)..cells.end(c) {
-        if cells.neighbour(f) == d {
-            if let Some(g) = answer(cells, c, f, d) {
-                return Some(g);
+    'search: {
+        for f in cells.first(c)..cells.end(c) {
+            if cells.neighbour(f) == d {
+                for g in cells.first(d)..cells.end(d) {
+                    if cells.neighbour(g) == c && is_reversed(cells, c, f, d, g) {
+                        break 'search Some(g);
+                    }
+                }
             }
         }
+        None
     }
-    None
 }
 
 // The face on the other side of side f of cell c. Two cells meet at most once, so it is where f's cell and its neighbour meet, or there
