@@ -1,4 +1,4 @@
--- The table of the faces on the other side, face by face, and the search for a wrong face, cell by cell.
+-- The table of the faces on the other side, and the search for a wrong face, face by face.
 use mathlib.Core.Bool.{true, false}
 use mathlib.Core.List.{List}
 use mathlib.Core.Path.{◌≡◌, refl, ◌∙◌, subst}
@@ -14,16 +14,13 @@ use Rattle.cells.specs.Least.{least, before}
 use Rattle.cells.specs.Lists.{Cells, face_count, neighbour, back}
 use Rattle.cells.specs.Check.{wrong_neighbour}
 use Rattle.cells.specs.Sound.{Sound}
-use Rattle.cells.proofs.Least.{Seeks, seek_begins, seek_goes_on, seek_found, seek_ends}
+use Rattle.cells.proofs.Least.{Seeks, seek_goes_on, seek_found, seek_ends}
 use Rattle.cells.proofs.Searches.{at_the_least, past_the_end}
 use Rattle.cells.specs.Backed.{Backed}
 use Rattle.boxes.specs.Boxes.{Boxed}
 use Rattle.checking.specs.Backed.{BackedBelow}
 
 module _ {T : Cells} {bs : List ℕ} where
-  none_backed : length bs ≡ face_count T → {n : ℕ} → n ≡ 0 → BackedBelow T n bs
-  none_backed h e = record { whole = h; stands = λ f l. absurd (omega arith) }
-
   one_more : {f : ℕ} {now : List ℕ} → BackedBelow T f bs → length now ≡ face_count T → ((k : ℕ) → k < f → get_or now k 0 ≡ get_or bs k 0) → ((neighbour T f ≡ wall → ⊥) → get_or now f 0 ≡ back T f) → BackedBelow T (f + 1) now
   one_more {f} {now} b h kept here = record { whole = h; stands = λ k l. before_or_at k l (dec_lt k f) }
     where
@@ -51,9 +48,6 @@ pub record Swept (T : Cells) (bs : List ℕ) (f : ℕ) : Type 0 where
   pub backed : BackedBelow T f bs
 
 module _ {T : Cells} {bs : List ℕ} where
-  pub sweep_begins : length bs ≡ face_count T → {f : ℕ} → f ≡ 0 → Swept T bs f
-  sweep_begins h e = record { seeks = rw e (seek_begins _ _); backed = none_backed h e }
-
   module _ {f : ℕ} (w : Swept T bs f) where
     pub sweep_found : f < face_count T → wrong_neighbour T f ≡ true → Some f ≡ before (face_count T) (least (wrong_neighbour T) (face_count T) 0)
     sweep_found l e = at_the_least (seek_found w.seeks l e) l
