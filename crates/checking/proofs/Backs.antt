@@ -47,16 +47,15 @@ pub record Swept (T : Cells) (bs : List ℕ) (f : ℕ) : Type 0 where
   pub seeks : Seeks (wrong_neighbour T) (face_count T) f
   pub backed : BackedBelow T f bs
 
-module _ {T : Cells} {bs : List ℕ} where
-  module _ {f : ℕ} (w : Swept T bs f) where
-    pub sweep_found : f < face_count T → wrong_neighbour T f ≡ true → Some f ≡ before (face_count T) (least (wrong_neighbour T) (face_count T) 0)
-    sweep_found l e = at_the_least (seek_found w.seeks l e) l
+module _ {T : Cells} {bs : List ℕ} {f : ℕ} (w : Swept T bs f) where
+  pub sweep_found : f < face_count T → wrong_neighbour T f ≡ true → Some f ≡ before (face_count T) (least (wrong_neighbour T) (face_count T) 0)
+  sweep_found l e = at_the_least (seek_found w.seeks l e) l
 
-    pub sweep_on : f < face_count T → wrong_neighbour T f ≡ false → {now : List ℕ} → BackedBelow T (f + 1) now → Swept T now (f + 1)
-    sweep_on l e b = record { seeks = seek_goes_on w.seeks l e; backed = b }
+  pub sweep_on : f < face_count T → wrong_neighbour T f ≡ false → {now : List ℕ} → BackedBelow T (f + 1) now → Swept T now (f + 1)
+  sweep_on l e b = record { seeks = seek_goes_on w.seeks l e; backed = b }
 
-    pub sweep_ends : f ≡ face_count T → (None ≡ before (face_count T) (least (wrong_neighbour T) (face_count T) 0)) × Backed T bs
-    sweep_ends e = (past_the_end (omega (arith, seek_ends w.seeks (omega arith))), all_backed w.backed e)
+  pub sweep_ends : f ≡ face_count T → (None ≡ before (face_count T) (least (wrong_neighbour T) (face_count T) 0)) × Backed T bs
+  sweep_ends e = (past_the_end (omega (arith, seek_ends w.seeks (omega arith))), all_backed w.backed e)
 
 -- what is said of tables is said of the cells they stand for
 pub noted_of : {cs : List ℤ} {S T : Cells} {ds bs : List ℕ} {xs : List ℤ} → S ≡ T → (Sound cs S ds → (Backed S bs × Boxed cs S xs)) → Sound cs T ds → (Backed T bs × Boxed cs T xs)
