@@ -2,8 +2,8 @@
 use mathlib.Core.Bool.{true, false, not}
 use mathlib.Core.List.{List}
 use mathlib.Core.Path.{◌≡◌, sym, ◌∙◌}
-use Prim.Native.Nat.{ℕ, ◌<◌, ◌≤◌}
-use borrow.Author.Tests.{eq-eqb, ne_eqb, lt-ltb, le-ltb, ltb-true, not-false}
+use Prim.Native.Nat.{ℕ, ◌<◌}
+use borrow.Author.Tests.{eq-eqb, ne_eqb, ltb-true, not-false}
 use lib.IntN.{ℤ, pos}
 use lib.Signed.{◌<ℤ◌, lt_z}
 use Rattle.exact.proofs.Order.{𝟘, ltZ_true}
@@ -19,14 +19,6 @@ at cs T f = corner_at cs (start T f)
 -- ---- a corner number exists or not
 
 module _ (cs : List ℤ) (T : Cells) (f : ℕ) where
-  pub exists : start T f < corner_count cs → missing_corner cs T f ≡ false
-  unfolding missing_corner
-  exists h = simp (lt-ltb _ _ h)
-
-  pub is_missing : corner_count cs ≤ start T f → missing_corner cs T f ≡ true
-  unfolding missing_corner
-  is_missing h = simp (le-ltb _ _ h)
-
   pub not_missing : missing_corner cs T f ≡ false → start T f < corner_count cs
   unfolding missing_corner
   not_missing e = ltb-true _ _ (not-false _ e)

@@ -22,6 +22,31 @@ use Rattle.std.proofs.lemmas.List.FromFn.{length-range_with_len, get_or-range_wi
 use Rattle.cells.specs.Least.{least, before}
 use Rattle.cells.proofs.Least.{not_both, least_bounds, holds_at_least, fails_before_least, least_from}
 
+-- ---- what `before` says of a place
+
+module _ {n i : ℕ} where
+  pub is_before : {j : ℕ} → Some j ≡ before n i → (j ≡ i) × (i < n)
+  is_before {j} e = by_place (dec_lt i n)
+    where
+      by_place : Dec (i < n) → (j ≡ i) × (i < n)
+      by_place (yes h) = let found : Some j ≡ Some i = rw (lt-ltb i n h, before) at e in (cc, h)
+      by_place (no h) = let none : Some j ≡ None = rw (le-ltb i n (omega arith), before) at e in cc
+
+  pub not_before : None ≡ before n i → n ≤ i
+  not_before e = by_place (dec_lt i n)
+    where
+      by_place : Dec (i < n) → n ≤ i
+      by_place (yes h) = let found : None ≡ Some i = rw (lt-ltb i n h, before) at e in cc
+      by_place (no h) = omega arith
+
+  pub at_the_least : {j : ℕ} → j ≡ i → j < n → Some j ≡ before n i
+  at_the_least {j} e h = subst (λ (k : ℕ). Some j ≡ before n k) e (rw (lt-ltb j n h, before) refl)
+
+  pub past_the_end : n ≤ i → None ≡ before n i
+  past_the_end h = rw (le-ltb i n h, before) refl
+
+-- ---- the least place
+
 module _ (t : ℕ → Bool) (a n : ℕ) where
   -- the test holds at i, and at no place from a on before it
   pub before_it : {i : ℕ} → a ≤ i → i < n → t i ≡ true → ((k : ℕ) → a ≤ k → k < i → t k ≡ false) → Some i ≡ before n (least t (n - a) a)

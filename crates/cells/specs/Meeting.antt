@@ -1,5 +1,5 @@
 -- Where two cells meet (document 01, "Side value and plan check").
-use Rattle.std.specs.Prelude.{Bool, ◌&&◌, ◌≡◌, ℕ, suc, ◌<◌, eqb}
+use Rattle.std.specs.Prelude.{Bool, ◌&&◌, ◌≡◌, ℕ, suc, ◌<◌, eqb, Option, None, Some}
 use Rattle.cells.specs.Lists.{Cells, cell_count, face_count, first, home, next, start, neighbour, back}
 
 -- face g has the same two corners as face f, reversed
@@ -10,10 +10,10 @@ reversed T f g = eqb (start T g) (start T (next T f)) && eqb (start T (next T g)
 abbrev pub Answered : Cells → ℕ → Type 0
 Answered T f = back T f < first T (suc (neighbour T f))
 
--- r is the face of cell d at which it meets cell c: the one on the other side of a face of c; the first face of the cell after d where d has none
-pub data Meeting (T : Cells) (c d r : ℕ) : Type 0 where
-  at : (f : ℕ) → f < face_count T → home T f ≡ c → neighbour T f ≡ d → Answered T f → r ≡ back T f → Meeting T c d r
-  nowhere : ((f : ℕ) → f < face_count T → home T f ≡ c → neighbour T f ≡ d → Answered T f → ⊥) → r ≡ first T (suc d) → Meeting T c d r
+-- r is the face of cell d at which it meets cell c: the one on the other side of a face of c; none where d has none
+pub data Meeting (T : Cells) (c d : ℕ) (r : Option ℕ) : Type 0 where
+  at : (f : ℕ) → f < face_count T → home T f ≡ c → neighbour T f ≡ d → Answered T f → r ≡ Some (back T f) → Meeting T c d r
+  nowhere : ((f : ℕ) → f < face_count T → home T f ≡ c → neighbour T f ≡ d → Answered T f → ⊥) → r ≡ None → Meeting T c d r
 
 -- two cells meet at most once: of one cell's faces, another cell answers one
 pub record MeetOnce (T : Cells) : Type 0 where

@@ -1,18 +1,22 @@
 -- Right and wrong cells, by what was read of them.
-use mathlib.Core.Bool.{Bool, true, false, not}
+use mathlib.Core.Bool.{Bool, true, false}
 use mathlib.Core.List.{List, [], ◌∷◌}
-use mathlib.Core.Path.{◌≡◌, sym, ap, ◌∙◌, subst}
-use Prim.Native.Nat.{ℕ, suc, ◌<◌}
+use mathlib.Core.Path.{◌≡◌, sym, subst}
+use Prim.Native.Nat.{ℕ, suc, ◌≤◌, ◌<◌}
+use native.Mathlib.Omega.{arith}
 use lib.IntN.{ℤ, pos}
 use lib.Signed.{lt_z}
 use Rattle.plane.specs.Side.{point, side, Near, AllNear}
-use Rattle.cells.specs.Lists.{Cells, corner_at, corner_count, cell_count, first, next, start}
-use Rattle.cells.specs.Check.{some_face, wrong_for_side, missing_corner, wrong_side, wrong_cell}
+use Rattle.cells.specs.Lists.{Cells, corner_at, corner_count, cell_count, first, start}
+use Rattle.cells.specs.Check.{some_face, missing_corner, wrong_side, wrong_cell}
 use Rattle.cells.specs.Sound.{Numbered, CornersNear}
-use Rattle.cells.proofs.Faces.{SideOf, next_is_a_side, no_face}
-use Rattle.cells.proofs.Cells.{at, not_missing, starts_there_again, its_own_finish, by_side_value}
-use Rattle.face.specs.Tables.{around}
-use Rattle.face.proofs.Tables.{read_next}
+use Rattle.cells.proofs.Faces.{SideOf, no_face}
+use Rattle.cells.proofs.Cells.{not_missing}
+
+-- ---- a face from the first of a cell on and before its end, by what was read of them
+
+pub side_from : {T : Cells} {c a b f : ℕ} → a ≡ first T c → b ≡ first T (suc c) → a ≤ f → f < b → SideOf T c f
+side_from is_a is_b h l = record { not_before = omega arith; not_after = omega arith }
 
 -- ---- three corners, by what was read of them
 
@@ -28,44 +32,11 @@ module _ (cs : List ℤ) (a b d : ℕ) (p q r : List ℤ) (is_p : point p ≡ co
   pub left_by_points : {t : Bool} → t ≡ lt_z (pos 0) (side (point p) (point q) (point r)) → t ≡ lt_z (pos 0) (side (corner_at cs a) (corner_at cs b) (corner_at cs d))
   left_by_points e = rw (← is_p, ← is_q, ← is_r) e
 
--- ---- side f of a cell: the next side, and its two corners
-
-pub record Ends (T : Cells) (f n a b : ℕ) : Type 0 where
-  pub then : n ≡ next T f
-  pub from : a ≡ start T f
-  pub towards : b ≡ start T (next T f)
-
-pub ends_of : {T : Cells} → Numbered T → {c f n a b : ℕ} → c < cell_count T → SideOf T c f → n ≡ around (first T c) (first T (suc c)) f → a ≡ start T f → b ≡ start T n → Ends T f n a b
-ends_of {T} N h s is_n is_a is_b =
-    let then = read_next N h s is_n in
-    record { then = then; from = is_a; towards = is_b ∙ ap (start T) then }
-
--- another corner of the cell, where face g starts
-module _ (cs : List ℤ) {T : Cells} {f n a b g d : ℕ} (E : Ends T f n a b) (other : g ≡ f → ⊥) (is_d : d ≡ start T g) where
-  pub the_same_again : d ≡ a → wrong_for_side cs T f g ≡ true
-  the_same_again e = starts_there_again cs T f g other (sym is_d ∙ e ∙ E.from)
-
-  module _ (differs : d ≡ a → ⊥) where
-    elsewhere : start T g ≡ start T f → ⊥
-    elsewhere e = differs (is_d ∙ e ∙ sym E.from)
-
-    pub at_the_finish : g ≡ n → wrong_for_side cs T f g ≡ false
-    at_the_finish e = its_own_finish cs T f g other elsewhere (e ∙ E.then)
-
-    pub by_left : (g ≡ n → ⊥) → {t : Bool} → t ≡ lt_z (pos 0) (side (corner_at cs a) (corner_at cs b) (corner_at cs d)) → wrong_for_side cs T f g ≡ not t
-    by_left h {t} e =
-        let area : t ≡ lt_z (pos 0) (side (at cs T f) (at cs T (next T f)) (at cs T g)) = rw (← E.from, ← E.towards, ← is_d) e in
-        by_side_value cs T f g other elsewhere (λ k. h (k ∙ sym E.then)) ∙ ap not (sym area)
-
 -- ---- a cell all of whose corner numbers exist
 
 module _ (cs : List ℤ) {T : Cells} (N : Numbered T) {c : ℕ} (h : c < cell_count T) (there : some_face T c (missing_corner cs T) ≡ false) where
   pub corner_there : {f a : ℕ} → SideOf T c f → a ≡ start T f → a < corner_count cs
   corner_there {f} s e = subst (λ (i : ℕ). i < corner_count cs) (sym e) (not_missing cs T f (no_face N h _ there s))
-
-  -- those of side f, and that at which another side starts
-  pub corners_there : {f n a b g d : ℕ} → SideOf T c f → Ends T f n a b → SideOf T c g → d ≡ start T g → (a < corner_count cs) × ((b < corner_count cs) × (d < corner_count cs))
-  corners_there s E t e = (corner_there s E.from, (corner_there (next_is_a_side N h s) E.towards, corner_there t e))
 
   pub wrong_by_its_sides : some_face T c (wrong_side cs T c) ≡ wrong_cell cs T c
   unfolding wrong_cell

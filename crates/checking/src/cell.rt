@@ -2,14 +2,15 @@
 ghost use Rattle.std.specs.Prelude.{◌<◌, false, ◌≡◌, pos};
 ghost use Rattle.std.specs.Int.Signed.{lt_z};
 ghost use Rattle.plane.specs.Side.{side};
-ghost use Rattle.cells.specs.Least.{least};
+ghost use Rattle.cells.specs.Least.{least, before};
 ghost use Rattle.cells.specs.Lists.{corner_count, corner_at, cell_count};
 ghost use Rattle.cells.specs.Check.{some_face, missing_corner, wrong_side, wrong_cell};
-ghost use Rattle.cells.specs.Sound.{CornersNear, Numbered};
+ghost use Rattle.cells.specs.Sound.{CornersNear};
 ghost use Rattle.cells.proofs.Faces.{SideOf};
-ghost use Rattle.cells.specs.Lists.{tabled};
+ghost use Rattle.face.specs.Tables.{tables};
 
 use cells::corner;
+use face::Cells;
 
 // Is corner d strictly left of the line from corner a to corner b?
 fn is_left(corners: &[i32], a: usize, b: usize, d: usize) -> bool
@@ -27,106 +28,64 @@ fn is_left(corners: &[i32], a: usize, b: usize, d: usize) -> bool
 }
 
 // Does a corner number of cell c not exist?
-fn lacks_a_corner(corners: &[i32], faces: &[u16], firsts: &[u16], c: usize) -> bool
-    requires numbered { Numbered (tabled faces.now firsts.now) }
-    requires c_bound { c < cell_count (tabled faces.now firsts.now) }
-    ensures { result ≡ some_face (tabled faces.now firsts.now) c (missing_corner corners.now (tabled faces.now firsts.now)) }
+fn lacks_a_corner(corners: &[i32], cells: &Cells, c: usize) -> bool
+    requires { c < cell_count (tables cells.now) }
+    ensures { result ≡ some_face (tables cells.now) c (missing_corner corners.now (tables cells.now)) }
 {
     let n = corners.len() / 2;
-    let to = face::end(firsts, c);
-    let mut f = face::first(firsts, c);
-    while f < to {
-        if n <= face::start(faces, f) {
-            return true;
-        }
-        f += 1;
-    }
-    false
+    (cells.first(c)..cells.end(c)).any(|f| n <= cells.start(f))
 }
 
 // Is some corner of cell c wrong for its side f?
-fn is_wrong_side(corners: &[i32], faces: &[u16], firsts: &[u16], c: usize, f: usize) -> bool
+fn is_wrong_side(corners: &[i32], cells: &Cells, c: usize, f: usize) -> bool
     requires corners_near { CornersNear corners.now }
-    requires numbered { Numbered (tabled faces.now firsts.now) }
-    requires c_bound { c < cell_count (tabled faces.now firsts.now) }
-    requires firsts_value { some_face (tabled faces.now firsts.now) c (missing_corner corners.now (tabled faces.now firsts.now)) ≡ false }
-    requires side_of { SideOf (tabled faces.now firsts.now) c f }
-    ensures { result ≡ wrong_side corners.now (tabled faces.now firsts.now) c f }
+    requires c_bound { c < cell_count (tables cells.now) }
+    requires none_missing { some_face (tables cells.now) c (missing_corner corners.now (tables cells.now)) ≡ false }
+    requires side_of { SideOf (tables cells.now) c f }
+    ensures { result ≡ wrong_side corners.now (tables cells.now) c f }
 {
-    let to = face::end(firsts, c);
-    let n = face::next(firsts, c, f);
-    let a = face::start(faces, f);
-    let b = face::start(faces, n);
-    let mut g = face::first(firsts, c);
-    while g < to {
-        if g != f {
-            let d = face::start(faces, g);
-            if d == a {
-                return true;
-            }
-            if g != n {
-                if !is_left(corners, a, b, d) {
-                    return true;
-                }
-            }
-        }
-        g += 1;
-    }
-    false
+    let n = cells.next(c, f);
+    let a = cells.start(f);
+    let b = cells.start(n);
+    (cells.first(c)..cells.end(c)).any(|g| {
+        let d = cells.start(g);
+        g != f && (d == a || g != n && !is_left(corners, a, b, d))
+    })
 }
 
 // Is some side of cell c wrong?
-fn has_wrong_side(corners: &[i32], faces: &[u16], firsts: &[u16], c: usize) -> bool
+fn has_wrong_side(corners: &[i32], cells: &Cells, c: usize) -> bool
     requires corners_near { CornersNear corners.now }
-    requires numbered { Numbered (tabled faces.now firsts.now) }
-    requires c_bound { c < cell_count (tabled faces.now firsts.now) }
-    requires firsts_value { some_face (tabled faces.now firsts.now) c (missing_corner corners.now (tabled faces.now firsts.now)) ≡ false }
-    ensures { result ≡ some_face (tabled faces.now firsts.now) c (wrong_side corners.now (tabled faces.now firsts.now) c) }
+    requires c_bound { c < cell_count (tables cells.now) }
+    requires none_missing { some_face (tables cells.now) c (missing_corner corners.now (tables cells.now)) ≡ false }
+    ensures { result ≡ some_face (tables cells.now) c (wrong_side corners.now (tables cells.now) c) }
 {
-    let to = face::end(firsts, c);
-    let mut f = face::first(firsts, c);
-    while f < to {
-        if is_wrong_side(corners, faces, firsts, c, f) {
-            return true;
-        }
-        f += 1;
-    }
-    false
+    (cells.first(c)..cells.end(c)).any(|f| is_wrong_side(corners, cells, c, f))
 }
 
 // Of a cell with three sides one side value decides.
-fn is_wrong(corners: &[i32], faces: &[u16], firsts: &[u16], c: usize) -> bool
+fn is_wrong(corners: &[i32], cells: &Cells, c: usize) -> bool
     requires corners_near { CornersNear corners.now }
-    requires numbered { Numbered (tabled faces.now firsts.now) }
-    requires c_bound { c < cell_count (tabled faces.now firsts.now) }
-    ensures { result ≡ wrong_cell corners.now (tabled faces.now firsts.now) c }
+    requires c_bound { c < cell_count (tables cells.now) }
+    ensures { result ≡ wrong_cell corners.now (tables cells.now) c }
 {
-    if lacks_a_corner(corners, faces, firsts, c) {
+    if lacks_a_corner(corners, cells, c) {
         return true;
     }
-    let f = face::first(firsts, c);
-    if face::end(firsts, c) == f + 3 {
-        let a = face::start(faces, f);
-        let b = face::start(faces, f + 1);
-        let d = face::start(faces, f + 2);
+    let f = cells.first(c);
+    if cells.end(c) == f + 3 {
+        let a = cells.start(f);
+        let b = cells.start(f + 1);
+        let d = cells.start(f + 2);
         return !is_left(corners, a, b, d);
     }
-    has_wrong_side(corners, faces, firsts, c)
+    has_wrong_side(corners, cells, c)
 }
 
-// The least wrong cell, or the count.
-pub fn least_wrong(corners: &[i32], faces: &[u16], firsts: &[u16]) -> usize
+// The least wrong cell.
+pub fn least_wrong(corners: &[i32], cells: &Cells) -> Option<usize>
     requires corners_near { CornersNear corners.now }
-    requires numbered { Numbered (tabled faces.now firsts.now) }
-    ensures { result ≡ least (wrong_cell corners.now (tabled faces.now firsts.now)) (cell_count (tabled faces.now firsts.now)) 0 }
+    ensures { result ≡ before (cell_count (tables cells.now)) (least (wrong_cell corners.now (tables cells.now)) (cell_count (tables cells.now)) 0) }
 {
-    let m = firsts.len() - 1;
-    let mut c = 0;
-    while c < m {
-        if is_wrong(corners, faces, firsts, c) {
-            return c;
-        }
-        c += 1;
-    }
-    c
+    (0..cells.count()).find(|&c| is_wrong(corners, cells, c))
 }

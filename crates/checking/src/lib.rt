@@ -13,6 +13,7 @@ ghost use Rattle.boxes.specs.Boxes.{Boxed};
 ghost use Rattle.checking.specs.Sizes.{sizes_of, Fit};
 
 use draw::Sizes;
+use face::Cells;
 use limits::{Plan, Refusal};
 
 mod cell;
@@ -37,33 +38,28 @@ pub fn check_tables(
     ensures value { result ≡ checked_cells corners.now (tabled faces.now firsts.now) doors.now }
     ensures backed { Sound corners.now (tabled faces.now firsts.now) doors.now → (Backed (tabled faces.now firsts.now) backs.new × Boxed corners.now (tabled faces.now firsts.now) boxes.new) }
 {
-    let n = corners.len() / 2;
-    let m = firsts.len() - 1;
-    let k = doors.len();
-    let i = corner::least_wrong(corners);
-    if i < n {
+    let cells = Cells { faces, firsts };
+    if let Some(i) = corner::least_wrong(corners) {
         return Err(Refusal::Corner(i));
     }
-    let c = cell::least_wrong(corners, faces, firsts);
-    if c < m {
+    if let Some(c) = cell::least_wrong(corners, &cells) {
         return Err(Refusal::Cell(c));
     }
-    let f = neighbour::least_wrong(faces, firsts, backs);
-    if f < faces.len() / 2 {
+    if let Some(f) = neighbour::least_wrong(&cells, backs) {
         return Err(Refusal::Neighbour(f));
     }
-    let d = door::least_wrong(faces, backs, doors);
-    if d < k {
+    if let Some(d) = door::least_wrong(&cells, backs, doors) {
         return Err(Refusal::Door(d));
     }
+    let m = cells.count();
     let o = overlap::least_overlapping(corners, faces, firsts, boxes);
     if o < m {
         return Err(Refusal::Overlap(o));
     }
     Ok(Plan {
-        corners: n,
+        corners: corners.len() / 2,
         cells: m,
-        doors: k,
+        doors: doors.len(),
     })
 }
 

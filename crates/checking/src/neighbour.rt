@@ -1,152 +1,104 @@
 // Neighbours: wall, or an existing cell with a side that answers.
-ghost use Rattle.std.specs.Prelude.{suc, ◌+◌, ◌<◌, false, ◌≡◌, length};
-ghost use Rattle.cells.specs.Least.{least};
-ghost use Rattle.cells.specs.Lists.{cell_count, face_count, side_count, first, neighbour, back as Lists·back};
+ghost use Rattle.std.specs.Prelude.{suc, ◌+◌, ◌<◌, false, ◌≡◌, length, None};
+ghost use Rattle.cells.specs.Least.{least, before};
+ghost use Rattle.cells.specs.Lists.{cell_count, face_count, first, neighbour, back as Lists·back};
 ghost use Rattle.cells.specs.Meeting.{reversed, Meeting, MeetOnce};
 ghost use Rattle.cells.specs.Check.{wrong_neighbour};
-ghost use Rattle.cells.specs.Sound.{Numbered};
 ghost use Rattle.cells.proofs.Faces.{SideOf};
-ghost use Rattle.cells.specs.Lists.{tabled};
 ghost use Rattle.cells.specs.Backed.{Backed};
+ghost use Rattle.face.specs.Tables.{tables};
 ghost use Rattle.checking.specs.Backed.{BackedBelow};
 
 use crate::Plan;
+use face::Cells;
 
 // Has side g of cell d the same two corners as side f of cell c, reversed?
-fn is_reversed(faces: &[u16], firsts: &[u16], c: usize, f: usize, d: usize, g: usize) -> bool
-    requires numbered { Numbered (tabled faces.now firsts.now) }
-    requires c_bound { c < cell_count (tabled faces.now firsts.now) }
-    requires side_of { SideOf (tabled faces.now firsts.now) c f }
-    requires d_bound { d < cell_count (tabled faces.now firsts.now) }
-    requires side_of_2 { SideOf (tabled faces.now firsts.now) d g }
-    ensures { result ≡ reversed (tabled faces.now firsts.now) f g }
+fn is_reversed(cells: &Cells, c: usize, f: usize, d: usize, g: usize) -> bool
+    requires c_bound { c < cell_count (tables cells.now) }
+    requires f_side { SideOf (tables cells.now) c f }
+    requires d_bound { d < cell_count (tables cells.now) }
+    requires g_side { SideOf (tables cells.now) d g }
+    ensures { result ≡ reversed (tables cells.now) f g }
 {
-    let after_f = face::next(firsts, c, f);
-    if face::start(faces, g) != face::start(faces, after_f) {
-        return false;
-    }
-    let after_g = face::next(firsts, d, g);
-    face::start(faces, after_g) == face::start(faces, f)
+    cells.start(g) == cells.start(cells.next(c, f))
+        && cells.start(cells.next(d, g)) == cells.start(f)
 }
 
 // The face of cell d at which it meets cell c: the search over the sides of both stops at the first match (document 01, "Side value and
-// plan check"). Where no side of d answers a side of c it is the first face of the cell after d.
-fn meeting(faces: &[u16], firsts: &[u16], c: usize, d: usize) -> usize
-    requires numbered { Numbered (tabled faces.now firsts.now) }
-    requires c_bound { c < cell_count (tabled faces.now firsts.now) }
-    requires d_bound { d < cell_count (tabled faces.now firsts.now) }
-    ensures { Meeting (tabled faces.now firsts.now) c d result }
+// plan check").
+fn meeting(cells: &Cells, c: usize, d: usize) -> Option<usize>
+    requires c_bound { c < cell_count (tables cells.now) }
+    requires d_bound { d < cell_count (tables cells.now) }
+    ensures { Meeting (tables cells.now) c d result }
 {
-    let to = face::end(firsts, c);
-    let from = face::first(firsts, d);
-    let last = face::end(firsts, d);
-    let mut f = face::first(firsts, c);
-    let side = 'search: loop {
-        if to <= f {
-            break 'search last;
-        }
-        if face::neighbour(faces, f) == d {
-            let mut g = from;
-            while g < last {
-                if face::neighbour(faces, g) == c {
-                    if is_reversed(faces, firsts, c, f, d, g) {
-                        break 'search g;
+    'search: {
+        for f in cells.first(c)..cells.end(c) {
+            if cells.neighbour(f) == d {
+                for g in cells.first(d)..cells.end(d) {
+                    if cells.neighbour(g) == c && is_reversed(cells, c, f, d, g) {
+                        break 'search Some(g);
                     }
                 }
-                g += 1;
             }
         }
-        f += 1;
-    };
-    side
+        None
+    }
 }
 
 // The face on the other side of side f of cell c. Two cells meet at most once, so it is where f's cell and its neighbour meet, or there
 // is none.
-fn back(faces: &[u16], firsts: &[u16], c: usize, f: usize) -> usize
-    requires numbered { Numbered (tabled faces.now firsts.now) }
-    requires meet_once { MeetOnce (tabled faces.now firsts.now) }
-    requires c_bound { c < cell_count (tabled faces.now firsts.now) }
-    requires side_of { SideOf (tabled faces.now firsts.now) c f }
-    requires f_bound { neighbour (tabled faces.now firsts.now) f < cell_count (tabled faces.now firsts.now) }
-    ensures { result ≡ Lists·back (tabled faces.now firsts.now) f }
+fn back(cells: &Cells, c: usize, f: usize) -> Option<usize>
+    requires meet_once { MeetOnce (tables cells.now) }
+    requires c_bound { c < cell_count (tables cells.now) }
+    requires f_side { SideOf (tables cells.now) c f }
+    requires neighbour_bound { neighbour (tables cells.now) f < cell_count (tables cells.now) }
+    ensures { result ≡ before (first (tables cells.now) (suc (neighbour (tables cells.now) f))) (Lists·back (tables cells.now) f) }
 {
-    let d = face::neighbour(faces, f);
-    let g = meeting(faces, firsts, c, d);
-    let last = face::end(firsts, d);
-    if last <= g {
-        return last;
-    }
-    if is_reversed(faces, firsts, c, f, d, g) {
-        return g;
-    }
-    last
+    let d = cells.neighbour(f);
+    let g = meeting(cells, c, d)?;
+    is_reversed(cells, c, f, d, g).then_some(g)
 }
 
 // Is the neighbour across side f of cell c wrong? Where it is right and no wall, the face on the other side is noted.
-fn is_wrong(faces: &[u16], firsts: &[u16], backs: &mut [u16], c: usize, f: usize) -> bool
-    requires numbered { Numbered (tabled faces.now firsts.now) }
-    requires meet_once { MeetOnce (tabled faces.now firsts.now) }
-    requires firsts_bound { face_count (tabled faces.now firsts.now) < 65536 }
-    requires backed_below { BackedBelow (tabled faces.now firsts.now) f backs.old }
-    requires c_bound { c < cell_count (tabled faces.now firsts.now) }
-    requires side_of { SideOf (tabled faces.now firsts.now) c f }
-    ensures value { result ≡ wrong_neighbour (tabled faces.now firsts.now) f }
-    ensures backed_below_2 { wrong_neighbour (tabled faces.now firsts.now) f ≡ false → BackedBelow (tabled faces.now firsts.now) (f + 1) backs.new }
+fn is_wrong(cells: &Cells, backs: &mut [u16], c: usize, f: usize) -> bool
+    requires meet_once { MeetOnce (tables cells.now) }
+    requires few_faces { face_count (tables cells.now) < 65536 }
+    requires c_bound { c < cell_count (tables cells.now) }
+    requires f_side { SideOf (tables cells.now) c f }
+    requires backed_before { BackedBelow (tables cells.now) f backs.old }
+    ensures value { result ≡ wrong_neighbour (tables cells.now) f }
+    ensures backed_with_it { result ≡ false → BackedBelow (tables cells.now) (f + 1) backs.new }
 {
-    let d = face::neighbour(faces, f);
+    let d = cells.neighbour(f);
     if d == Plan::WALL as usize {
         return false;
     }
-    if firsts.len() - 1 <= d {
+    if cells.count() <= d {
         return true;
     }
-    let g = back(faces, firsts, c, f);
-    if face::end(firsts, d) <= g {
-        return true;
+    match back(cells, c, f) {
+        Some(g) => {
+            backs[f] = g as u16;
+            false
+        }
+        None => true,
     }
-    backs[f] = g as u16;
-    false
 }
 
-// The least wrong face of cell c, or the first of the cell after it.
-fn least_in_cell(faces: &[u16], firsts: &[u16], backs: &mut [u16], c: usize) -> usize
-    requires numbered { Numbered (tabled faces.now firsts.now) }
-    requires meet_once { MeetOnce (tabled faces.now firsts.now) }
-    requires firsts_bound { face_count (tabled faces.now firsts.now) < 65536 }
-    requires c_bound { c < cell_count (tabled faces.now firsts.now) }
-    requires backed_below { BackedBelow (tabled faces.now firsts.now) (first (tabled faces.now firsts.now) c) backs.old }
-    ensures value { result ≡ least (wrong_neighbour (tabled faces.now firsts.now)) (side_count (tabled faces.now firsts.now) c) (first (tabled faces.now firsts.now) c) }
-    ensures backed_below_2 { result ≡ first (tabled faces.now firsts.now) (suc c) → BackedBelow (tabled faces.now firsts.now) (first (tabled faces.now firsts.now) (suc c)) backs.new }
+// The least wrong face; where none is wrong, the table has the faces on the other side.
+pub fn least_wrong(cells: &Cells, backs: &mut [u16]) -> Option<usize>
+    requires meet_once { MeetOnce (tables cells.now) }
+    requires few_faces { face_count (tables cells.now) < 65536 }
+    requires backs_len { length backs.old ≡ face_count (tables cells.now) }
+    ensures value { result ≡ before (face_count (tables cells.now)) (least (wrong_neighbour (tables cells.now)) (face_count (tables cells.now)) 0) }
+    ensures backed { result ≡ None → Backed (tables cells.now) backs.new }
 {
-    let to = face::end(firsts, c);
-    let mut f = face::first(firsts, c);
-    while f < to {
-        if is_wrong(faces, firsts, backs, c, f) {
-            return f;
+    for c in 0..cells.count() {
+        for f in cells.first(c)..cells.end(c) {
+            if is_wrong(cells, backs, c, f) {
+                return Some(f);
+            }
         }
-        f += 1;
     }
-    f
-}
-
-// The least wrong face, or the count; where none is wrong, the table has the faces on the other side.
-pub fn least_wrong(faces: &[u16], firsts: &[u16], backs: &mut [u16]) -> usize
-    requires numbered { Numbered (tabled faces.now firsts.now) }
-    requires meet_once { MeetOnce (tabled faces.now firsts.now) }
-    requires firsts_bound { face_count (tabled faces.now firsts.now) < 65536 }
-    requires backs_len { length backs.old ≡ face_count (tabled faces.now firsts.now) }
-    ensures value { result ≡ least (wrong_neighbour (tabled faces.now firsts.now)) (face_count (tabled faces.now firsts.now)) 0 }
-    ensures backed { result ≡ face_count (tabled faces.now firsts.now) → Backed (tabled faces.now firsts.now) backs.new }
-{
-    let m = firsts.len() - 1;
-    let mut c = 0;
-    while c < m {
-        let f = least_in_cell(faces, firsts, backs, c);
-        if f < face::end(firsts, c) {
-            return f;
-        }
-        c += 1;
-    }
-    faces.len() / 2
+    None
 }

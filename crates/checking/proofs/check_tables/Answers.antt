@@ -1,74 +1,68 @@
 -- `checking::check_tables` meets its contract.
-use mathlib.Core.Path.{◌≡◌, subst}
-use Prim.Native.Nat.{ℕ, ◌≤◌}
+use mathlib.Core.Path.{◌≡◌, refl}
+use Prim.Native.Nat.{ℕ, ◌≤◌, ◌<◌}
 use native.Mathlib.Omega.{arith}
 use lib.ListN.{length}
-use Rattle.cells.specs.Lists.{Cells, corner_count, cell_count, face_count}
-use Rattle.cells.specs.Check.{wrong_neighbour, first_wrong_corner, first_wrong_cell, first_wrong_face, first_wrong_door}
-use Rattle.cells.proofs.Least.{least_bounds, none_is_least}
+use Rattle.std.specs.Prelude.{Some}
+use Rattle.cells.specs.Least.{before}
+use Rattle.cells.specs.Lists.{Cells, tabled, corner_count, cell_count, face_count}
+use Rattle.cells.specs.Check.{first_wrong_corner, first_wrong_cell, first_wrong_face, first_wrong_door}
+use Rattle.cells.proofs.Least.{none_is_least}
+use Rattle.cells.proofs.Searches.{is_before, not_before}
 use Rattle.cells.proofs.Plans.{counts, meet_once}
 use Rattle.cells.proofs.Checks.{corners_near, near_is_right, cells_right, at_a_corner, at_a_cell, at_a_face, at_a_door, at_an_overlap, accepted}
-use Rattle.cells.specs.Lists.{tabled}
 use Rattle.checking.proofs.Measures.{few_faces}
 use Rattle.checking.proofs.check_tables.Goals as goal
-use Rattle.checking.proofs.check_tables.Goals.{Else-c-m, Else-d-k, Else-f-faces, Else-i-n, Start}
+use Rattle.checking.proofs.check_tables.Goals.{Start, In_default, In_default-least_wrong, In_default-least_wrong-2, In_default-least_wrong-3}
 
-abbrev tables : Start → Cells
-tables s = tabled s.args.faces.now s.args.firsts.now
+abbrev drawn : Start → Cells
+drawn s = tabled s.args.faces.now s.args.firsts.now
+
+found : {n k i : ℕ} → Some i ≡ before n k → (i ≡ k) × (i < n)
+found e = let it = is_before e in (it.0, omega (arith, it.0, it.1))
 
 -- ---- what passed
-corners_pass : (c : Else-i-n) → corner_count c.args.corners.now ≤ first_wrong_corner c.args.corners.now
-corners_pass c =
-    subst (λ (i : ℕ). corner_count c.args.corners.now ≤ i) c.least_wrong-i.ensures c.if-i-n.false
+corners_pass : (c : In_default) → corner_count c.args.corners.now ≤ first_wrong_corner c.args.corners.now
+corners_pass c = not_before c.in_default.ensures
 
-cells_pass : (c : Else-c-m) → cell_count (tabled c.args.faces.now c.args.firsts.now) ≤ first_wrong_cell c.args.corners.now (tabled c.args.faces.now c.args.firsts.now)
-cells_pass c =
-    subst (λ (i : ℕ). cell_count (tabled c.args.faces.now c.args.firsts.now) ≤ i) c.least_wrong-c.ensures c.if-c-m.false
+cells_pass : (c : In_default-least_wrong) → cell_count (tabled c.args.faces.now c.args.firsts.now) ≤ first_wrong_cell c.args.corners.now (tabled c.args.faces.now c.args.firsts.now)
+cells_pass c = not_before c.in_default-least_wrong.ensures
 
-faces_pass : (c : Else-f-faces) → face_count (tabled c.args.faces.now c.args.firsts.now) ≤ first_wrong_face (tabled c.args.faces.now c.args.firsts.now)
-faces_pass c =
-    subst (λ (i : ℕ). face_count (tabled c.args.faces.now c.args.firsts.now) ≤ i) c.least_wrong-f.ensures.value c.if-f-faces.false
+faces_pass : (c : In_default-least_wrong-2) → face_count (tabled c.args.faces.now c.args.firsts.now) ≤ first_wrong_face (tabled c.args.faces.now c.args.firsts.now)
+faces_pass c = not_before c.in_default-least_wrong-2.ensures.value
 
--- so the search for a wrong face came to their count
-came_to_the_end : (T : Cells) (f : ℕ) → face_count T ≤ f → f ≡ first_wrong_face T → f ≡ face_count T
-came_to_the_end T f past found = omega (arith, past, found, least_bounds (wrong_neighbour T) (face_count T) 0)
+doors_pass : (c : In_default-least_wrong-3) → length c.args.doors.now ≤ first_wrong_door (tabled c.args.faces.now c.args.firsts.now) c.args.doors.now
+doors_pass c = not_before c.in_default-least_wrong-3.ensures
 
--- the faces on the other side were noted, and no door is wrong
-doors_pass : (c : Else-d-k) → length c.args.doors.now ≤ first_wrong_door (tabled c.args.faces.now c.args.firsts.now) c.args.doors.now
-doors_pass c =
-    let noted = c.least_wrong-f.ensures.backed (came_to_the_end _ _ c.if-f-faces.false c.least_wrong-f.ensures.value) in
-    subst (λ (i : ℕ). length c.args.doors.now ≤ i) (c.least_wrong-d.ensures c.args.firsts.now noted) c.if-d-k.false
+pub returns-in-Some : goal.returns-in-Some
+returns-in-Some c = let it = found c.in-Some.ensures in
+    record { value = at_a_corner c.args.corners.now (drawn (goal.at.returns-in-Some c).Start) c.args.doors.now c.requires.doors_value it.0 it.1; backed = λ sound. absurd (none_is_least _ _ (near_is_right sound.corners) it.0 it.1) }
 
-pub returns-then-i-n : goal.returns-then-i-n
-returns-then-i-n c = let found = c.least_wrong-i.ensures in
-    record { value = at_a_corner c.args.corners.now (tables (goal.at.returns-then-i-n c).Start) c.args.doors.now c.requires.doors_value found c.if-i-n.true; backed = λ sound. absurd (none_is_least _ _ (near_is_right sound.corners) found c.if-i-n.true) }
+pub least_wrong-requires-2 : goal.least_wrong-requires-2
+least_wrong-requires-2 c = record { corners_near = corners_near _ (corners_pass (goal.at.least_wrong-requires-2 c).In_default) }
 
-pub least_wrong-c-requires : goal.least_wrong-c-requires
-least_wrong-c-requires c = record { corners_near = corners_near _ (corners_pass c); numbered = c.requires.numbered }
+pub returns-in-Some-least_wrong : goal.returns-in-Some-least_wrong
+returns-in-Some-least_wrong c = let it = found c.in-Some-least_wrong.ensures in
+    record { value = at_a_cell c.args.corners.now (drawn (goal.at.returns-in-Some-least_wrong c).Start) c.args.doors.now c.requires.doors_value (corners_pass (goal.at.returns-in-Some-least_wrong c).In_default) it.0 it.1; backed = λ sound. absurd (none_is_least _ _ sound.cells.right it.0 it.1) }
 
-pub returns-then-c-m : goal.returns-then-c-m
-returns-then-c-m c = let found = c.least_wrong-c.ensures in
-    record { value = at_a_cell c.args.corners.now (tables (goal.at.returns-then-c-m c).Start) c.args.doors.now c.requires.doors_value (corners_pass (goal.at.returns-then-c-m c).Else-i-n) found c.if-c-m.true; backed = λ sound. absurd (none_is_least _ _ sound.cells.right found c.if-c-m.true) }
+pub least_wrong-requires-3 : goal.least_wrong-requires-3
+least_wrong-requires-3 c = record { meet_once = meet_once c.requires.numbered (cells_right c.args.corners.now _ (cells_pass (goal.at.least_wrong-requires-3 c).In_default-least_wrong)); few_faces = few_faces c.requires.numbered (counts _ _ _ c.requires.doors_value).cells_at_most; backs_len = c.requires.backs_len }
 
-pub least_wrong-f-requires : goal.least_wrong-f-requires
-least_wrong-f-requires c = record { numbered = c.requires.numbered; meet_once = meet_once c.requires.numbered (cells_right c.args.corners.now (tables (goal.at.least_wrong-f-requires c).Start) (cells_pass (goal.at.least_wrong-f-requires c).Else-c-m)); firsts_bound = few_faces c.requires.numbered (counts _ _ _ c.requires.doors_value).cells_at_most; backs_len = c.requires.backs_len }
+pub returns-in-Some-least_wrong-2 : goal.returns-in-Some-least_wrong-2
+returns-in-Some-least_wrong-2 c = let it = found c.in-Some-least_wrong-2.ensures.value in
+    record { value = at_a_face c.args.corners.now (drawn (goal.at.returns-in-Some-least_wrong-2 c).Start) c.args.doors.now c.requires.doors_value (corners_pass (goal.at.returns-in-Some-least_wrong-2 c).In_default) (cells_pass (goal.at.returns-in-Some-least_wrong-2 c).In_default-least_wrong) it.0 it.1; backed = λ sound. absurd (none_is_least _ _ sound.neighbours.right it.0 it.1) }
 
-pub returns-then-f-faces : goal.returns-then-f-faces
-returns-then-f-faces c = let found = c.least_wrong-f.ensures.value in
-    record { value = at_a_face c.args.corners.now (tables (goal.at.returns-then-f-faces c).Start) c.args.doors.now c.requires.doors_value (corners_pass (goal.at.returns-then-f-faces c).Else-i-n) (cells_pass (goal.at.returns-then-f-faces c).Else-c-m) found c.if-f-faces.true; backed = λ sound. absurd (none_is_least _ _ sound.neighbours.right found c.if-f-faces.true) }
-
-pub returns-then-d-k : goal.returns-then-d-k
-returns-then-d-k c = let noted = c.least_wrong-f.ensures.backed (came_to_the_end _ _ c.if-f-faces.false c.least_wrong-f.ensures.value) in
-    let found = c.least_wrong-d.ensures c.args.firsts.now noted in
-    record { value = at_a_door c.args.corners.now (tables (goal.at.returns-then-d-k c).Start) c.args.doors.now c.requires.doors_value (corners_pass (goal.at.returns-then-d-k c).Else-i-n) (cells_pass (goal.at.returns-then-d-k c).Else-c-m) (faces_pass (goal.at.returns-then-d-k c).Else-f-faces) found c.if-d-k.true; backed = λ sound. absurd (none_is_least _ _ sound.doors found c.if-d-k.true) }
+pub returns-in-Some-least_wrong-3 : goal.returns-in-Some-least_wrong-3
+returns-in-Some-least_wrong-3 c = let it = found c.in-Some-least_wrong-3.ensures in
+    record { value = at_a_door c.args.corners.now (drawn (goal.at.returns-in-Some-least_wrong-3 c).Start) c.args.doors.now c.requires.doors_value (corners_pass (goal.at.returns-in-Some-least_wrong-3 c).In_default) (cells_pass (goal.at.returns-in-Some-least_wrong-3 c).In_default-least_wrong) (faces_pass (goal.at.returns-in-Some-least_wrong-3 c).In_default-least_wrong-2) it.0 it.1; backed = λ sound. absurd (none_is_least _ _ sound.doors it.0 it.1) }
 
 pub least_overlapping-o-requires : goal.least_overlapping-o-requires
-least_overlapping-o-requires c = record { ready = record { near = corners_near _ (corners_pass (goal.at.least_overlapping-o-requires c).Else-i-n); numbered = c.requires.numbered; right = cells_right _ _ (cells_pass (goal.at.least_overlapping-o-requires c).Else-c-m) }; firsts_bound = (counts _ _ _ c.requires.doors_value).cells_at_most; firsts_in_bounds = c.requires.firsts_in_bounds }
+least_overlapping-o-requires c = record { ready = record { near = corners_near _ (corners_pass (goal.at.least_overlapping-o-requires c).In_default); numbered = c.requires.numbered; right = cells_right _ _ (cells_pass (goal.at.least_overlapping-o-requires c).In_default-least_wrong) }; firsts_bound = (counts _ _ _ c.requires.doors_value).cells_at_most; firsts_in_bounds = c.requires.firsts_in_bounds }
 
 pub returns-then-o-m : goal.returns-then-o-m
-returns-then-o-m c = let noted = c.least_wrong-f.ensures.backed (came_to_the_end _ _ c.if-f-faces.false c.least_wrong-f.ensures.value) in
-    record { value = at_an_overlap c.args.corners.now (tables (goal.at.returns-then-o-m c).Start) c.args.doors.now c.requires.doors_value (corners_pass (goal.at.returns-then-o-m c).Else-i-n) (cells_pass (goal.at.returns-then-o-m c).Else-c-m) (faces_pass (goal.at.returns-then-o-m c).Else-f-faces) (doors_pass (goal.at.returns-then-o-m c).Else-d-k) c.least_overlapping-o.ensures.value c.if-o-m.true; backed = λ sound. (noted, c.least_overlapping-o.ensures.boxed) }
+returns-then-o-m c =
+    record { value = at_an_overlap c.args.corners.now (drawn (goal.at.returns-then-o-m c).Start) c.args.doors.now c.requires.doors_value (corners_pass (goal.at.returns-then-o-m c).In_default) (cells_pass (goal.at.returns-then-o-m c).In_default-least_wrong) (faces_pass (goal.at.returns-then-o-m c).In_default-least_wrong-2) (doors_pass (goal.at.returns-then-o-m c).In_default-least_wrong-3) c.least_overlapping-o.ensures.value (omega (arith, c.count-m.ensures, c.if-o-m.true)); backed = λ sound. (c.in_default-least_wrong-2.ensures.backed refl, c.least_overlapping-o.ensures.boxed) }
 
 pub returns : goal.returns
-returns c = let noted = c.least_wrong-f.ensures.backed (came_to_the_end _ _ c.if-f-faces.false c.least_wrong-f.ensures.value) in
-    record { value = accepted c.args.corners.now (tables (goal.at.returns c).Start) c.args.doors.now c.requires.doors_value (corners_pass (goal.at.returns c).Else-i-n) (cells_pass (goal.at.returns c).Else-c-m) (faces_pass (goal.at.returns c).Else-f-faces) (doors_pass (goal.at.returns c).Else-d-k) (subst (λ (i : ℕ). cell_count (tables (goal.at.returns c).Start) ≤ i) c.least_overlapping-o.ensures.value c.if-o-m.false); backed = λ sound. (noted, c.least_overlapping-o.ensures.boxed) }
+returns c =
+    record { value = rw c.count-m.ensures (accepted c.args.corners.now (drawn (goal.at.returns c).Start) c.args.doors.now c.requires.doors_value (corners_pass (goal.at.returns c).In_default) (cells_pass (goal.at.returns c).In_default-least_wrong) (faces_pass (goal.at.returns c).In_default-least_wrong-2) (doors_pass (goal.at.returns c).In_default-least_wrong-3) (omega (arith, c.count-m.ensures, c.least_overlapping-o.ensures.value, c.if-o-m.false))); backed = λ sound. (c.in_default-least_wrong-2.ensures.backed refl, c.least_overlapping-o.ensures.boxed) }

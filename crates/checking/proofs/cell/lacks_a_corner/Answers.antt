@@ -1,28 +1,18 @@
 -- `checking::cell::lacks_a_corner` meets its contract.
-use mathlib.Core.Path.{subst}
-use Prim.Native.Nat.{ℕ, ◌≤◌, ◌<◌}
-use Rattle.cells.specs.Lists.{corner_count}
+use mathlib.Core.Path.{refl}
+use borrow.Author.Tests.{tests}
+use Rattle.std.proofs.Common.{rules}
+use Rattle.std.proofs.lemmas.Iterator.{serves_from_Range}
+use Rattle.cells.specs.Check.{some_face, missing_corner}
 use Rattle.cells.proofs.Faces.{side_exists}
-use Rattle.cells.proofs.Cells.{exists, is_missing}
-use Rattle.face.proofs.Tables.{looks_first, looks_at, looks_on, found_a_side, found_no_side}
+use Rattle.cells.proofs.Searches.{some_from_any}
+use Rattle.face.specs.Tables.{tables}
+use Rattle.checking.proofs.Cells.{side_from}
 use Rattle.checking.proofs.cell.lacks_a_corner.Goals as goal
 
-pub end-to-requires : goal.end-to-requires
-end-to-requires c = c.requires.c_bound
-
-pub loop-f-init : goal.loop-f-init
-loop-f-init c = looks_first c.requires.numbered c.requires.c_bound c.end-to.ensures c.first-f.ensures
-
-pub start-requires : goal.start-requires
-start-requires c = side_exists c.requires.numbered c.requires.c_bound (looks_at c.loop-f.invariant c.loop-f-test.true)
-
-pub returns-then-n-start : goal.returns-then-n-start
-returns-then-n-start c = let missing = is_missing _ _ _ (subst (λ (a : ℕ). corner_count c.args.corners.now ≤ a) (c.start.ensures c.args.firsts.now) c.if-n-start.true) in
-    found_a_side c.loop-f.invariant c.loop-f-test.true missing
-
-pub loop-f-preserved : goal.loop-f-preserved
-loop-f-preserved c = let there = exists _ _ _ (subst (λ (a : ℕ). a < corner_count c.args.corners.now) (c.start.ensures c.args.firsts.now) c.if-n-start.false) in
-    looks_on c.loop-f.invariant c.loop-f-test.true there
+pub any-requires-clause-callable : goal.any-requires-clause-callable
+any-requires-clause-callable c = serves_from_Range (λ x q k. search rules) (λ x h l. let below = side_exists c.args.cells.now.numbered c.requires (side_from c.first.ensures c.end.ensures h l) in search rules)
 
 pub returns : goal.returns
-returns c = found_no_side c.loop-f.invariant c.loop-f-test.false
+unfolding some_face missing_corner
+returns c = some_from_any (missing_corner c.args.corners.now (tables c.args.cells.now)) _ _ _ c.first.ensures c.end.ensures refl _ c.any.ensures.ran (λ x q k. search (rules, tests)) (λ x q k. search (rules, tests))

@@ -1,13 +1,23 @@
 -- `checking::door::is_wrong` meets its contract.
-use Rattle.cells.specs.Lists.{tabled}
+use mathlib.Core.Path.{sym, ◌∙◌}
+use native.Mathlib.Omega.{arith}
+use borrow.Author.Tests.{eq-eqb, eqb-true, le-leb}
+use Rattle.cells.proofs.Least.{not_both}
+use Rattle.face.specs.Tables.{tables}
 use Rattle.checking.proofs.Doors.{no_such_face, on_a_wall, by_earlier}
 use Rattle.checking.proofs.door.is_wrong.Goals as goal
-
-pub returns-then-n-f : goal.returns-then-n-f
-returns-then-n-f c = λ gs backed. no_such_face (tabled c.args.faces.now gs) c.args.doors.now c.args.i c.if-n-f.true
+use Rattle.checking.proofs.door.is_wrong.Goals.{then-backs-f, else-backs-f}
 
 pub returns-then-neighbour : goal.returns-then-neighbour
-returns-then-neighbour c = λ gs backed. on_a_wall (tabled c.args.faces.now gs) c.args.doors.now c.args.i c.if-n-f.false (c.neighbour.ensures gs) c.if-neighbour.true
+returns-then-neighbour c = c.if-neighbour.true
+    ∙ (elim c.if-backs-f.branch [
+      | then-backs-f w ↦ no_such_face (tables c.args.cells.now) c.args.doors.now c.args.i (omega (arith, c.requires.backed.whole, w.if-backs-f.true))
+      | else-backs-f w ↦ on_a_wall (tables c.args.cells.now) c.args.doors.now c.args.i (omega (arith, c.requires.backed.whole, w.if-backs-f.false)) w.neighbour.ensures (eqb-true _ _ (sym w.value-is ∙ c.if-neighbour.true))
+    ])
 
-pub returns : goal.returns
-returns c = λ gs backed. by_earlier (tabled c.args.faces.now gs) c.args.doors.now c.args.i c.if-n-f.false (c.neighbour.ensures gs) c.if-neighbour.false backed c.named.ensures
+pub returns-else-neighbour : goal.returns-else-neighbour
+returns-else-neighbour c =
+    elim c.if-backs-f.branch [
+      | then-backs-f w ↦ absurd (not_both (le-leb _ _ w.if-backs-f.true) (sym w.value-is ∙ c.if-neighbour.false))
+      | else-backs-f w ↦ by_earlier (tables c.args.cells.now) c.args.doors.now c.args.i (omega (arith, c.requires.backed.whole, w.if-backs-f.false)) w.neighbour.ensures (λ e. not_both (eq-eqb _ _ e) (sym w.value-is ∙ c.if-neighbour.false)) c.requires.backed (omega arith) c.is_named.ensures
+    ]

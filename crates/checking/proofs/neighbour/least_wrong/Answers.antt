@@ -1,24 +1,31 @@
 -- `checking::neighbour::least_wrong` meets its contract.
+use mathlib.Core.Path.{◌≡◌, ap, sym, ◌∙◌}
+use Prim.Native.Nat.{◌<◌}
 use native.Mathlib.Omega.{arith}
-use Rattle.checking.proofs.Backs.{sweep_begins, sweep_found, sweep_on, sweep_ends}
+use Rattle.cells.specs.Lists.{first, face_count, cell_count}
+use Rattle.cells.proofs.Faces.{SideOf, side_exists}
+use Rattle.face.specs.Tables.{tables}
+use Rattle.checking.proofs.Cells.{side_from}
+use Rattle.checking.proofs.Backs.{sweep_found, sweep_on, sweep_ends}
 use Rattle.checking.proofs.neighbour.least_wrong.Goals as goal
+use Rattle.checking.proofs.neighbour.least_wrong.Goals.{After-is_wrong}
 
-pub overflow_sub-m : goal.overflow_sub-m
-overflow_sub-m c = omega (arith, c.requires.numbered.firsts_stand)
+cell_exists : (c : After-is_wrong) → c.loop-c.c < cell_count (tables c.args.cells.now)
+cell_exists c = omega (arith, c.count-c-end.ensures, c.loop-c-test.true)
 
-pub loop-c-init : goal.loop-c-init
-loop-c-init c = sweep_begins c.requires.numbered c.requires.backs_len
+side : (c : After-is_wrong) → SideOf (tables c.args.cells.now) c.loop-c.c c.loop-f.f
+side c = side_from c.first-f.ensures c.end-f-end.ensures c.loop-f.auto.f c.loop-f-test.true
 
-pub least_in_cell-f-requires : goal.least_in_cell-f-requires
-least_in_cell-f-requires c = record { numbered = c.requires.numbered; meet_once = c.requires.meet_once; firsts_bound = c.requires.firsts_bound; c_bound = c.loop-c-test.true; backed_below = c.loop-c.invariant.backed }
+exists : (c : After-is_wrong) → c.loop-f.f < face_count (tables c.args.cells.now)
+exists c = side_exists c.args.cells.now.numbered (cell_exists c) (side c)
 
-pub returns-then-f-end : goal.returns-then-f-end
-returns-then-f-end c = let found = sweep_found c.requires.numbered c.loop-c.invariant c.loop-c-test.true c.least_in_cell-f.ensures.value c.end.ensures c.if-f-end.true in
-    record { value = found.0; backed = λ e. absurd (omega arith) }
+pub returns-then-is_wrong : goal.returns-then-is_wrong
+returns-then-is_wrong c = record { value = sweep_found c.loop-f.invariant (exists (goal.at.returns-then-is_wrong c).After-is_wrong) (sym c.is_wrong.ensures.value ∙ c.if-is_wrong.true); backed = λ e. cc }
 
-pub loop-c-preserved : goal.loop-c-preserved
-loop-c-preserved c = sweep_on c.requires.numbered c.loop-c.invariant c.loop-c-test.true c.least_in_cell-f.ensures.value c.end.ensures c.if-f-end.false c.least_in_cell-f.ensures.backed_below_2
+pub loop-f-preserved : goal.loop-f-preserved
+loop-f-preserved c = sweep_on c.loop-f.invariant (exists (goal.at.loop-f-preserved c).After-is_wrong) (sym c.is_wrong.ensures.value ∙ c.if-is_wrong.false) (c.is_wrong.ensures.backed_with_it c.if-is_wrong.false)
 
 pub returns : goal.returns
-returns c = let ends = sweep_ends c.requires.numbered c.loop-c.invariant c.loop-c-test.false in
+returns c = let all : c.loop-c.c ≡ cell_count (tables c.args.cells.now) = omega (arith, c.count-c-end.ensures, c.loop-c.auto.c-end, c.loop-c-test.false) in
+    let ends = sweep_ends c.loop-c.invariant (ap (first (tables c.args.cells.now)) all ∙ c.args.cells.now.numbered.ends) in
     record { value = ends.0; backed = λ e. ends.1 }

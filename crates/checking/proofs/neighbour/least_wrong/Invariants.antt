@@ -1,10 +1,10 @@
-use Prim.Native.Nat.{◌-◌}
-use Rattle.cells.specs.Lists.{tabled}
+use Rattle.cells.specs.Lists.{first}
+use Rattle.face.specs.Tables.{tables}
 use Rattle.checking.proofs.Backs.{Swept}
 use Rattle.checking.proofs.neighbour.least_wrong.Given as goal
 
 abbrev pub invariant-loop-c : goal.invariant-loop-c
-invariant-loop-c l = Swept (tabled l.faces l.firsts) l.backs l.c
+invariant-loop-c l = Swept (tables l.cells) l.backs (first (tables l.cells) l.c)
 
-abbrev pub decreases-loop-c : goal.decreases-loop-c
-decreases-loop-c l = l.m - l.c
+abbrev pub invariant-loop-f : goal.invariant-loop-f
+invariant-loop-f l = Swept (tables l.cells) l.backs l.f
