@@ -2,7 +2,7 @@
 ghost use Rattle.std.specs.Prelude.{◌*◌, ◌<◌, ◌≤◌, ◌≡◌, length};
 ghost use Rattle.boxes.specs.Parts.{reaching, Listed, Picked};
 
-use crate::{Bounds, joined, read};
+use crate::{Bounds, read};
 
 // An upright line at the x that is half of `twice`, or a level one at such a y; and a side of it: beyond it, or before it.
 #[derive(Clone, Copy)]
@@ -84,7 +84,7 @@ fn extent(list: &[u16], boxes: &[i32], m: usize) -> Bounds
     while i < n {
         let c = list[i] as usize;
         let b = read(boxes, c);
-        r = joined(r, b);
+        r = r.joined(b);
         i += 1;
     }
     r
