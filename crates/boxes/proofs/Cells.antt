@@ -9,7 +9,7 @@ use Rattle.plane.specs.Side.{Point}
 use Rattle.cells.specs.Lists.{Cells, corner_count, corner_at, cell_count, first, start}
 use Rattle.cells.specs.Sound.{Numbered, CornersExist}
 use Rattle.cells.proofs.Faces.{SideOf, side_exists}
-use Rattle.boxes.specs.Boxes.{Holds, Wider, HoldsCell}
+use Rattle.boxes.specs.Boxes.{Holds, Wider}
 use Rattle.boxes.specs.declared.Bounds.{Bounds}
 use Rattle.boxes.proofs.Numbers.{at_most_then}
 
@@ -57,6 +57,3 @@ module _ {cs : List ℤ} {T : Cells} {c to : ℕ} {r : Bounds} where
         by_place g k m (no n) =
             let same : f ≡ g = omega arith in
             subst (λ (g : ℕ). Holds r' (corner_at cs (start T g))) same (wider_holds v (subst (λ (j : ℕ). Holds one (corner_at cs j)) s h))
-
-    pub all_held : to ≤ f → HoldsCell cs T c r
-    all_held k = record { corners = λ g m n. l.so_far g m (omega (arith, l.ends)) }

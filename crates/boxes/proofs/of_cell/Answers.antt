@@ -1,7 +1,7 @@
 -- `boxes::of_cell` meets its contract.
 use native.Mathlib.Omega.{arith}
 use Rattle.cells.proofs.Faces.{side_exists}
-use Rattle.boxes.proofs.Cells.{first_side, corner_there, holding_begins, holding_at, holding_goes_on}
+use Rattle.boxes.proofs.Cells.{first_side, corner_there, holding_at, holding_goes_on}
 use Rattle.boxes.proofs.of_cell.Goals as goal
 
 pub start-requires : goal.start-requires
