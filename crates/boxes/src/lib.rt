@@ -23,6 +23,7 @@ pub struct Bounds {
 
 impl Bounds {
     // The box of two boxes.
+    #[tactic(auto, using(crate::proofs::Numbers::both_at_most, crate::proofs::Numbers::both_at_least))]
     pub fn joined(self, other: Bounds) -> Bounds
         ensures holds_self { Wider result self }
         ensures holds_other { Wider result other }
