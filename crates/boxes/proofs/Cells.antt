@@ -39,12 +39,6 @@ pub record Holding (cs : List ℤ) (T : Cells) (c to : ℕ) (r : Bounds) (f : �
   pub so_far : (g : ℕ) → first T c ≤ g → g < f → Holds r (corner_at cs (start T g))
 
 module _ {cs : List ℤ} {T : Cells} {c to : ℕ} {r : Bounds} where
-  pub holding_begins : to ≡ first T (suc c) → {f i : ℕ} → f ≡ first T c → i ≡ start T f → Holds r (corner_at cs i) → Holding cs T c to r (f + 1)
-  holding_begins e {f} {i} b s h = record { ends = e; begun = omega (arith, b); so_far = the_first }
-    where
-      the_first : (g : ℕ) → first T c ≤ g → g < f + 1 → Holds r (corner_at cs (start T g))
-      the_first g k l = let same : f ≡ g = omega (arith, b) in subst (λ (g : ℕ). Holds r (corner_at cs (start T g))) same (subst (λ (j : ℕ). Holds r (corner_at cs j)) s h)
-
   module _ {f : ℕ} (l : Holding cs T c to r f) where
     pub holding_at : f < to → SideOf T c f
     holding_at k = record { not_before = l.begun; not_after = omega (arith, l.ends) }
