@@ -13,6 +13,7 @@ ghost use Rattle.boxes.specs.Boxes.{Boxed};
 ghost use Rattle.checking.specs.Sizes.{sizes_of, Fit};
 
 use draw::Counted;
+use face::Cells;
 pub use limits::{Checked, Plan, Refusal};
 
 mod cell;
@@ -56,8 +57,8 @@ pub fn check_tables(
     if d < k {
         return Checked::Refused(Refusal::Door(d));
     }
-    let o = overlap::least_overlapping(corners, faces, firsts, boxes);
-    if o < m {
+    let cells = Cells { faces, firsts };
+    if let Some(o) = overlap::least_overlapping(corners, &cells, boxes) {
         return Checked::Refused(Refusal::Overlap(o));
     }
     Checked::Accepted(Plan {

@@ -1,8 +1,13 @@
 -- `checking::check_tables` meets its contract.
-use mathlib.Core.Path.{◌≡◌, subst}
-use Prim.Native.Nat.{ℕ, ◌≤◌}
+use mathlib.Core.Bool.{Bool, true, false}
+use mathlib.Core.Path.{◌≡◌, refl, sym, ◌∙◌, subst}
+use Prim.Native.Nat.{ℕ, ◌≤◌, ◌<◌}
 use native.Mathlib.Omega.{arith}
+use borrow.Author.Tests.{ltb-true, ltb-false}
+use lib.Dec.{ltb}
 use lib.ListN.{length}
+use Rattle.std.specs.Prelude.{Option, Some, None}
+use Rattle.cells.specs.Least.{before}
 use Rattle.cells.specs.Lists.{Cells, corner_count, cell_count, face_count}
 use Rattle.cells.specs.Check.{wrong_neighbour, first_wrong_corner, first_wrong_cell, first_wrong_face, first_wrong_door}
 use Rattle.cells.proofs.Least.{least_bounds, none_is_least}
@@ -15,6 +20,21 @@ use Rattle.checking.proofs.check_tables.Goals.{Else-c-m, Else-d-k, Else-f-faces,
 
 abbrev tables : Start → Cells
 tables s = tabled s.args.faces.now s.args.firsts.now
+
+-- ---- a place, where it is before the end
+before_some : {n i j : ℕ} → before n i ≡ Some j → (j ≡ i) × (j < n)
+before_some {n} {i} {j} = by_test (ltb i n) refl
+  where
+    by_test : (b : Bool) → ltb i n ≡ b → elim b as (λ _. Option ℕ) [ true ↦ Some i | false ↦ None ] ≡ Some j → (j ≡ i) × (j < n)
+    by_test true t e = let here : j ≡ i = cc in (here, omega (arith, here, ltb-true i n t))
+    by_test false t e = absurd cc
+
+before_none : {n i : ℕ} → before n i ≡ None → n ≤ i
+before_none {n} {i} = by_test (ltb i n) refl
+  where
+    by_test : (b : Bool) → ltb i n ≡ b → elim b as (λ _. Option ℕ) [ true ↦ Some i | false ↦ None ] ≡ None → n ≤ i
+    by_test true t e = absurd cc
+    by_test false t e = ltb-false i n t
 
 -- ---- what passed
 corners_pass : (c : Else-i-n) → corner_count c.args.corners.now ≤ first_wrong_corner c.args.corners.now
@@ -62,13 +82,17 @@ returns-then-d-k c = let noted = c.least_wrong-f.ensures.backed (came_to_the_end
     let found = c.least_wrong-d.ensures c.args.firsts.now noted in
     record { value = at_a_door c.args.corners.now (tables (goal.at.returns-then-d-k c).Start) c.args.doors.now c.requires.doors_value (corners_pass (goal.at.returns-then-d-k c).Else-i-n) (cells_pass (goal.at.returns-then-d-k c).Else-c-m) (faces_pass (goal.at.returns-then-d-k c).Else-f-faces) found c.if-d-k.true; backed = λ sound. absurd (none_is_least _ _ sound.doors found c.if-d-k.true) }
 
-pub least_overlapping-o-requires : goal.least_overlapping-o-requires
-least_overlapping-o-requires c = record { ready = record { near = corners_near _ (corners_pass (goal.at.least_overlapping-o-requires c).Else-i-n); numbered = c.requires.numbered; right = cells_right _ _ (cells_pass (goal.at.least_overlapping-o-requires c).Else-c-m) }; firsts_bound = (counts _ _ _ c.requires.doors_value).cells_at_most; firsts_in_bounds = c.requires.firsts_in_bounds }
+pub least_overlapping-requires-clause-ready : goal.least_overlapping-requires-clause-ready
+least_overlapping-requires-clause-ready c = record { near = corners_near _ (corners_pass (goal.at.least_overlapping-requires-clause-ready c).Else-i-n); numbered = c.requires.numbered; right = cells_right _ _ (cells_pass (goal.at.least_overlapping-requires-clause-ready c).Else-c-m) }
 
-pub returns-then-o-m : goal.returns-then-o-m
-returns-then-o-m c = let noted = c.least_wrong-f.ensures.backed (came_to_the_end _ _ c.if-f-faces.false c.least_wrong-f.ensures.value) in
-    record { value = at_an_overlap c.args.corners.now (tables (goal.at.returns-then-o-m c).Start) c.args.doors.now c.requires.doors_value (corners_pass (goal.at.returns-then-o-m c).Else-i-n) (cells_pass (goal.at.returns-then-o-m c).Else-c-m) (faces_pass (goal.at.returns-then-o-m c).Else-f-faces) (doors_pass (goal.at.returns-then-o-m c).Else-d-k) c.least_overlapping-o.ensures.value c.if-o-m.true; backed = λ sound. (noted, c.least_overlapping-o.ensures.boxed) }
+pub least_overlapping-requires-clause-few : goal.least_overlapping-requires-clause-few
+least_overlapping-requires-clause-few c = (counts _ _ _ c.requires.doors_value).cells_at_most
+
+pub returns-in-Some : goal.returns-in-Some
+returns-in-Some c = let noted = c.least_wrong-f.ensures.backed (came_to_the_end _ _ c.if-f-faces.false c.least_wrong-f.ensures.value) in
+    let found = before_some (sym c.least_overlapping.ensures.value ∙ c.in-Some.is) in
+    record { value = at_an_overlap c.args.corners.now (tables (goal.at.returns-in-Some c).Start) c.args.doors.now c.requires.doors_value (corners_pass (goal.at.returns-in-Some c).Else-i-n) (cells_pass (goal.at.returns-in-Some c).Else-c-m) (faces_pass (goal.at.returns-in-Some c).Else-f-faces) (doors_pass (goal.at.returns-in-Some c).Else-d-k) found.0 found.1; backed = λ sound. (noted, c.least_overlapping.ensures.boxed) }
 
 pub returns : goal.returns
 returns c = let noted = c.least_wrong-f.ensures.backed (came_to_the_end _ _ c.if-f-faces.false c.least_wrong-f.ensures.value) in
-    record { value = accepted c.args.corners.now (tables (goal.at.returns c).Start) c.args.doors.now c.requires.doors_value (corners_pass (goal.at.returns c).Else-i-n) (cells_pass (goal.at.returns c).Else-c-m) (faces_pass (goal.at.returns c).Else-f-faces) (doors_pass (goal.at.returns c).Else-d-k) (subst (λ (i : ℕ). cell_count (tables (goal.at.returns c).Start) ≤ i) c.least_overlapping-o.ensures.value c.if-o-m.false); backed = λ sound. (noted, c.least_overlapping-o.ensures.boxed) }
+    record { value = accepted c.args.corners.now (tables (goal.at.returns c).Start) c.args.doors.now c.requires.doors_value (corners_pass (goal.at.returns c).Else-i-n) (cells_pass (goal.at.returns c).Else-c-m) (faces_pass (goal.at.returns c).Else-f-faces) (doors_pass (goal.at.returns c).Else-d-k) (before_none (sym c.least_overlapping.ensures.value ∙ c.in_default.is)); backed = λ sound. (noted, c.least_overlapping.ensures.boxed) }
