@@ -46,9 +46,14 @@ fn count(list: &[u16], boxes: &[i32], line: Line) -> usize
     requires { Listed (length boxes.now / 4) list.now }
     ensures { result ≤ length list.now }
 {
-    list.iter()
-        .filter(|&&c| is_reaching(read(boxes, c as usize), line))
-        .count()
+    // not `filter(..).count()`: that branches at each cell, and the check of a plan took up to a sixth longer
+    let mut k = 0;
+    for &c in list {
+        if is_reaching(read(boxes, c as usize), line) {
+            k += 1;
+        }
+    }
+    k
 }
 
 // The box of all cells listed, of which there is one.
@@ -95,6 +100,7 @@ fn is_helpful(list: &[u16], boxes: &[i32], line: Line) -> bool
 
 // A line that helps: through the middle of what the list covers, or, where few cells far away keep that from helping, through the middle of one of its
 // cells; across the longer side of what it covers rather than across the shorter. Or none of these does.
+#[inline(never)] // within a search, it would have each set its list of cells to 0 once more
 pub fn choose(list: &[u16], boxes: &[i32]) -> Option<Line>
     requires listed { Listed (length boxes.now / 4) list.now }
     requires not_empty { 0 < length list.now }

@@ -35,22 +35,24 @@ fn search(all: &WithBoxes, list: &[u16], levels: usize, best: usize) -> usize
     if list.len() <= FEW || levels == 0 {
         return all.compare(list, best);
     }
-    let Some(line) = part::choose(list, all.boxes) else {
-        return all.compare(list, best);
-    };
-    let mut some = [0u16; Plan::MOST_CELLS];
-    let before = Line {
-        beyond: false,
-        ..line
-    };
-    let k = part::pick(list, all.boxes, before, &mut some);
-    let found = search(all, &some[..k], levels - 1, best);
-    let beyond = Line {
-        beyond: true,
-        ..line
-    };
-    let l = part::pick(list, all.boxes, beyond, &mut some);
-    search(all, &some[..l], levels - 1, found)
+    match part::choose(list, all.boxes) {
+        None => all.compare(list, best),
+        Some(line) => {
+            let mut some = [0u16; Plan::MOST_CELLS];
+            let before = Line {
+                beyond: false,
+                ..line
+            };
+            let k = part::pick(list, all.boxes, before, &mut some);
+            let found = search(all, &some[..k], levels - 1, best);
+            let beyond = Line {
+                beyond: true,
+                ..line
+            };
+            let l = part::pick(list, all.boxes, beyond, &mut some);
+            search(all, &some[..l], levels - 1, found)
+        }
+    }
 }
 
 // Lists all m cells.
