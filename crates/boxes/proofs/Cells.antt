@@ -9,7 +9,7 @@ use Rattle.plane.specs.Side.{Point}
 use Rattle.cells.specs.Lists.{Cells, corner_count, corner_at, cell_count, first, start}
 use Rattle.cells.specs.Sound.{Numbered, CornersExist}
 use Rattle.cells.proofs.Faces.{SideOf, side_exists}
-use Rattle.boxes.specs.Boxes.{Holds, Wider, HoldsCell}
+use Rattle.boxes.specs.Boxes.{Holds, Wider}
 use Rattle.boxes.specs.declared.Bounds.{Bounds}
 use Rattle.boxes.proofs.Numbers.{at_most_then}
 
@@ -39,12 +39,6 @@ pub record Holding (cs : List ℤ) (T : Cells) (c to : ℕ) (r : Bounds) (f : �
   pub so_far : (g : ℕ) → first T c ≤ g → g < f → Holds r (corner_at cs (start T g))
 
 module _ {cs : List ℤ} {T : Cells} {c to : ℕ} {r : Bounds} where
-  pub holding_begins : to ≡ first T (suc c) → {f i : ℕ} → f ≡ first T c → i ≡ start T f → Holds r (corner_at cs i) → Holding cs T c to r (f + 1)
-  holding_begins e {f} {i} b s h = record { ends = e; begun = omega (arith, b); so_far = the_first }
-    where
-      the_first : (g : ℕ) → first T c ≤ g → g < f + 1 → Holds r (corner_at cs (start T g))
-      the_first g k l = let same : f ≡ g = omega (arith, b) in subst (λ (g : ℕ). Holds r (corner_at cs (start T g))) same (subst (λ (j : ℕ). Holds r (corner_at cs j)) s h)
-
   module _ {f : ℕ} (l : Holding cs T c to r f) where
     pub holding_at : f < to → SideOf T c f
     holding_at k = record { not_before = l.begun; not_after = omega (arith, l.ends) }
@@ -57,6 +51,3 @@ module _ {cs : List ℤ} {T : Cells} {c to : ℕ} {r : Bounds} where
         by_place g k m (no n) =
             let same : f ≡ g = omega arith in
             subst (λ (g : ℕ). Holds r' (corner_at cs (start T g))) same (wider_holds v (subst (λ (j : ℕ). Holds one (corner_at cs j)) s h))
-
-    pub all_held : to ≤ f → HoldsCell cs T c r
-    all_held k = record { corners = λ g m n. l.so_far g m (omega (arith, l.ends)) }

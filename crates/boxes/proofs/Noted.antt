@@ -9,7 +9,7 @@ use lib.IntN.{ℤ, pos}
 use lib.ListN.{length, get_or, set, length-set}
 use lib.Seq.{sets, length-sets, get_or-set_same, get_or-set_other}
 use Rattle.cells.specs.Lists.{Cells, cell_count}
-use Rattle.boxes.specs.Boxes.{HoldsCell, box_at, BoxedBelow, Boxed}
+use Rattle.boxes.specs.Boxes.{HoldsCell, box_at, BoxedBelow}
 use Rattle.boxes.specs.declared.Bounds.{Bounds}
 use Rattle.boxes.proofs.Numbers.{Fits32, back, same}
 
@@ -63,12 +63,6 @@ box_stands l c b h =
 -- ---- the boxes noted so far
 
 module _ {cs : List ℤ} {T : Cells} where
-  pub none_boxed : {bs : List ℤ} → 4 * cell_count T ≤ length bs → BoxedBelow cs T 0 bs
-  none_boxed h = record { room = h; each = λ c k. absurd (omega arith) }
-
-  pub all_boxed : {c : ℕ} {bs : List ℤ} → BoxedBelow cs T c bs → cell_count T ≤ c → Boxed cs T bs
-  all_boxed B h = record { room = B.room; each = λ d k. B.each d (omega arith) }
-
   pub one_more_boxed : {c : ℕ} {bs bs' : List ℤ} {b : Bounds} → BoxedBelow cs T c bs → c < cell_count T → HoldsCell cs T c b → bs' ≡ sets bs (4 * c) (four b) → BoxedBelow cs T (c + 1) bs'
   one_more_boxed {c} {bs} {bs'} {b} B h H e =
       record { room = omega (arith, B.room, ap length e, length-sets bs (4 * c) (four b)); each = λ d k. by_place d k (dec_lt d c) }

@@ -1,16 +1,16 @@
 -- Numbers of boxes as the code reads them back: each fits 32 bits.
 use mathlib.Core.Bool.{true, false, ◌||◌}
 use mathlib.Core.Logic.{◌⊎◌, inl, inr}
-use mathlib.Core.Path.{◌≡◌, refl, sym, ap₂, ◌∙◌, subst}
+use mathlib.Core.Path.{◌≡◌, refl, sym, ap₂, subst}
 use Prim.Native.Nat.{◌^◌, ◌<◌, ◌≤◌}
 use native.Mathlib.Omega.{arith}
 use lib.IntN.{ℤ, pos, negsuc, nat_abs, ◌*ℤ◌}
-use lib.Signed.{mag, lt_z, ◌<ℤ◌, ◌≤ℤ◌, ≤ℤ_refl, <ℤ-≤ℤ_trans, clash_ℤ}
+use lib.Signed.{mag, lt_z, ◌<ℤ◌, ◌≤ℤ◌, <ℤ-≤ℤ_trans, clash_ℤ}
 use mir.Syntax.{w32, w64}
 use mir.Val.{hbits, to_z, of_z}
 use Rattle.exact.specs.Within.{Within}
 use Rattle.exact.proofs.Bounds.{Exactly, handed, itself, times, reads_back, widened}
-use Rattle.exact.proofs.Order.{ltZ_true, ltZ_false, less_is_at_most, less_or_not}
+use Rattle.exact.proofs.Order.{less_or_not}
 use Rattle.boxes.specs.Boxes.{past}
 use Rattle.boxes.specs.Parts.{reaching}
 use Rattle.boxes.specs.declared.Bounds.{Bounds}
@@ -50,32 +50,6 @@ module _ {r a : ℤ} (f : Fits32 r) where
 
     pub both_at_least : back a ≤ℤ r → a ≤ℤ back r
     both_at_least h = back_is_at_least (subst (λ (z : ℤ). z ≤ℤ r) (same a g) h)
-
--- ---- a test of two numbers
-
--- on what is read back of them
-module _ (a b : ℤ) (f : Fits32 a) (g : Fits32 b) where
-  test_less : lt_z (back a) (back b) ≡ lt_z a b
-  test_less = ap₂ lt_z (same a f) (same b g)
-
-  tested_less : lt_z (back a) (back b) ≡ true → a <ℤ b
-  tested_less t = ltZ_true a b (sym test_less ∙ t)
-
-  tested_not_less : lt_z (back a) (back b) ≡ false → b ≤ℤ a
-  tested_not_less t = ltZ_false a b (sym test_less ∙ t)
-
-  -- the lesser of two numbers, and the greater
-  pub first_is_lesser : lt_z (back a) (back b) ≡ true → (back a ≤ℤ b) × (back a ≤ℤ a)
-  first_is_lesser t = (back_is_at_most f (less_is_at_most (tested_less t)), back_is_at_most f (≤ℤ_refl a))
-
-  pub second_is_lesser : lt_z (back a) (back b) ≡ false → (back b ≤ℤ b) × (back b ≤ℤ a)
-  second_is_lesser t = (back_is_at_most g (≤ℤ_refl b), back_is_at_most g (tested_not_less t))
-
-  pub second_is_greater : lt_z (back a) (back b) ≡ true → (a ≤ℤ back b) × (b ≤ℤ back b)
-  second_is_greater t = (back_is_at_least g (less_is_at_most (tested_less t)), back_is_at_least g (≤ℤ_refl b))
-
-  pub first_is_greater : lt_z (back a) (back b) ≡ false → (a ≤ℤ back a) × (b ≤ℤ back a)
-  first_is_greater t = (back_is_at_least f (≤ℤ_refl a), back_is_at_least f (tested_not_less t))
 
 -- ---- numbers made wider
 

@@ -2,21 +2,22 @@
 use mathlib.Core.Bool.{Bool, true, false}
 use mathlib.Core.List.{List}
 use mathlib.Core.Path.{◌≡◌, sym, ap, ◌∙◌, subst}
-use Prim.Native.Nat.{ℕ, ◌+◌, ◌*◌, ◌≤◌, ◌<◌}
+use Prim.Native.Nat.{ℕ, ◌+◌, ◌*◌, ◌/◌, ◌≤◌, ◌<◌}
 use native.Mathlib.Decide.{dec_lt}
 use native.Mathlib.Omega.{arith}
 use lib.IntN.{ℤ}
 use lib.ListN.{length, get_or, set}
 use lib.Seq.{get_or-set_same, get_or-set_other}
+use Rattle.std.proofs.lemmas.List.{get_or_default}
 use Rattle.cells.proofs.Least.{not_both}
 use Rattle.boxes.specs.Boxes.{box_at}
 use Rattle.boxes.specs.Parts.{reaching, Listed, Among, Picked}
 use Rattle.boxes.specs.declared.Bounds.{Bounds}
 use Rattle.boxes.specs.declared.part.Line.{Line}
 
--- the box of a listed cell stands in the table
-pub box_there : {m : ℕ} {xs : List ℕ} (bs : List ℤ) → Listed m xs → 4 * m ≤ length bs → (i : ℕ) → i < length xs → 4 * get_or xs i 0 + 4 ≤ length bs
-box_there bs L h i k = omega (arith, L.exists i k)
+-- the box of a cell that was taken from a list stands in the table
+pub box_there : {xs : List ℕ} (bs : List ℤ) → Listed (length bs / 4) xs → {c i : ℕ} → i < length xs → c ≡ get_or xs i c → 4 * c + 4 ≤ length bs
+box_there {xs} bs L {c} {i} k e = omega (arith, L.exists i k, e, get_or_default xs i c 0 k)
 
 -- what is among some is among more
 further : {xs : List ℕ} {n n' c : ℕ} → n ≤ n' → Among xs n c → Among xs n' c
@@ -28,14 +29,7 @@ undisturbed {ps} {k} c a =
     record { place = a.place; before = a.before; stands = get_or-set_other ps k a.place c 0 (λ e. omega (arith, e, a.before)) ∙ a.stands }
 
 module _ {bs : List ℤ} {l : Line} {xs : List ℕ} where
-  pub none_picked : (ps : List ℕ) → Picked bs l xs 0 ps 0
-  none_picked ps = record { at_most = omega arith; of_the_list = λ j h. absurd (omega arith); each = λ i h e. absurd (omega arith) }
-
   module _ {i k : ℕ} {ps : List ℕ} (P : Picked bs l xs i ps k) where
-    -- at the end of the list
-    pub all_picked : {n : ℕ} → i ≤ n → n ≤ i → Picked bs l xs n ps k
-    all_picked {n} h m = let all : i ≡ n = omega arith in subst (λ (n : ℕ). Picked bs l xs n ps k) all P
-
     -- what was picked before is of the list still
     listed_before : (j : ℕ) → j < k → Among xs (i + 1) (get_or (set ps k (get_or xs i 0)) j 0)
     listed_before j h =

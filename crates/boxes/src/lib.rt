@@ -4,9 +4,12 @@
 ghost use Rattle.std.specs.Prelude.{◌+◌, ◌*◌, ◌<◌, ◌≤◌, ◌≡◌, length, [], ◌∷◌, ◌≤ℤ◌};
 ghost use Rattle.std.proofs.lemmas.List.Edits.{sets};
 ghost use Rattle.plane.specs.Side.{point};
-ghost use Rattle.cells.specs.Lists.{corner_count, corner_at, cell_count, tabled};
-ghost use Rattle.cells.specs.Sound.{Numbered, CornersExist};
-ghost use Rattle.boxes.specs.Boxes.{Holds, Wider, HoldsCell, box_at, BoxedBelow, Boxed, meeting, past};
+ghost use Rattle.cells.specs.Lists.{corner_count, corner_at, cell_count};
+ghost use Rattle.cells.specs.Sound.{CornersExist};
+ghost use Rattle.face.specs.Tables.{tables};
+ghost use Rattle.boxes.specs.Boxes.{Holds, Wider, HoldsCell, box_at, Boxed, meeting, past};
+
+use face::Cells;
 
 pub mod part;
 
@@ -18,31 +21,48 @@ pub struct Bounds {
     pub high: i32,
 }
 
-// Two numbers.
-#[derive(Clone, Copy)]
-struct Two {
-    a: i32,
-    b: i32,
-}
-
-fn lesser(t: Two) -> i32
-    ensures upper_bound { result ≤ℤ t.a }
-    ensures upper_bound_2 { result ≤ℤ t.b }
-{
-    if t.b < t.a {
-        return t.b;
+impl Bounds {
+    // The box of two boxes.
+    #[tactic(auto, using(crate::proofs::Numbers::both_at_most, crate::proofs::Numbers::both_at_least))]
+    pub fn joined(self, other: Bounds) -> Bounds
+        ensures holds_self { Wider result self }
+        ensures holds_other { Wider result other }
+    {
+        let left = self.left.min(other.left);
+        let right = self.right.max(other.right);
+        let low = self.low.min(other.low);
+        let high = self.high.max(other.high);
+        Bounds {
+            left,
+            right,
+            low,
+            high,
+        }
     }
-    t.a
-}
 
-fn greater(t: Two) -> i32
-    ensures lower_bound { t.a ≤ℤ result }
-    ensures lower_bound_2 { t.b ≤ℤ result }
-{
-    if t.a < t.b {
-        return t.b;
+    // Do two boxes meet strictly? Boxes that only touch do not. All four are compared, so that there is one branch to be foreseen and not four.
+    #[tactic(auto, unfolding(crate::specs::Boxes::meeting))]
+    pub fn meets(self, other: Bounds) -> bool
+        ensures { result ≡ meeting self other }
+    {
+        let right = self.left < other.right;
+        let left = other.left < self.right;
+        let above = self.low < other.high;
+        let below = other.low < self.high;
+        right & left & above & below
     }
-    t.a
+
+    // Does q lie past the box? A point on its border does not. All four are compared, as in `meets`.
+    pub fn is_past(self, q: [i64; 2]) -> bool
+        ensures { result ≡ past self (point q) }
+    {
+        let [x, y] = q;
+        let left = x < self.left as i64;
+        let right = (self.right as i64) < x;
+        let below = y < self.low as i64;
+        let above = (self.high as i64) < y;
+        left | right | below | above
+    }
 }
 
 // The box of corner i alone.
@@ -60,49 +80,16 @@ fn around(corners: &[i32], i: usize) -> Bounds
     }
 }
 
-// The box of two boxes.
-pub fn joined(a: Bounds, b: Bounds) -> Bounds
-    ensures wider { Wider result a }
-    ensures wider_2 { Wider result b }
-{
-    let left = lesser(Two {
-        a: a.left,
-        b: b.left,
-    });
-    let right = greater(Two {
-        a: a.right,
-        b: b.right,
-    });
-    let low = lesser(Two { a: a.low, b: b.low });
-    let high = greater(Two {
-        a: a.high,
-        b: b.high,
-    });
-    Bounds {
-        left: left,
-        right: right,
-        low: low,
-        high: high,
-    }
-}
-
 // The box of cell c, by its corners.
-fn of_cell(corners: &[i32], faces: &[u16], firsts: &[u16], c: usize) -> Bounds
-    requires numbered { Numbered (tabled faces.now firsts.now) }
-    requires corners_exist { CornersExist corners.now (tabled faces.now firsts.now) }
-    requires c_bound { c < cell_count (tabled faces.now firsts.now) }
-    ensures { HoldsCell corners.now (tabled faces.now firsts.now) c result }
+fn of_cell(corners: &[i32], cells: &Cells, c: usize) -> Bounds
+    requires corners_exist { CornersExist corners.now (tables cells.now) }
+    requires c_bound { c < cell_count (tables cells.now) }
+    ensures { HoldsCell corners.now (tables cells.now) c result }
 {
-    let to = face::end(firsts, c);
-    let from = face::first(firsts, c);
-    let i = face::start(faces, from);
-    let mut r = around(corners, i);
-    let mut f = from + 1;
-    while f < to {
-        let j = face::start(faces, f);
-        let one = around(corners, j);
-        r = joined(r, one);
-        f += 1;
+    let from = cells.first(c);
+    let mut r = around(corners, cells.start(from));
+    for f in from + 1..cells.end(c) {
+        r = r.joined(around(corners, cells.start(f)));
     }
     r
 }
@@ -113,30 +100,21 @@ fn write(boxes: &mut [i32], c: usize, b: Bounds)
     ensures { boxes.new ≡ sets boxes.old (4 * c) (b.left ∷ b.right ∷ b.low ∷ b.high ∷ []) }
 {
     let at = 4 * c;
-    let left = b.left;
-    let right = b.right;
-    let low = b.low;
-    let high = b.high;
-    boxes[at] = left;
-    boxes[at + 1] = right;
-    boxes[at + 2] = low;
-    boxes[at + 3] = high;
+    boxes[at] = b.left;
+    boxes[at + 1] = b.right;
+    boxes[at + 2] = b.low;
+    boxes[at + 3] = b.high;
 }
 
 // Notes the boxes of all cells.
-pub fn note(corners: &[i32], faces: &[u16], firsts: &[u16], boxes: &mut [i32])
-    requires numbered { Numbered (tabled faces.now firsts.now) }
-    requires corners_exist { CornersExist corners.now (tabled faces.now firsts.now) }
-    requires firsts_in_bounds { 4 * cell_count (tabled faces.now firsts.now) ≤ length boxes.old }
-    ensures boxed { Boxed corners.now (tabled faces.now firsts.now) boxes.new }
+pub fn note(corners: &[i32], cells: &Cells, boxes: &mut [i32])
+    requires corners_exist { CornersExist corners.now (tables cells.now) }
+    requires room { 4 * cell_count (tables cells.now) ≤ length boxes.old }
+    ensures boxed { Boxed corners.now (tables cells.now) boxes.new }
     ensures boxes_len_unchanged { length boxes.new ≡ length boxes.old }
 {
-    let m = firsts.len() - 1;
-    let mut c = 0;
-    while c < m {
-        let b = of_cell(corners, faces, firsts, c);
-        write(boxes, c, b);
-        c += 1;
+    for c in 0..cells.count() {
+        write(boxes, c, of_cell(corners, cells, c));
     }
 }
 
@@ -146,38 +124,10 @@ pub fn read(boxes: &[i32], c: usize) -> Bounds
     ensures { result ≡ box_at boxes.now c }
 {
     let at = 4 * c;
-    let left = boxes[at];
-    let right = boxes[at + 1];
-    let low = boxes[at + 2];
-    let high = boxes[at + 3];
     Bounds {
-        left: left,
-        right: right,
-        low: low,
-        high: high,
+        left: boxes[at],
+        right: boxes[at + 1],
+        low: boxes[at + 2],
+        high: boxes[at + 3],
     }
-}
-
-// Do two boxes meet strictly? Boxes that only touch do not. All four are compared, so that there is one branch to be foreseen and not four.
-pub fn meet(a: Bounds, b: Bounds) -> bool
-    ensures { result ≡ meeting a b }
-{
-    let right = a.left < b.right;
-    let left = b.left < a.right;
-    let above = a.low < b.high;
-    let below = b.low < a.high;
-    right & left & above & below
-}
-
-// Does q lie past the box? A point on its border does not. All four are compared, as in `meet`.
-pub fn is_past(b: Bounds, q: [i64; 2]) -> bool
-    ensures { result ≡ past b (point q) }
-{
-    let x = q[0];
-    let y = q[1];
-    let left = x < b.left as i64;
-    let right = (b.right as i64) < x;
-    let below = y < b.low as i64;
-    let above = (b.high as i64) < y;
-    left | right | below | above
 }

@@ -51,14 +51,12 @@ pub fn check_tables(
     if let Some(d) = door::least_wrong(&cells, backs, doors) {
         return Err(Refusal::Door(d));
     }
-    let m = cells.count();
-    let o = overlap::least_overlapping(corners, faces, firsts, boxes);
-    if o < m {
+    if let Some(o) = overlap::least_overlapping(corners, &cells, boxes) {
         return Err(Refusal::Overlap(o));
     }
     Ok(Plan {
         corners: corners.len() / 2,
-        cells: m,
+        cells: cells.count(),
         doors: doors.len(),
     })
 }

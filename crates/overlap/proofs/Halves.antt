@@ -26,18 +26,6 @@ module _ {bs : List ℤ} {l : Line} {xs ps : List ℕ} {k : ℕ} (room : length 
   pub picked_length : length (take k ps) ≡ k
   picked_length = length-take-le k ps (omega (arith, room, picked.at_most))
 
-  pub picked_few : {m : ℕ} → length xs ≤ m → length (take k ps) ≤ m
-  picked_few h = omega (arith, picked_length, picked.at_most)
-
-  pub picked_are_listed : {m : ℕ} → Listed m xs → Listed m (take k ps)
-  picked_are_listed {m} listed =
-      record {
-        exists = λ j h.
-            let before : j < k = omega (arith, picked_length) in
-            let a = picked.of_the_list j before in
-            subst (λ (c : ℕ). c < m) (a.stands ∙ sym (get_or-take k ps j 0 before)) (listed.exists a.place a.before);
-      }
-
   -- what is settled for the part is settled for two cells of the list that both reach to the side
   pub settled_there : {cs : List ℤ} {T : Cells} {best r : ℕ} → Settles cs T (take k ps) best r → (i j : ℕ) → i < length xs → j < length xs → reaching (box_at bs (get_or xs i 0)) l ≡ true → reaching (box_at bs (get_or xs j 0)) l ≡ true → Passes cs T r (get_or xs i 0) (get_or xs j 0)
   settled_there {cs} {T} {r = r} settled i j h m u v =

@@ -1,12 +1,15 @@
 -- What a search for overlapping cells has found: one pair more, and one cell of a list more.
-use mathlib.Core.Bool.{true, false}
+use mathlib.Core.Bool.{Bool, true, false}
 use mathlib.Core.List.{List}
 use mathlib.Core.Path.{◌≡◌, refl, ◌∙◌}
-use Prim.Native.Nat.{ℕ, suc, ◌+◌, ◌≤◌, ◌<◌}
+use Prim.Native.Nat.{ℕ, min, ◌+◌, ◌≤◌, ◌<◌}
 use native.Mathlib.Decide.{dec_lt, ℕ_discrete}
 use native.Mathlib.Omega.{arith}
 use lib.IntN.{ℤ}
 use lib.ListN.{length, get_or}
+use Rattle.std.specs.Prelude.{Option, Some, None}
+use Rattle.std.specs.Bool.{⊤}
+use Rattle.std.specs.Option.{MatchOption}
 use Rattle.cells.specs.Lists.{Cells}
 use Rattle.cells.specs.Check.{overlapping, in_a_pair}
 use Rattle.cells.proofs.Least.{not_both}
@@ -19,8 +22,15 @@ module _ {cs : List ℤ} {T : Cells} where
   pub nothing_new : (best : ℕ) → Found cs T best best
   nothing_new best = record { no_greater = omega arith; in_one = λ other. absurd (other refl) }
 
-  pub a_better_one : {best r : ℕ} → r < best → in_a_pair cs T r ≡ true → Found cs T best r
-  a_better_one h e = record { no_greater = omega arith; in_one = λ other. e }
+  -- the lesser of two cells that are in a pair, where it is less than the best
+  pub the_lesser : (c e : ℕ) {best l r : ℕ} → in_a_pair cs T c ≡ true → in_a_pair cs T e ≡ true → l ≡ min c e → r ≡ min best l → Found cs T best r
+  the_lesser c e {best} {l} {r} p q is_l is_r =
+      record { no_greater = omega (arith, is_r); in_one = λ other. by_place other (ℕ_discrete r c) (ℕ_discrete r e) }
+    where
+      by_place : (r ≡ best → ⊥) → Dec (r ≡ c) → Dec (r ≡ e) → in_a_pair cs T r ≡ true
+      by_place other (yes h) k = rw h p
+      by_place other (no h) (yes k) = rw k q
+      by_place other (no h) (no k) = absurd (omega (arith, is_l, is_r, other, h, k))
 
   pub found_then : {best r q : ℕ} → Found cs T best r → Found cs T r q → Found cs T best q
   found_then {best} {r} {q} F G =
@@ -44,24 +54,15 @@ module _ (cs : List ℤ) (T : Cells) (c e : ℕ) where
 
 -- ---- a cell and the cells of a list that it does not overlap
 
-module _ {cs : List ℤ} {T : Cells} {xs : List ℕ} {c n : ℕ} where
-  pub apart_from_none : n ≤ length xs → Apart cs T xs c n n
-  apart_from_none h = record { not_before = omega arith; at_most = h; none = λ j k l. absurd (omega arith) }
-
-  pub apart_from_one_more : {i : ℕ} → Apart cs T xs c n i → i < length xs → overlapping cs T c (get_or xs i 0) ≡ false → Apart cs T xs c n (i + 1)
-  apart_from_one_more {i} A h e =
-      record { not_before = omega (arith, A.not_before); at_most = omega arith; none = λ j k l. by_place j k l (dec_lt j i) }
-    where
-      by_place : (j : ℕ) → n ≤ j → j < i + 1 → Dec (j < i) → overlapping cs T c (get_or xs j 0) ≡ false
-      by_place j k l (yes m) = A.none j k m
-      by_place j k l (no m) = let same : j ≡ i = omega arith in rw same e
+-- those before the first place at which a test holds, where none at whose place it fails overlaps the cell
+pub apart_before : (cs : List ℤ) (T : Cells) (xs : List ℕ) (c : ℕ) {n : ℕ} (t : ℕ → Bool) → ((k : ℕ) → k < length xs → t k ≡ false → overlapping cs T c (get_or xs k 0) ≡ false) → n ≤ length xs → (r : Option ℕ) → MatchOption r ((k : ℕ) → n ≤ k → k < length xs → t k ≡ false) (λ i. (n ≤ i) × (i < length xs) × ⊤ × ((k : ℕ) → n ≤ k → k < i → t k ≡ false)) → MatchOption r (Apart cs T xs c n (length xs)) (λ i. (i < length xs) × Apart cs T xs c n i)
+apart_before cs T xs c t apart h None fails = record { not_before = h; at_most = omega arith; none = λ k l m. apart k m (fails k l m) }
+apart_before cs T xs c t apart h (Some i) m =
+    (m.1, record { not_before = m.0; at_most = omega (arith, m.1); none = λ k l n. apart k (omega (arith, m.1)) (m.3 k l n) })
 
 -- ---- one cell of a list against those after it
 
 module _ {cs : List ℤ} {T : Cells} {xs : List ℕ} {s n best : ℕ} where
-  pub against_none : {u : ℕ} → u ≡ n → Against cs T xs s n u best best
-  against_none e = record { found = nothing_new best; passes = λ j k l. absurd (omega arith) }
-
   pub against_those_apart : {u w r : ℕ} → Against cs T xs s n u best r → Apart cs T xs (get_or xs s 0) u w → Against cs T xs s n w best r
   against_those_apart {u} {w} {r} G A = record { found = G.found; passes = λ j k l. by_place j k l (dec_lt j u) }
     where
@@ -77,23 +78,9 @@ module _ {cs : List ℤ} {T : Cells} {xs : List ℕ} {s n best : ℕ} where
       by_place j k l (yes m) = passes_below cs T _ _ F.no_greater (G.passes j k m)
       by_place j k l (no m) = let same : j ≡ u = omega arith in rw same P
 
-  pub against_all : {u r : ℕ} → Against cs T xs s n u best r → length xs ≤ u → Against cs T xs s n (length xs) best r
-  against_all G all = record { found = G.found; passes = λ j k l. G.passes j k (omega arith) }
-
 -- ---- every two cells of a list
 
 module _ {cs : List ℤ} {T : Cells} {xs : List ℕ} {best : ℕ} where
-  pub settles_none : SettlesBelow cs T xs 0 best best
-  settles_none = record { found = nothing_new best; passes = λ i j h. absurd (omega arith) }
-
-  pub settles_one_more : {s r q : ℕ} → SettlesBelow cs T xs s best r → Against cs T xs s (suc s) (length xs) r q → SettlesBelow cs T xs (s + 1) best q
-  settles_one_more {s} {r} {q} B G =
-      record { found = found_then B.found G.found; passes = λ i j h k l. by_place i j h k l (dec_lt i s) }
-    where
-      by_place : (i j : ℕ) → i < s + 1 → i < j → j < length xs → Dec (i < s) → Passes cs T q (get_or xs i 0) (get_or xs j 0)
-      by_place i j h k l (yes m) = passes_below cs T _ _ G.found.no_greater (B.passes i j m k l)
-      by_place i j h k l (no m) = let same : i ≡ s = omega arith in rw same (G.passes j (omega arith) l)
-
   pub settles_all : {s r : ℕ} → SettlesBelow cs T xs s best r → length xs ≤ s → Settles cs T xs best r
   settles_all {s} {r} B all = record { found = B.found; passes = λ i j h k. by_order i j h k (dec_lt i j) (dec_lt j i) }
     where

@@ -4,15 +4,19 @@
 
 ghost use Rattle.std.specs.Prelude.{ℕ, ◌*◌, ◌<◌, ◌≤◌, ◌≡◌, length, get_or};
 ghost use Rattle.limits.specs.Limits.{most_cells};
-ghost use Rattle.cells.specs.Lists.{cell_count, tabled};
+ghost use Rattle.cells.specs.Least.{before};
+ghost use Rattle.cells.specs.Lists.{cell_count};
 ghost use Rattle.cells.specs.Check.{first_overlapping};
+ghost use Rattle.face.specs.Tables.{tables};
 ghost use Rattle.boxes.specs.Boxes.{Boxed};
 ghost use Rattle.boxes.specs.Parts.{Listed};
 ghost use Rattle.overlap.specs.Search.{Ready, Settles};
 
 use boxes::part;
-use boxes::part::{Choice, Line};
+use boxes::part::Line;
+use face::Cells;
 use limits::Plan;
+use pair::WithBoxes;
 
 mod pair;
 
@@ -22,76 +26,64 @@ const FEW: usize = 24;
 // How often a list is taken apart at most: 3,000 cells, halved so often, are few.
 const LEVELS: usize = 16;
 
-// Every two cells of a list, as `pair::compare`.
-fn search(
-    corners: &[i32],
-    faces: &[u16],
-    firsts: &[u16],
-    boxes: &[i32],
-    list: &[u16],
-    levels: usize,
-    best: usize,
-) -> usize
-    requires ready { Ready corners.now (tabled faces.now firsts.now) }
-    requires boxed { Boxed corners.now (tabled faces.now firsts.now) boxes.now }
-    requires listed { Listed (cell_count (tabled faces.now firsts.now)) list.now }
+// Every two cells of a list, as `compare`.
+fn search(all: &WithBoxes, list: &[u16], levels: usize, best: usize) -> usize
+    requires listed { Listed (cell_count (tables all.now.cells)) list.now }
     requires list_len_bound { length list.now ≤ most_cells }
-    ensures { Settles corners.now (tabled faces.now firsts.now) list.now best result }
+    ensures { Settles all.now.corners.now (tables all.now.cells) list.now best result }
 {
-    if list.len() <= FEW {
-        return pair::compare(corners, faces, firsts, boxes, list, best);
+    if list.len() <= FEW || levels == 0 {
+        return all.compare(list, best);
     }
-    if levels == 0 {
-        return pair::compare(corners, faces, firsts, boxes, list, best);
-    }
-    let m = firsts.len() - 1;
-    match part::choose(list, boxes, m) {
-        Choice::None => pair::compare(corners, faces, firsts, boxes, list, best),
-        Choice::By(line) => {
+    match part::choose(list, all.boxes) {
+        None => all.compare(list, best),
+        Some(line) => {
             let mut some = [0u16; Plan::MOST_CELLS];
             let before = Line {
-                upright: line.upright,
-                twice: line.twice,
                 beyond: false,
+                ..line
             };
-            let k = part::pick(list, boxes, m, before, &mut some);
-            let found = search(corners, faces, firsts, boxes, &some[..k], levels - 1, best);
+            let k = part::pick(list, all.boxes, before, &mut some);
+            let found = search(all, &some[..k], levels - 1, best);
             let beyond = Line {
-                upright: line.upright,
-                twice: line.twice,
                 beyond: true,
+                ..line
             };
-            let l = part::pick(list, boxes, m, beyond, &mut some);
-            search(corners, faces, firsts, boxes, &some[..l], levels - 1, found)
+            let l = part::pick(list, all.boxes, beyond, &mut some);
+            search(all, &some[..l], levels - 1, found)
         }
     }
 }
 
 // Lists all m cells.
 fn list_all(m: usize, list: &mut [u16])
-    requires m_le_most_cells { m ≤ most_cells }
-    requires m_in_bounds { m ≤ length list.old }
+    requires few { m ≤ most_cells }
+    requires room { m ≤ length list.old }
     ensures by_index { (c : ℕ) → c < m → get_or list.new c 0 ≡ c }
     ensures list_len_unchanged { length list.new ≡ length list.old }
 {
-    let mut c = 0;
-    while c < m {
+    for c in 0..m {
         list[c] = c as u16;
-        c += 1;
     }
 }
 
-// The least cell of any overlapping pair, or the count of cells. The boxes of all cells are noted in the room lent.
-pub fn least_overlapping(corners: &[i32], faces: &[u16], firsts: &[u16], boxes: &mut [i32]) -> usize
-    requires ready { Ready corners.now (tabled faces.now firsts.now) }
-    requires firsts_bound { cell_count (tabled faces.now firsts.now) ≤ most_cells }
-    requires firsts_in_bounds { 4 * cell_count (tabled faces.now firsts.now) ≤ length boxes.old }
-    ensures value { result ≡ first_overlapping corners.now (tabled faces.now firsts.now) }
-    ensures boxed { Boxed corners.now (tabled faces.now firsts.now) boxes.new }
+// The least cell of any overlapping pair. The boxes of all cells are noted in the room lent.
+pub fn least_overlapping(corners: &[i32], cells: &Cells, boxes: &mut [i32]) -> Option<usize>
+    requires ready { Ready corners.now (tables cells.now) }
+    requires few { cell_count (tables cells.now) ≤ most_cells }
+    requires room { 4 * cell_count (tables cells.now) ≤ length boxes.old }
+    ensures value { result ≡ before (cell_count (tables cells.now)) (first_overlapping corners.now (tables cells.now)) }
+    ensures boxed { Boxed corners.now (tables cells.now) boxes.new }
 {
-    let m = firsts.len() - 1;
-    boxes::note(corners, faces, firsts, boxes);
+    boxes::note(corners, cells, boxes);
+    let m = cells.count();
     let mut list = [0u16; Plan::MOST_CELLS];
     list_all(m, &mut list);
-    search(corners, faces, firsts, boxes, &list[..m], LEVELS, m)
+    let all = WithBoxes {
+        corners,
+        cells: *cells,
+        boxes: &*boxes,
+    };
+    let found = search(&all, &list[..m], LEVELS, m);
+    if found < m { Some(found) } else { None }
 }

@@ -87,7 +87,7 @@ fn containment_by_box(
     ensures { result ≡ against corners.now (tabled faces.now firsts.now) (point q) c }
 {
     let b = boxes::read(boxes, c);
-    if boxes::is_past(b, q) {
+    if b.is_past(q) {
         return Containment::Outside;
     }
     containment(corners, faces, firsts, q, c)
@@ -170,7 +170,7 @@ fn doorway_by_box(
     ensures { result ≡ least (within_free corners.now (tabled faces.now firsts.now) doors.now setting (point q)) (side_count (tabled faces.now firsts.now) c) (first (tabled faces.now firsts.now) c) }
 {
     let b = boxes::read(boxes, c);
-    if boxes::is_past(b, q) {
+    if b.is_past(q) {
         return firsts[c + 1] as usize;
     }
     least_doorway(corners, faces, firsts, backs, doors, setting, q, c)

@@ -1,10 +1,6 @@
-use Prim.Native.Nat.{◌-◌}
-use Rattle.cells.specs.Lists.{tabled}
+use Rattle.face.specs.Tables.{tables}
 use Rattle.boxes.proofs.Cells.{Holding}
 use Rattle.boxes.proofs.of_cell.Given as goal
 
 abbrev pub invariant-loop-f : goal.invariant-loop-f
-invariant-loop-f l = Holding l.corners (tabled l.faces l.firsts) l.c l.to l.r l.f
-
-abbrev pub decreases-loop-f : goal.decreases-loop-f
-decreases-loop-f l = l.to - l.f
+invariant-loop-f l = Holding l.corners (tables l.cells) l.c l.f-end l.r l.f

@@ -56,13 +56,16 @@ pub returns-in-Some-least_wrong-3 : goal.returns-in-Some-least_wrong-3
 returns-in-Some-least_wrong-3 c = let it = found c.in-Some-least_wrong-3.ensures in
     record { value = at_a_door c.args.corners.now (drawn (goal.at.returns-in-Some-least_wrong-3 c).Start) c.args.doors.now c.requires.doors_value (corners_pass (goal.at.returns-in-Some-least_wrong-3 c).In_default) (cells_pass (goal.at.returns-in-Some-least_wrong-3 c).In_default-least_wrong) (faces_pass (goal.at.returns-in-Some-least_wrong-3 c).In_default-least_wrong-2) it.0 it.1; backed = λ sound. absurd (none_is_least _ _ sound.doors it.0 it.1) }
 
-pub least_overlapping-o-requires : goal.least_overlapping-o-requires
-least_overlapping-o-requires c = record { ready = record { near = corners_near _ (corners_pass (goal.at.least_overlapping-o-requires c).In_default); numbered = c.requires.numbered; right = cells_right _ _ (cells_pass (goal.at.least_overlapping-o-requires c).In_default-least_wrong) }; firsts_bound = (counts _ _ _ c.requires.doors_value).cells_at_most; firsts_in_bounds = c.requires.firsts_in_bounds }
+pub least_overlapping-requires-clause-ready : goal.least_overlapping-requires-clause-ready
+least_overlapping-requires-clause-ready c = record { near = corners_near _ (corners_pass (goal.at.least_overlapping-requires-clause-ready c).In_default); numbered = c.requires.numbered; right = cells_right _ _ (cells_pass (goal.at.least_overlapping-requires-clause-ready c).In_default-least_wrong) }
 
-pub returns-then-o-m : goal.returns-then-o-m
-returns-then-o-m c =
-    record { value = at_an_overlap c.args.corners.now (drawn (goal.at.returns-then-o-m c).Start) c.args.doors.now c.requires.doors_value (corners_pass (goal.at.returns-then-o-m c).In_default) (cells_pass (goal.at.returns-then-o-m c).In_default-least_wrong) (faces_pass (goal.at.returns-then-o-m c).In_default-least_wrong-2) (doors_pass (goal.at.returns-then-o-m c).In_default-least_wrong-3) c.least_overlapping-o.ensures.value (omega (arith, c.count-m.ensures, c.if-o-m.true)); backed = λ sound. (c.in_default-least_wrong-2.ensures.backed refl, c.least_overlapping-o.ensures.boxed) }
+pub least_overlapping-requires-clause-few : goal.least_overlapping-requires-clause-few
+least_overlapping-requires-clause-few c = (counts _ _ _ c.requires.doors_value).cells_at_most
+
+pub returns-in-Some-least_overlapping : goal.returns-in-Some-least_overlapping
+returns-in-Some-least_overlapping c = let it = found c.in-Some-least_overlapping.ensures.value in
+    record { value = at_an_overlap c.args.corners.now (drawn (goal.at.returns-in-Some-least_overlapping c).Start) c.args.doors.now c.requires.doors_value (corners_pass (goal.at.returns-in-Some-least_overlapping c).In_default) (cells_pass (goal.at.returns-in-Some-least_overlapping c).In_default-least_wrong) (faces_pass (goal.at.returns-in-Some-least_overlapping c).In_default-least_wrong-2) (doors_pass (goal.at.returns-in-Some-least_overlapping c).In_default-least_wrong-3) it.0 it.1; backed = λ sound. (c.in_default-least_wrong-2.ensures.backed refl, c.least_overlapping.ensures.boxed) }
 
 pub returns : goal.returns
 returns c =
-    record { value = rw c.count-m.ensures (accepted c.args.corners.now (drawn (goal.at.returns c).Start) c.args.doors.now c.requires.doors_value (corners_pass (goal.at.returns c).In_default) (cells_pass (goal.at.returns c).In_default-least_wrong) (faces_pass (goal.at.returns c).In_default-least_wrong-2) (doors_pass (goal.at.returns c).In_default-least_wrong-3) (omega (arith, c.count-m.ensures, c.least_overlapping-o.ensures.value, c.if-o-m.false))); backed = λ sound. (c.in_default-least_wrong-2.ensures.backed refl, c.least_overlapping-o.ensures.boxed) }
+    record { value = rw c.count.ensures (accepted c.args.corners.now (drawn (goal.at.returns c).Start) c.args.doors.now c.requires.doors_value (corners_pass (goal.at.returns c).In_default) (cells_pass (goal.at.returns c).In_default-least_wrong) (faces_pass (goal.at.returns c).In_default-least_wrong-2) (doors_pass (goal.at.returns c).In_default-least_wrong-3) (not_before c.in_default-least_overlapping.ensures.value)); backed = λ sound. (c.in_default-least_wrong-2.ensures.backed refl, c.least_overlapping.ensures.boxed) }

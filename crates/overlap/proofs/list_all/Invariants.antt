@@ -1,6 +1,6 @@
 use mathlib.Core.List.{List}
 use mathlib.Core.Path.{◌≡◌}
-use Prim.Native.Nat.{ℕ, ◌-◌, ◌<◌, ◌≤◌}
+use Prim.Native.Nat.{ℕ, ◌<◌}
 use lib.ListN.{length, get_or}
 use Rattle.overlap.proofs.list_all.Given as goal
 
@@ -9,7 +9,4 @@ abbrev pub Counts : List ℕ → ℕ → Type 0
 Counts xs n = (c : ℕ) → c < n → get_or xs c 0 ≡ c
 
 abbrev pub invariant-loop-c : goal.invariant-loop-c
-invariant-loop-c l = Counts l.list l.c × ((length l.list ≡ length l.initial.list) × (l.c ≤ l.m))
-
-abbrev pub decreases-loop-c : goal.decreases-loop-c
-decreases-loop-c l = l.m - l.c
+invariant-loop-c l = Counts l.list l.c × (length l.list ≡ length l.initial.list)
