@@ -35,20 +35,13 @@ fn whole_spot(x: f64, y: f64) -> Spot
 }
 
 // The sums of an offset must lie within the limits too.
+#[tactic(auto, unfolding(crate::specs::Spot::within_limits, cells::specs::Check::outside))]
 fn bounded(x: i64, y: i64) -> Spot
     ensures { result ≡ within_limits x y }
 {
     let limit = Plan::COORDINATE as i64;
-    if x < -limit {
-        return Spot::Refused;
-    }
-    if limit < x {
-        return Spot::Refused;
-    }
-    if y < -limit {
-        return Spot::Refused;
-    }
-    if limit < y {
+    let limits = -limit..=limit;
+    if !limits.contains(&x) || !limits.contains(&y) {
         return Spot::Refused;
     }
     Spot::At(x, y)
