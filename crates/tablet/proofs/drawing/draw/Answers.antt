@@ -29,14 +29,14 @@ returns-in_default c = absurd (no_stand c.args.kind c.args.corners.now c.args.ce
 
 pub is_any_far-requires : goal.is_any_far-requires
 is_any_far-requires c = let k = t (goal.at.is_any_far-requires c).In-Rows in
-    record { corners_near = (k.corners, read_near c.args.kind c.args.corners.now c.args.cells.now c.args.doors.now c.args.query k c.args.offsets.now (sym c.stand_spot.ensures ∙ c.in-At.is)); rows_in_bounds = (omega (arith, k.few_rows, k.few_corners, c.list.auto.table), k.named) }
+    record { corners_near = (k.corners, read_near c.args.kind c.args.corners.now c.args.cells.now c.args.doors.now c.args.query k c.args.offsets.now (sym c.stand_spot.ensures ∙ c.in-At.is)); rows_in_bounds = omega (arith, k.few_rows, k.few_corners, c.list.auto.table); name_corners = k.named }
 
 pub returns-then-is_any_far : goal.returns-then-is_any_far
 returns-then-is_any_far c = told_far c.args.kind c.args.corners.now c.args.cells.now c.args.doors.now c.args.query (t (goal.at.returns-then-is_any_far c).In-Rows) c.args.offsets.now (sym c.stand_spot.ensures ∙ c.in-At.is) c.if-offsets-corners.false c.is_any_far.ensures c.if-is_any_far.true
 
 pub draw_rows-requires : goal.draw_rows-requires
 draw_rows-requires c = let k = t (goal.at.draw_rows-requires c).In-Rows in
-    record { corners_near = (k.corners, read_near c.args.kind c.args.corners.now c.args.cells.now c.args.doors.now c.args.query k c.args.offsets.now (sym c.stand_spot.ensures ∙ c.in-At.is)); n_in_bounds = (omega (arith, k.few_rows, k.few_corners, c.list.auto.table), k.named); n_in_bounds_2 = (omega (arith, k.few_rows, c.if-offsets-corners.false), sym c.is_any_far.ensures ∙ c.if-is_any_far.false) }
+    record { corners_near = (k.corners, read_near c.args.kind c.args.corners.now c.args.cells.now c.args.doors.now c.args.query k c.args.offsets.now (sym c.stand_spot.ensures ∙ c.in-At.is)); rows_in_bounds = omega (arith, k.few_rows, k.few_corners, c.list.auto.table); name_corners = k.named; room = omega (arith, k.few_rows, c.if-offsets-corners.false); none_far = sym c.is_any_far.ensures ∙ c.if-is_any_far.false }
 
 pub returns-in-Refused : goal.returns-in-Refused
 returns-in-Refused c = told_refused c.args.kind c.args.corners.now c.args.cells.now c.args.doors.now c.args.query _ c.args.offsets.now (omega arith) (ap (λ (a : Listed). (a, left (goal.at.returns-in-Refused c).After-list)) (sym c.in-Refused.is) ∙ c.list.ensures)
