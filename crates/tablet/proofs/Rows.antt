@@ -106,7 +106,6 @@ module _ (cs : List ℤ) (q : Point) (table : List ℕ) (n : ℕ) (before : List
   all_drawn = sets before 0 (offsets_of cs q (rows_in table 0 n))
 
   pub record Draws (now : List Float) (i : ℕ) : Type 0 where
-    pub within : i ≤ n
     pub same_length : length now ≡ length before
     pub none_far : any_far cs q (rows_in table i (n - i)) ≡ false
     pub to_come : sets now (4 * i) (left_to_draw i) ≡ all_drawn
@@ -115,7 +114,6 @@ module _ (cs : List ℤ) (q : Point) (table : List ℕ) (n : ℕ) (before : List
   draws_begin none =
       let all : n - 0 ≡ n = omega arith in
       record {
-        within = omega arith;
         same_length = refl;
         none_far = ap (λ (m : ℕ). any_far cs q (rows_in table 0 m)) all ∙ none;
         to_come = ap (λ (m : ℕ). sets before 0 (offsets_of cs q (rows_in table 0 m))) all;
@@ -133,8 +131,7 @@ module _ (cs : List ℤ) (q : Point) (table : List ℕ) (n : ℕ) (before : List
     unfolding offsets_of
     draws_on h e =
         record {
-          within = omega arith;
-          same_length = ap length e ∙ length-sets now (4 * i) (row_offsets cs q (row_at table i)) ∙ d.same_length;
+            same_length = ap length e ∙ length-sets now (4 * i) (row_offsets cs q (row_at table i)) ∙ d.same_length;
           none_far = (first_or_later h).1;
           to_come =
               ap (λ (l : List Float). sets l (4 * (i + 1)) (left_to_draw (i + 1))) e
