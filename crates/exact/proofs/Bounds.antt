@@ -7,11 +7,10 @@ use native.Mathlib.Omega.{arith}
 use mathlib.Core.Bool.{Bool, true, false, cond}
 use lib.Dec.{T, ltb, leb, lit<, lit≤, ltb→lt}
 use lib.IntN.{ℤ, pos, negsuc, neg_ℤ, nat_abs, sub_ℕ, ◌+ℤ◌, ◌-ℤ◌, ◌*ℤ◌}
-use lib.Signed.{mag, lt_z, le_z, ◌<ℤ◌, ◌≤ℤ◌}
+use lib.Signed.{mag}
 use mir.Syntax.{Width}
 use mir.Val.{SFits, hbits, to_z, of_z}
 use mir.ValLaws.{to_z-of_z, to_z_pos}
-use Rattle.exact.proofs.Order.{𝟘, ltZ_true, ltZ_false, leZ_true, leZ_false}
 use Rattle.exact.specs.Within.{Within}
 
 -- the code's z is the whole number y, whose size is at most A
@@ -90,22 +89,10 @@ module _ (w : Width) {z y : ℤ} {A : ℕ} (t : T (ltb A (2 ^ hbits w))) (h : Ex
 pub coordinate : (w : Width) {z : ℤ} {A : ℕ} → T (ltb A (2 ^ hbits w)) → Within A z → Exactly (to_z w (of_z w z)) z A
 coordinate w t h = reads_back w t (itself h)
 
--- what a call hands back is s, also as the next operation and the next test read it
+-- what a call hands back is s, also as the next operation reads it
 module _ (w : Width) {r s : ℤ} (f : mag r < 2 ^ hbits w) (e : r ≡ s) where
   pub handed : to_z w (of_z w r) ≡ s
   handed = to_z-of_z w r (record { sfits = f }) ∙ e
-
-  pub is_negative : lt_z (to_z w (of_z w r)) 𝟘 ≡ true → s <ℤ 𝟘
-  is_negative h = ltZ_true s 𝟘 (subst (λ (z : ℤ). lt_z z 𝟘 ≡ true) handed h)
-
-  pub is_not_negative : lt_z (to_z w (of_z w r)) 𝟘 ≡ false → 𝟘 ≤ℤ s
-  is_not_negative h = ltZ_false s 𝟘 (subst (λ (z : ℤ). lt_z z 𝟘 ≡ false) handed h)
-
-  pub is_not_positive : le_z (to_z w (of_z w r)) 𝟘 ≡ true → s ≤ℤ 𝟘
-  is_not_positive h = leZ_true s 𝟘 (subst (λ (z : ℤ). le_z z 𝟘 ≡ true) handed h)
-
-  pub is_positive : le_z (to_z w (of_z w r)) 𝟘 ≡ false → 𝟘 <ℤ s
-  is_positive h = leZ_false s 𝟘 (subst (λ (z : ℤ). le_z z 𝟘 ≡ false) handed h)
 
 -- what is exactly y is within every bound that its size is within
 pub within : {z y : ℤ} {A B : ℕ} → T (leb A B) → Exactly z y A → Within B z

@@ -1,14 +1,15 @@
--- Up to 2^53: the double without its fraction is an integer that becomes a double again, and the two doubles are equal exactly when nothing
--- was cut off.
-use Rattle.std.proofs.Common.{◌≡◌, ℕ, zero, suc, ◌+◌, ◌-◌, ◌*◌, ◌^◌, ◌<◌, ◌≤◌, min, Bool, true, false, ◌&&◌, ◌||◌, T, eqb, ℤ, pos, neg_ℤ, sym, refl, ap, ◌∙◌, subst, zero-mul, mul-one, mul_right_comm, arith, le→leb, lt→ltb, lt-ltb, eq-eqb, eqb-true, leb-true}
+-- A double without its fraction is a double again, and the two are equal exactly when nothing was cut off. Up to 2^53 it becomes an integer.
+use Rattle.std.proofs.Common.{◌≡◌, ℕ, zero, suc, ◌+◌, ◌-◌, ◌*◌, ◌%◌, ◌^◌, ◌<◌, ◌≤◌, min, Bool, true, false, ◌&&◌, ◌||◌, T, eqb, ltb, leb, ℤ, pos, negsuc, neg_ℤ, sym, refl, ap, ◌∙◌, mul-one, mul_assoc, mul_comm, mul_right_comm, arith, lt→ltb, ltb→lt, lt-ltb, leb-true, pow_pos}
+use Rattle.std.proofs.lemmas.Nat.{pow-add}
+use Rattle.std.specs.Float.{trunc, round_with, float_is_finite}
 use mathlib.Core.Bool.{beq, and-true, false≢true}
-use native.Mathlib.Nat.{eq_of_mul-eq-mul_right}
-use lib.Ieee.{Float, nan, inf, fin, binary64, up, down, le, lt, eq, of_int, to_signed, in_float}
-use lib.Ieee.Exact.{HasValue}
+use native.Mathlib.Nat.{eq_of_mul-eq-mul_right, mul-lt-mul_of_pos_right}
+use lib.Ieee.{Float, nan, inf, fin, Format, binary64, prec, emax, low, up, down, le, lt, eq, fits, round, to_signed}
+use lib.Ieee.Exact.{HasValue, round_exact}
 use lib.Ieee.Back.{round_whole}
-use lib.Ieee.Fits.{down_pos}
-use Rattle.number.specs.Whole.{is_whole, size, signed, integer}
-use Rattle.number.proofs.Size.{same_test, whole_when_it_is_its_size, size_within}
+use lib.Ieee.Fits.{down_pos, and_l, and_r}
+use Rattle.number.specs.Whole.{is_finite, is_whole, size, signed, integer}
+use Rattle.number.proofs.Size.{same_test, whole_when_it_is_its_size, size_within, size_is}
 use Rattle.number.proofs.Limits.{small}
 
 -- ---- without its fraction, a small double is an integer
@@ -21,51 +22,65 @@ unfolding to_signed size
 truncated true m e h = ap (λ (n : ℕ). neg_ℤ (pos n)) (uncapped (size m e) (2 ^ 63) h (omega arith))
 truncated false m e h = ap pos (uncapped (size m e) (2 ^ 63 - 1) h (omega arith))
 
--- ---- that integer is a double again
+-- ---- cut off at its fraction, a double is its size
 
-signed_in_float : (s : Bool) (n : ℕ) → n ≤ 2 ^ 53 → T (in_float binary64 (signed s n))
-unfolding in_float
-signed_in_float false n h = le→leb n (2 ^ 53) (omega arith)
-signed_in_float true zero h = tt
-signed_in_float true (suc n) h = lt→ltb n (2 ^ 53) (omega arith)
+-- the conditions of a double that is not 0: it has 53 binary digits, and is below 2^1024
+two_of_four : (a b c d : Bool) → T (a && b && c && d) → T b × T d
+two_of_four a b c d t = (and_r a b (and_l (a && b) c (and_l (a && b && c) d t)), and_r (a && b && c) d t)
 
--- exactly ±n, with the sign s unless n is 0
-abbrev Keeps : Bool → ℕ → Float → Type 0
-Keeps s n x = (t : Bool) × HasValue x t n 1 × T (beq t s || eqb n 0)
+-- a whole number of so many digits that is no larger is a double itself
+large_is_exact : (f : Format) (s : Bool) (m n : ℕ) → m < 2 ^ prec f → m * 2 ^ n < 2 ^ suc (emax f) → HasValue (round f s (m * 2 ^ n) 1) s (m * 2 ^ n) 1
+large_is_exact f s m n digits below =
+    let shifted : m * 2 ^ (n + low f) ≡ m * 2 ^ n * 2 ^ low f = ap (λ (k : ℕ). m * k) (pow-add 2 n (low f)) ∙ sym (mul_assoc m (2 ^ n) (2 ^ low f)) in
+    let most : 2 ^ (low f + suc (emax f)) ≡ 2 ^ suc (emax f) * 2 ^ low f = pow-add 2 (low f) (suc (emax f)) ∙ mul_comm (2 ^ low f) (2 ^ suc (emax f)) in
+    round_exact f s (m * 2 ^ n) 1 m (n + low f) (omega arith) digits
+    (rw (shifted, most) (mul-lt-mul_of_pos_right below (pow_pos (low f))))
+    (sym shifted ∙ sym (mul-one (m * 2 ^ (n + low f))))
 
-kept : (s : Bool) (n : ℕ) → n ≤ 2 ^ 53 → Keeps s n (of_int binary64 (signed s n))
-unfolding of_int
-kept false n h = (false, round_whole binary64 false n (omega arith), tt)
-kept true zero h = (false, round_whole binary64 false 0 (omega arith), tt)
-kept true (suc n) h = (true, round_whole binary64 true (suc n) (omega arith), tt)
+cut_is_exact : (s : Bool) (m : ℕ) (e : ℤ) → fits binary64 (fin s m e) ≡ true → HasValue (round binary64 s (size m e) 1) s (size m e) 1
+unfolding fits
+cut_is_exact s zero e f = round_whole binary64 s (size zero e) (size_within s zero e (2 ^ 53) (omega arith))
+cut_is_exact s (suc m) (pos n) f =
+    let both = two_of_four (eqb (suc m % 2) 1) (ltb (suc m) (2 ^ 53)) (leb 1 (2 ^ low binary64)) (ltb (suc m * 2 ^ n) (2 ^ suc (emax binary64) * 1)) (rw f tt) in
+    let below : suc m * 2 ^ n < 2 ^ suc (emax binary64) = rw (mul-one (2 ^ suc (emax binary64))) at (ltb→lt (suc m * 2 ^ n) (2 ^ suc (emax binary64) * 1) both.1) in
+    rw (size_is s (suc m) (pos n) (suc m * 2 ^ n) (sym (mul-one (suc m * 2 ^ n))))
+    (large_is_exact binary64 s (suc m) n (ltb→lt (suc m) (2 ^ 53) both.0) below)
+cut_is_exact s (suc m) (negsuc n) f =
+    let both = two_of_four (eqb (suc m % 2) 1) (ltb (suc m) (2 ^ 53)) (leb (down (negsuc n)) (2 ^ low binary64)) (ltb (suc m * 1) (2 ^ suc (emax binary64) * down (negsuc n))) (rw f tt) in
+    let near : suc m * 1 ≤ 2 ^ 53 * 2 ^ suc n = omega (arith, ltb→lt (suc m) (2 ^ 53) both.0, pow_pos (suc n)) in
+    round_whole binary64 s (size (suc m) (negsuc n)) (size_within s (suc m) (negsuc n) (2 ^ 53) near)
 
 -- ---- and it equals the double it came from where that is whole
 
-same_sign : (b c c' : Bool) → T (b || c) → (c ≡ true → c' ≡ true) → (b || c') ≡ true
-same_sign true c c' h k = refl
-same_sign false true c' h k = k refl
-same_sign false false c' h k = absurd h
+same_sign : (s : Bool) → beq s s ≡ true
+same_sign true = refl
+same_sign false = refl
 
-equal_to : (y : Float) (s : Bool) (n m : ℕ) (e : ℤ) → Keeps s n y → eq y (fin s m e) ≡ eqb (n * down e) (m * up e)
+equal_to : (y : Float) (s : Bool) (n m : ℕ) (e : ℤ) → HasValue y s n 1 → eq y (fin s m e) ≡ eqb (n * down e) (m * up e)
 unfolding eq
-equal_to nan s n m e v = absurd v.1
-equal_to (inf u) s n m e v = absurd v.1
+equal_to nan s n m e v = absurd v
+equal_to (inf u) s n m e v = absurd v
 equal_to (fin u k d) s n m e v =
     let a = k * up d * down e in
     let b = m * up e * down d in
     let is : a ≡ n * down e * down d =
-    ap (λ (x : ℕ). x * down e) (sym (mul-one (k * up d)) ∙ v.1.1) ∙ mul_right_comm n (down d) (down e) in
+    ap (λ (x : ℕ). x * down e) (sym (mul-one (k * up d)) ∙ v.1) ∙ mul_right_comm n (down d) (down e) in
     let level_sizes : eqb a b ≡ eqb (n * down e) (m * up e) =
     same_test a b (n * down e) (m * up e)
     (λ h. eq_of_mul-eq-mul_right (down d) (down_pos d) _ _ (sym is ∙ h))
     (λ h. is ∙ ap (λ (x : ℕ). x * down d) h) in
-    let zero_size : eqb n 0 ≡ true → eqb a 0 ≡ true =
-    λ h. eq-eqb a 0 (is ∙ ap (λ (x : ℕ). x * down e * down d) (eqb-true n 0 h) ∙ ap (λ (x : ℕ). x * down d) (zero-mul (down e)) ∙ zero-mul (down d)) in
-    let signs : (beq u s || eqb a 0) ≡ true =
-    same_sign (beq u s) (eqb n 0) (eqb a 0) (subst (λ (t : Bool). T (beq t s || eqb n 0)) (sym v.1.0) v.2) zero_size in
+    let signs : (beq u s || eqb a 0) ≡ true = ap (λ (t : Bool). beq t s || eqb a 0) v.0 ∙ ap (λ (t : Bool). t || eqb a 0) (same_sign s) in
     ap (λ (t : Bool). eqb a b && t) signs ∙ and-true (eqb a b) ∙ level_sizes
 
--- ---- what the code finds of a double up to 2^53
+-- what is left decides
+pub decided_by_cutting : (x : Float) → fits binary64 x ≡ true → is_finite x ≡ true → eq (trunc binary64 x) x ≡ is_whole x
+unfolding float_is_finite round_with size
+decided_by_cutting nan f h = absurd (false≢true h)
+decided_by_cutting (inf s) f h = absurd (false≢true h)
+decided_by_cutting (fin false m e) f h = equal_to _ false (size m e) m e (cut_is_exact false m e f) ∙ sym (whole_when_it_is_its_size false m e)
+decided_by_cutting (fin true m e) f h = equal_to _ true (size m e) m e (cut_is_exact true m e f) ∙ sym (whole_when_it_is_its_size true m e)
+
+-- ---- what the code makes of a double up to 2^53
 
 size_of_small : (s : Bool) (m : ℕ) (e : ℤ) → small 53 (fin s m e) ≡ true → size m e ≤ 2 ^ 53
 size_of_small s m e h = size_within s m e (2 ^ 53) (leb-true _ _ h)
@@ -76,22 +91,6 @@ unfolding integer
 truncated_is_its_integer nan h = absurd (false≢true h)
 truncated_is_its_integer (inf s) h = absurd (false≢true h)
 truncated_is_its_integer (fin s m e) h = truncated s m e (size_of_small s m e h)
-
--- the double that comes back decides
-pub decided_by_coming_back : (x : Float) → small 53 x ≡ true → eq (of_int binary64 (to_signed 63 x)) x ≡ is_whole x
-decided_by_coming_back nan h = absurd (false≢true h)
-decided_by_coming_back (inf s) h = absurd (false≢true h)
-decided_by_coming_back (fin s m e) h =
-    let k : size m e ≤ 2 ^ 53 = size_of_small s m e h in
-    rw (truncated s m e k)
-    (equal_to (of_int binary64 (signed s (size m e))) s (size m e) m e (kept s (size m e) k) ∙ sym (whole_when_it_is_its_size s m e))
-
-pub small_in_float : (x : Float) → small 53 x ≡ true → T (in_float binary64 (to_signed 63 x))
-small_in_float nan h = absurd (false≢true h)
-small_in_float (inf s) h = absurd (false≢true h)
-small_in_float (fin s m e) h =
-    let k : size m e ≤ 2 ^ 53 = size_of_small s m e h in
-    rw (truncated s m e k) (signed_in_float s (size m e) k)
 
 -- such a double is far from the ends of the machine's integers
 pub small_in_range : (x : Float) → small 53 x ≡ true → T (le (fin true 1 (pos 63)) x) × T (lt x (fin false 1 (pos 63)))

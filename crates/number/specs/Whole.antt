@@ -1,14 +1,12 @@
 -- A double as whole millimetres (document 01, "The stand"). A finite double is ±m·2^e, and 2^e is the fraction up e / down e.
 use Rattle.std.specs.Prelude.{◌≡◌, ℕ, ◌*◌, ◌/◌, ◌%◌, Bool, true, false, ◌&&◌, ℤ, pos, ◌*ℤ◌, neg_ℤ, ◌==◌, nat_le, Float, None, Option, Some}
-use Rattle.std.specs.Float.{nan, inf, fin}
+use Rattle.std.specs.Float.{nan, inf, fin, float_is_finite}
 use Rattle.std.specs.Float.Ieee.{up, down}
 use Rattle.plane.specs.Side.{limit}
 
 -- neither a NaN nor an infinity
-unfoldable pub is_finite : Float → Bool
-is_finite nan = false
-is_finite (inf s) = false
-is_finite (fin s m e) = true
+abbrev pub is_finite : Float → Bool
+is_finite = float_is_finite
 
 -- a whole number
 unfoldable pub is_whole : Float → Bool
@@ -45,7 +43,7 @@ accepted false z = None
 
 -- a double is accepted exactly when it is finite, a whole number of millimetres and within the coordinate limits; it is read as that number
 unfoldable pub whole : Float → Option ℤ
-unfolding is_finite is_whole is_within integer
+unfolding float_is_finite is_whole is_within integer
 whole x = accepted (is_finite x && is_whole x && is_within x) (integer x)
 
 -- the float is exactly the whole number z: ±m·2^e = z, both sides times down e

@@ -1,8 +1,8 @@
 -- Whether a point is strictly within a side: on its line, with the side's two ends in opposite directions.
-use mathlib.Core.Bool.{Bool, true, false, not, ◌&&◌}
-use mathlib.Core.Path.{◌≡◌, sym, ◌∙◌, ap, ap₂}
+use mathlib.Core.Bool.{true, false}
+use mathlib.Core.Path.{◌≡◌, refl, sym, ◌∙◌}
 use borrow.Author.Tests.{not-true}
-use lib.IntN.{ℤ}
+use Rattle.std.proofs.lemmas.Bool.{false_from_ne_true}
 use lib.Signed.{lt_z}
 use Rattle.exact.proofs.Order.{𝟘, lt_ltZ, ltZ_true, ltZ_false, at_most_both_ways}
 use Rattle.exact.proofs.Truth.{both_true}
@@ -14,19 +14,9 @@ use Rattle.plane.proofs.Found.{side_turns_with_its_corners, side_from_the_stand}
 module _ (a b q : Point) where
   -- ---- by the side value
 
-  pub not_right_of_it : lt_z (side a b q) 𝟘 ≡ true → is_within a b q ≡ false
+  pub on_its_line : side a b q ≡ 𝟘 → is_within a b q ≡ lt_z (dot (minus a q) (minus b q)) 𝟘
   unfolding is_within
-  not_right_of_it e = ap (λ (r : Bool). not r && not (lt_z 𝟘 (side a b q)) && lt_z (dot (minus a q) (minus b q)) 𝟘) e
-
-  by_sides : {r l : Bool} → lt_z (side a b q) 𝟘 ≡ r → lt_z 𝟘 (side a b q) ≡ l → is_within a b q ≡ (not r && not l && lt_z (dot (minus a q) (minus b q)) 𝟘)
-  unfolding is_within
-  by_sides e k = ap₂ (λ (r l : Bool). not r && not l && lt_z (dot (minus a q) (minus b q)) 𝟘) e k
-
-  pub not_left_of_it : lt_z (side a b q) 𝟘 ≡ false → lt_z 𝟘 (side a b q) ≡ true → is_within a b q ≡ false
-  not_left_of_it = by_sides
-
-  pub on_its_line : lt_z (side a b q) 𝟘 ≡ false → lt_z 𝟘 (side a b q) ≡ false → is_within a b q ≡ lt_z (dot (minus a q) (minus b q)) 𝟘
-  on_its_line = by_sides
+  on_its_line e = rw e refl
 
   -- ---- in opposite directions
 
@@ -44,6 +34,7 @@ module _ (a b q : Point) where
       }
 
   pub opposite_ends_hold_it : Opposite (minus a q) (minus b q) → is_within a b q ≡ true
-  opposite_ends_hold_it o =
-      let nought = seen_from_it ∙ o.along in
-      on_its_line (ap (λ (z : ℤ). lt_z z 𝟘) nought) (ap (lt_z 𝟘) nought) ∙ lt_ltZ o.apart
+  opposite_ends_hold_it o = on_its_line (seen_from_it ∙ o.along) ∙ lt_ltZ o.apart
+
+  pub not_on_its_line : (side a b q ≡ 𝟘 → ⊥) → is_within a b q ≡ false
+  not_on_its_line beside = false_from_ne_true (is_within a b q) (λ e. beside (seen_from_it ∙ (ends_are_opposite e).along))

@@ -1,9 +1,13 @@
+// Side values and what their signs decide (document 01, "Side value and plan check" and "The stand"): the area test, the containment test of one side,
+// and whether a point is strictly within a side.
 #![tactic(auto)]
 
 ghost use Rattle.std.specs.Prelude.{◌≡◌};
 ghost use Rattle.plane.specs.Side.{corner, side_of, AllNear};
 ghost use Rattle.plane.specs.Cone.{minus, dot};
 ghost use Rattle.plane.specs.Tests.{right_cell, by_value, beside_of, within_of};
+
+use std::cmp::Ordering;
 
 // The side value of three points (document 01, "Side value and plan check").
 pub fn side_value(p: [[i64; 2]; 3]) -> i64
@@ -27,8 +31,7 @@ pub fn is_right(cell: [[i64; 2]; 3]) -> bool
     requires { AllNear cell }
     ensures { result ≡ right_cell cell }
 {
-    let area = side_value(cell);
-    0 < area
+    0 < side_value(cell)
 }
 
 // Where a point lies against a side, or against a right cell.
@@ -40,16 +43,15 @@ pub enum Containment {
 }
 
 // Where a point lies by the side value of one side, or by the least side value of a cell's sides.
+#[tactic(auto, unfolding(crate::specs::Tests::by_value))]
 pub fn placed(value: i64) -> Containment
     ensures { result ≡ by_value value }
 {
-    if value < 0 {
-        return Containment::Outside;
+    match value.cmp(&0) {
+        Ordering::Less => Containment::Outside,
+        Ordering::Equal => Containment::Border,
+        Ordering::Greater => Containment::Inside,
     }
-    if value <= 0 {
-        return Containment::Border;
-    }
-    Containment::Inside
 }
 
 // The containment test of one side (document 01, "The stand"; document 02, A14): the side's two ends, and the point asked about.
@@ -57,8 +59,7 @@ pub fn beside(p: [[i64; 2]; 3]) -> Containment
     requires { AllNear p }
     ensures { result ≡ beside_of p }
 {
-    let value = side_value(p);
-    placed(value)
+    placed(side_value(p))
 }
 
 // The dot product of a side's two ends, seen from a third point.
@@ -83,13 +84,5 @@ pub fn is_within(p: [[i64; 2]; 3]) -> bool
     requires { AllNear p }
     ensures { result ≡ within_of p }
 {
-    let value = side_value(p);
-    if value < 0 {
-        return false;
-    }
-    if 0 < value {
-        return false;
-    }
-    let seen = ends_seen(p);
-    seen < 0
+    side_value(p) == 0 && ends_seen(p) < 0
 }

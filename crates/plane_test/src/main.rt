@@ -10,16 +10,12 @@ use std::io;
 fn far_point(n: u64) -> [i64; 2]
     ensures { Near (point result) }
 {
-    if n == 0 {
-        return [536870912, 536870912];
+    match n {
+        0 => [536870912, 536870912],
+        1 => [-536870912, 536870912],
+        2 => [536870912, -536870912],
+        _ => [-536870912, -536870912],
     }
-    if n == 1 {
-        return [-536870912, 536870912];
-    }
-    if n == 2 {
-        return [536870912, -536870912];
-    }
-    [-536870912, -536870912]
 }
 
 // A point of the small grid from −2 to 2.
@@ -34,22 +30,22 @@ fn small_point(n: u64) -> [i64; 2]
 fn print_beside(rt: &impl Print, p: [[i64; 2]; 3]) -> io::Result<()>
     requires { AllNear p }
 {
-    match plane::beside(p) {
-        Containment::Inside => rt.print(" inside\n"),
-        Containment::Border => rt.print(" border\n"),
-        Containment::Outside => rt.print(" outside\n"),
-    }
+    rt.print(match plane::beside(p) {
+        Containment::Inside => " inside\n",
+        Containment::Border => " border\n",
+        Containment::Outside => " outside\n",
+    })
 }
 
 fn print_side(rt: &impl Print, p: [[i64; 2]; 3]) -> io::Result<()>
     requires { AllNear p }
 {
     rt.print(plane::side_value(p))?;
-    if plane::is_right(p) {
-        rt.print(" right")?;
+    rt.print(if plane::is_right(p) {
+        " right"
     } else {
-        rt.print(" wrong")?;
-    }
+        " wrong"
+    })?;
     print_beside(rt, p)
 }
 

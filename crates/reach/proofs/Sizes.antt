@@ -1,16 +1,16 @@
 -- The code's numbers: a coordinate seen from the stand is at most 2^30, a product of two 2^60, a dot or cross product 2^61.
-use Prim.Native.Nat.{ℕ, zero, suc, ◌*◌, ◌^◌, ◌≤◌, ◌<◌}
+use Prim.Native.Nat.{ℕ, ◌*◌, ◌^◌, ◌≤◌, ◌<◌}
 use native.Mathlib.Nat.{mul-le-mul}
 use native.Mathlib.Omega.{arith}
-use mathlib.Core.Path.{◌≡◌, refl, ap, ◌∙◌}
+use mathlib.Core.Path.{◌≡◌}
 use mathlib.Core.Bool.{true, false}
 use lib.Dec.{T, ltb, lit<}
-use lib.IntN.{ℤ, pos, negsuc, neg_ℤ, nat_abs, +ℤ_idl, ◌+ℤ◌, ◌-ℤ◌, ◌*ℤ◌}
-use lib.Signed.{mag, lt_z, le_z, non_neg, yes_non_neg, pos-nat_abs, ◌<ℤ◌, ◌≤ℤ◌}
+use lib.IntN.{ℤ, pos, nat_abs, ◌+ℤ◌, ◌-ℤ◌, ◌*ℤ◌}
+use lib.Signed.{mag, le_z, non_neg, yes_non_neg, pos-nat_abs, ◌<ℤ◌, ◌≤ℤ◌}
 use mir.Syntax.{w64}
 use mir.Val.{Fits, to_z, of_z}
 use Rattle.exact.specs.Within.{Within}
-use Rattle.exact.proofs.Order.{𝟘, ltZ_true, leZ_true, leZ_false, less_is_at_most, at_most_is_difference}
+use Rattle.exact.proofs.Order.{𝟘, leZ_true, leZ_false, less_is_at_most, at_most_is_difference}
 use Rattle.exact.proofs.Bounds.{Exactly, coordinate, reads_back, handed, counted, plus, minus, times}
 use Rattle.plane.specs.Side.{Point}
 use Rattle.plane.specs.Cone.{cross, dot}
@@ -83,22 +83,3 @@ module _ {z y z' y' : ℤ} (h : Exactly z y most_product) (k : Exactly z' y' mos
 
   pub gap_cast : y' <ℤ y → pos (nat_abs (back (z -ℤ z'))) ≡ y -ℤ y'
   gap_cast l = rw gap.is (pos-nat_abs (y -ℤ y') (yes_non_neg (at_most_is_difference (less_is_at_most l))))
-
--- ---- a number taken from 0
-
-size_of_a_negation : (z : ℤ) → nat_abs (neg_ℤ z) ≡ nat_abs z
-size_of_a_negation (pos zero) = refl
-size_of_a_negation (pos (suc n)) = refl
-size_of_a_negation (negsuc n) = refl
-
-module _ {z y : ℤ} (h : Exactly z y most_product) where
-  pub from_0 : Exactly (𝟘 -ℤ z) (neg_ℤ y) most_product
-  from_0 = record { is = +ℤ_idl (neg_ℤ z) ∙ ap neg_ℤ h.is; size = rw (size_of_a_negation y) h.size }
-
-  pub size_from_0 : nat_abs (back (𝟘 -ℤ z)) ≡ nat_abs y
-  size_from_0 = ap nat_abs (reads_back w64 tt from_0).is ∙ size_of_a_negation y
-
-  pub unsigned_from_0 : lt_z z 𝟘 ≡ true → T (non_neg (back (𝟘 -ℤ z))) × Fits w64 (nat_abs (back (𝟘 -ℤ z)))
-  unsigned_from_0 e =
-      let negative : y <ℤ 𝟘 = ltZ_true y 𝟘 (rw h.is at e) in
-      unsigned tt (reads_back w64 tt from_0) (rw (+ℤ_idl (neg_ℤ y)) at (at_most_is_difference (less_is_at_most negative)))

@@ -8,7 +8,7 @@ ghost use Rattle.plane.specs.Cone.{cross, dot};
 ghost use Rattle.reach.specs.Reach.{wrong_reach, range as Reach·range, EndsSeen, in_reach};
 
 use limits::Plan;
-use wide::{is_at_most, product};
+use wide::is_product_at_most;
 
 // Is a number stated that is no reach? A query states its reach in millimetres, or none.
 #[tactic(auto, unfolding(crate::specs::Reach::wrong_reach))]
@@ -17,7 +17,7 @@ pub fn is_wrong(reach: Option<u64>) -> bool
 {
     match reach {
         None => false,
-        Some(n) => n < Plan::LEAST_REACH || Plan::MOST_REACH < n,
+        Some(n) => !(Plan::LEAST_REACH..=Plan::MOST_REACH).contains(&n),
     }
 }
 
@@ -33,11 +33,8 @@ fn dot_of(ends: [[i64; 2]; 2]) -> i64
     requires { EndsSeen ends }
     ensures { result ≡ dot (corner ends 0) (corner ends 1) }
 {
-    let a = ends[0];
-    let b = ends[1];
-    let across = a[0] * b[0];
-    let up = a[1] * b[1];
-    across + up
+    let [a, b] = ends;
+    a[0] * b[0] + a[1] * b[1]
 }
 
 // The size of their cross product.
@@ -45,15 +42,8 @@ fn cross_size(ends: [[i64; 2]; 2]) -> u64
     requires { EndsSeen ends }
     ensures { result ≡ nat_abs (cross (corner ends 0) (corner ends 1)) }
 {
-    let a = ends[0];
-    let b = ends[1];
-    let left = a[0] * b[1];
-    let right = a[1] * b[0];
-    let value = left - right;
-    if value < 0 {
-        return (-value) as u64;
-    }
-    value as u64
+    let [a, b] = ends;
+    (a[0] * b[1] - a[1] * b[0]).unsigned_abs()
 }
 
 // Is the line in reach, its two ends seen from the stand? Where an end is, nothing else is asked. Else the nearest point is between the ends or there is
@@ -84,5 +74,5 @@ pub fn is_in_reach(ends: [[i64; 2]; 2], reach: u64) -> bool
     // the square of the line's length: it may need the sign's bit
     let length = (far_a - both) as u64 + (far_b - both) as u64;
     let size = cross_size([a, b]);
-    is_at_most(product(size, size), product(square, length))
+    is_product_at_most((size, size), (square, length))
 }

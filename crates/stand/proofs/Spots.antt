@@ -7,8 +7,7 @@ use native.Mathlib.Omega.{arith}
 use borrow.Author.Tests.{lt-ltb, le-ltb}
 use lib.Dec.{ltb}
 use lib.Ieee.{Float}
-use lib.IntN.{ℤ, pos, neg_ℤ, ◌+ℤ◌}
-use lib.Signed.{lt_z}
+use lib.IntN.{ℤ, ◌+ℤ◌}
 use mir.Syntax.{w64}
 use mir.Val.{to_z, of_z}
 use Rattle.exact.specs.Within.{Within}
@@ -69,48 +68,6 @@ module _ (x y : ℤ) where
           let same_x : x ≡ u = ap (λ (q : ℤ × ℤ). q.0) same in
           let same_y : y ≡ v = ap (λ (q : ℤ × ℤ). q.1) same in
           record { x_near = subst (Within limit) same_x (not_outside x both.0); y_near = subst (Within limit) same_y (not_outside y both.1) }
-
--- the four tests of a bound, on numbers as the code reads them
-module _ {x y X Y : ℤ} (is_x : X ≡ x) (is_y : Y ≡ y) where
-  pub below_x : lt_z X (neg_ℤ (pos limit)) ≡ true → None ≡ within_limits x y
-  unfolding within_limits outside
-  below_x h = let k : lt_z x (neg_ℤ (pos limit)) ≡ true = rw is_x at h in rw (k, outside, within_limits)
-
-  module _ (h : lt_z X (neg_ℤ (pos limit)) ≡ false) where
-    pub above_x : lt_z (pos limit) X ≡ true → None ≡ within_limits x y
-    unfolding within_limits outside
-    above_x k =
-        let h' : lt_z x (neg_ℤ (pos limit)) ≡ false = rw is_x at h in
-        let k' : lt_z (pos limit) x ≡ true = rw is_x at k in
-        rw (h', k', outside, within_limits)
-
-    module _ (k : lt_z (pos limit) X ≡ false) where
-      pub below_y : lt_z Y (neg_ℤ (pos limit)) ≡ true → None ≡ within_limits x y
-      unfolding within_limits outside
-      below_y l =
-          let h' : lt_z x (neg_ℤ (pos limit)) ≡ false = rw is_x at h in
-          let k' : lt_z (pos limit) x ≡ false = rw is_x at k in
-          let l' : lt_z y (neg_ℤ (pos limit)) ≡ true = rw is_y at l in
-          rw (h', k', l', outside, within_limits)
-
-      module _ (l : lt_z Y (neg_ℤ (pos limit)) ≡ false) where
-        pub above_y : lt_z (pos limit) Y ≡ true → None ≡ within_limits x y
-        unfolding within_limits outside
-        above_y m =
-            let h' : lt_z x (neg_ℤ (pos limit)) ≡ false = rw is_x at h in
-            let k' : lt_z (pos limit) x ≡ false = rw is_x at k in
-            let l' : lt_z y (neg_ℤ (pos limit)) ≡ false = rw is_y at l in
-            let m' : lt_z (pos limit) y ≡ true = rw is_y at m in
-            rw (h', k', l', m', outside, within_limits)
-
-        pub within_both : lt_z (pos limit) Y ≡ false → Some (X, Y) ≡ within_limits x y
-        unfolding within_limits outside
-        within_both m =
-            let h' : lt_z x (neg_ℤ (pos limit)) ≡ false = rw is_x at h in
-            let k' : lt_z (pos limit) x ≡ false = rw is_x at k in
-            let l' : lt_z y (neg_ℤ (pos limit)) ≡ false = rw is_y at l in
-            let m' : lt_z (pos limit) y ≡ false = rw is_y at m in
-            ap₂ (λ (u v : ℤ). Some (u, v)) is_x is_y ∙ rw (h', k', l', m', outside, within_limits)
 
 -- ---- stands
 

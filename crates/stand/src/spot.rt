@@ -24,20 +24,13 @@ fn whole_spot(x: f64, y: f64) -> Option<(i64, i64)>
 }
 
 // The sums of an offset must lie within the limits too.
+#[tactic(auto, unfolding(crate::specs::Spot::within_limits, cells::specs::Check::outside))]
 fn bounded(x: i64, y: i64) -> Option<(i64, i64)>
     ensures { result ≡ within_limits x y }
 {
     let limit = Plan::COORDINATE as i64;
-    if x < -limit {
-        return None;
-    }
-    if limit < x {
-        return None;
-    }
-    if y < -limit {
-        return None;
-    }
-    if limit < y {
+    let limits = -limit..=limit;
+    if !limits.contains(&x) || !limits.contains(&y) {
         return None;
     }
     Some((x, y))

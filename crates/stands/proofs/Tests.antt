@@ -1,16 +1,18 @@
 -- The stand of the code's number, by the tests that it passed and failed. The code's −1 is the word 2^64 − 1.
-use mathlib.Core.Bool.{true, false, false≢true, true≢false}
+use mathlib.Core.Bool.{Bool, true, false}
 use mathlib.Core.Logic.{◌≢◌}
 use mathlib.Core.Path.{◌≡◌, refl, ap, sym, ◌∙◌}
-use Prim.Native.Nat.{zero, suc, ◌≤◌}
+use Prim.Native.Nat.{ℕ, zero, suc, ◌≤◌, ◌<◌}
 use native.Mathlib.Omega.{arith}
-use borrow.Author.Tests.{ltb-true, ltb-false, le-leb, lt-leb}
-use lib.Dec.{T}
+use borrow.Author.Tests.{leb-true, le-leb}
+use lib.Dec.{leb}
 use lib.Ieee.{Float}
 use lib.IntN.{ℤ, pos, negsuc, nat_abs}
-use lib.Signed.{lt_z, non_neg}
-use mir.Syntax.{w16, w64}
-use mir.Val.{Fits, to_z, of_z}
+use mir.Syntax.{w64}
+use mir.Val.{to_z, of_z}
+use Rattle.std.specs.Prelude.{Result, Ok, Err}
+use Rattle.std.specs.Result.{OkIff, result_unwrap_or}
+use Rattle.std.specs.Int.{FitsUnsignedBits}
 use Rattle.exact.proofs.Bounds.{coordinate}
 use Rattle.exact.specs.Within.{Within}
 use Rattle.number.proofs.Whole.{accepted_is_within}
@@ -34,22 +36,18 @@ is_minus_one (negsuc n) w h =
     ap negsuc (omega arith)
 
 module _ (x y : Float) where
-  below : (z : ℤ) → of_z w64 z ≢ of_z w64 minus_one → lt_z z (pos 0) ≡ true → Offset no_corner x y ≡ by_number (Some z) x y
-  below (pos n) k h = absurd (omega (arith, ltb-true))
-  below (negsuc zero) k h = absurd (k refl)
-  below (negsuc (suc n)) k h = refl
-
-  above : (z : ℤ) → lt_z (pos no_corner) z ≡ true → Offset no_corner x y ≡ by_number (Some z) x y
-  above (pos n) h = rw (lt-leb n no_corner (ltb-true no_corner n h), by_number)
-  above (negsuc n) h = absurd (false≢true h)
-
-  between : (z : ℤ) → lt_z z (pos 0) ≡ false → lt_z (pos no_corner) z ≡ false → Offset (nat_abs z) x y ≡ by_number (Some z) x y
-  between (pos n) h k = rw (le-leb n no_corner (ltb-false no_corner n k), by_number)
-  between (negsuc n) h k = absurd (true≢false h)
-
-pub fits_a_corner : (z : ℤ) → lt_z z (pos 0) ≡ false → lt_z (pos no_corner) z ≡ false → T (non_neg z) × Fits w16 (nat_abs z)
-fits_a_corner (pos n) h k = (tt, omega (arith, ltb-false no_corner n k))
-fits_a_corner (negsuc n) h k = absurd (true≢false h)
+  -- what is left of a number that is not −1, where its corner fits a word of 16 bits or doesn't
+  by_corner : {E : Type 0} (z : ℤ) (r : Result ℕ E) → of_z w64 z ≢ of_z w64 minus_one → OkIff r (FitsUnsignedBits 16 z) (nat_abs z)
+      → Offset (result_unwrap_or r no_corner) x y ≡ by_number (Some z) x y
+  by_corner (pos n) (Ok u) k h = let fits : n < 65536 = h.0 in rw (h.1, le-leb n no_corner (omega arith), by_number)
+  by_corner (pos n) (Err e) k h = by_test (leb n no_corner) refl
+    where
+      by_test : (t : Bool) → leb n no_corner ≡ t → Offset no_corner x y ≡ elim t [ true ↦ Offset n x y | false ↦ Offset no_corner x y ]
+      by_test true l = absurd (h (omega (arith, leb-true n no_corner l)))
+      by_test false l = refl
+  by_corner (negsuc zero) r k h = absurd (k refl)
+  by_corner (negsuc (suc n)) (Ok u) k h = absurd h.0
+  by_corner (negsuc (suc n)) (Err e) k h = refl
 
 -- ---- the code's number
 
@@ -69,12 +67,6 @@ module _ (c x y : Float) where
     pub passed_first : of_z w64 z ≡ of_z w64 minus_one → Point x y ≡ stand_of c x y
     passed_first h = ap (λ (u : ℤ). by_number (Some u) x y) (sym (is_minus_one z (accepted_is_within c e) h)) ∙ of_number
 
-    pub passed_second : of_z w64 z ≢ of_z w64 minus_one → lt_z (to_z w64 (of_z w64 z)) (pos 0) ≡ true → Offset no_corner x y ≡ stand_of c x y
-    passed_second k h = below x y z k (rw read at h) ∙ of_number
-
-    pub passed_third : lt_z (pos no_corner) (to_z w64 (of_z w64 z)) ≡ true → Offset no_corner x y ≡ stand_of c x y
-    passed_third h = above x y z (rw read at h) ∙ of_number
-
-    pub passed_none : lt_z (to_z w64 (of_z w64 z)) (pos 0) ≡ false → lt_z (pos no_corner) (to_z w64 (of_z w64 z)) ≡ false
-        → Offset (nat_abs (to_z w64 (of_z w64 z))) x y ≡ stand_of c x y
-    passed_none h k = rw read (between x y z (rw read at h) (rw read at k)) ∙ of_number
+    pub passed_second : {E : Type 0} (r : Result ℕ E) → of_z w64 z ≢ of_z w64 minus_one
+        → OkIff r (FitsUnsignedBits 16 (to_z w64 (of_z w64 z))) (nat_abs (to_z w64 (of_z w64 z))) → Offset (result_unwrap_or r no_corner) x y ≡ stand_of c x y
+    passed_second r k h = by_corner x y z r k (rw read at h) ∙ of_number

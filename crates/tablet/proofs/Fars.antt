@@ -1,6 +1,6 @@
 -- Too far or not: the code's comparisons decide it, and a difference that is not too far is a whole number that single precision has.
-use mathlib.Core.Bool.{Bool, true, false, ◌||◌, false≢true}
-use mathlib.Core.Path.{◌≡◌, refl, sym, ap, ◌∙◌}
+use mathlib.Core.Bool.{Bool, true, false, ◌||◌}
+use mathlib.Core.Path.{◌≡◌, refl, sym, ap₂, ◌∙◌}
 use Prim.Native.Nat.{suc}
 use native.Mathlib.Omega.{arith}
 use borrow.Author.Tests.{ltb-true, ltb-false, lt-ltb, le-ltb}
@@ -9,7 +9,7 @@ use lib.IntN.{ℤ, pos, negsuc, neg_ℤ, nat_abs}
 use lib.Signed.{lt_z}
 use lib.Ieee.{binary32, in_float}
 use Rattle.exact.specs.Within.{Within}
-use Rattle.exact.proofs.Truth.{first_true, second_true, neither_true}
+use Rattle.exact.proofs.Truth.{neither_true}
 use Rattle.plane.specs.Side.{Point}
 use Rattle.limits.specs.Limits.{most_offset}
 use Rattle.tablet.specs.Drawing.{far}
@@ -19,44 +19,23 @@ use Rattle.tablet.specs.Drawing.{far}
 abbrev beyond : ℤ → Bool
 beyond z = ltb most_offset (nat_abs z)
 
-below : (z : ℤ) → lt_z z (neg_ℤ (pos most_offset)) ≡ true → beyond z ≡ true
-below (pos n) h = absurd (false≢true h)
-below (negsuc n) h = lt-ltb most_offset (suc n) (omega (arith, ltb-true 16777215 n h))
+-- past either end
+abbrev pub outside : ℤ → Bool
+outside z = lt_z z (neg_ℤ (pos most_offset)) || lt_z (pos most_offset) z
 
-above : (z : ℤ) → lt_z (pos most_offset) z ≡ true → beyond z ≡ true
-above (pos n) h = h
-above (negsuc n) h = absurd (false≢true h)
-
-not_below : (z : ℤ) → lt_z z (neg_ℤ (pos most_offset)) ≡ false → lt_z (pos most_offset) z ≡ beyond z
-not_below (pos n) h = refl
-not_below (negsuc n) h = sym (le-ltb most_offset (suc n) (omega (arith, ltb-false 16777215 n h)))
+outside_is_beyond : (z : ℤ) → outside z ≡ beyond z
+outside_is_beyond (pos n) = refl
+outside_is_beyond (negsuc n) = by_test (ltb 16777215 n) refl
+  where
+    by_test : (t : Bool) → ltb 16777215 n ≡ t → (t || false) ≡ ltb most_offset (suc n)
+    by_test true h = sym (lt-ltb most_offset (suc n) (omega (arith, ltb-true 16777215 n h)))
+    by_test false h = sym (le-ltb most_offset (suc n) (omega (arith, ltb-false 16777215 n h)))
 
 -- ---- both axes, where the code has u and v for the differences
 
-module _ (d : Point) {u v : ℤ} (is_u : u ≡ d.x) (is_v : v ≡ d.y) where
-  by_x : beyond d.x ≡ true → true ≡ far d
-  unfolding far
-  by_x h = sym (first_true (beyond d.x) (beyond d.y) h)
-
-  by_y : beyond d.y ≡ true → true ≡ far d
-  unfolding far
-  by_y h = sym (second_true (beyond d.x) (beyond d.y) h)
-
-  pub x_below : lt_z u (neg_ℤ (pos most_offset)) ≡ true → true ≡ far d
-  x_below h = by_x (below d.x (ap (λ (z : ℤ). lt_z z (neg_ℤ (pos most_offset))) (sym is_u) ∙ h))
-
-  pub x_above : lt_z (pos most_offset) u ≡ true → true ≡ far d
-  x_above h = by_x (above d.x (ap (λ (z : ℤ). lt_z (pos most_offset) z) (sym is_u) ∙ h))
-
-  pub y_below : lt_z v (neg_ℤ (pos most_offset)) ≡ true → true ≡ far d
-  y_below h = by_y (below d.y (ap (λ (z : ℤ). lt_z z (neg_ℤ (pos most_offset))) (sym is_v) ∙ h))
-
-  pub by_the_last : lt_z u (neg_ℤ (pos most_offset)) ≡ false → lt_z (pos most_offset) u ≡ false → lt_z v (neg_ℤ (pos most_offset)) ≡ false → lt_z (pos most_offset) v ≡ far d
-  unfolding far
-  by_the_last h i j =
-      let x_is : beyond d.x ≡ false = sym (not_below d.x (ap (λ (z : ℤ). lt_z z (neg_ℤ (pos most_offset))) (sym is_u) ∙ h)) ∙ ap (λ (z : ℤ). lt_z (pos most_offset) z) (sym is_u) ∙ i in
-      let y_is : lt_z (pos most_offset) v ≡ beyond d.y = ap (λ (z : ℤ). lt_z (pos most_offset) z) is_v ∙ not_below d.y (ap (λ (z : ℤ). lt_z z (neg_ℤ (pos most_offset))) (sym is_v) ∙ j) in
-      y_is ∙ ap (λ (b : Bool). b || beyond d.y) (sym x_is)
+pub far_is_outside : (d : Point) {u v : ℤ} → u ≡ d.x → v ≡ d.y → (outside u || outside v) ≡ far d
+unfolding far
+far_is_outside d is_u is_v = ap₂ (λ (u v : ℤ). outside u || outside v) is_u is_v ∙ ap₂ ◌||◌ (outside_is_beyond d.x) (outside_is_beyond d.y)
 
 -- ---- a difference that is not too far
 

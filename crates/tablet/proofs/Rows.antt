@@ -1,16 +1,19 @@
--- The two loops over the first rows of a table, and the rows that a listing wrote there.
+-- The first rows of a table: whether one names a corner too far, the loop that draws them, and the rows that a listing wrote there.
 use mathlib.Core.Bool.{Bool, true, false, ◌||◌}
 use mathlib.Core.List.{List, [], ◌∷◌, ◌++◌}
 use mathlib.Core.Path.{◌≡◌, refl, sym, ap, ap₂, ◌∙◌, subst}
-use Prim.Native.Nat.{ℕ, suc, ◌+◌, ◌*◌, ◌-◌, ◌<◌, ◌≤◌}
+use Prim.Native.Nat.{ℕ, zero, suc, ◌+◌, ◌*◌, ◌-◌, ◌<◌, ◌≤◌}
 use native.Mathlib.Omega.{arith}
+use lib.Dec.{ltb}
 use lib.ListN.{length, set}
+use borrow.Author.Tests.{lt-ltb, le-ltb}
 use lib.Seq.{sets, length-sets}
 use lib.IntN.{ℤ}
 use lib.Ieee.{Float}
 use Rattle.exact.proofs.Lent.{sets_then}
 use Rattle.exact.proofs.Truth.{neither_true}
 use Rattle.plane.specs.Side.{Point}
+use Rattle.cells.specs.Least.{least}
 use Rattle.fan.specs.Sight.{Row}
 use Rattle.fan.specs.Once.{At}
 use Rattle.fan.specs.Once.At.{first, later}
@@ -50,12 +53,6 @@ module _ (cs : List ℤ) (q : Point) (r : Row) where
   abbrev left_far : Bool
   left_far = far (seen cs q r.left)
 
-  pub far_by_right : {b : Bool} → b ≡ right_far → b ≡ true → true ≡ row_far cs q r
-  far_by_right e h = ap (λ (b : Bool). b || left_far) (sym h ∙ e)
-
-  pub far_by_left : {b c : Bool} → b ≡ right_far → b ≡ false → c ≡ left_far → c ≡ row_far cs q r
-  far_by_left e h f = f ∙ ap (λ (b : Bool). b || left_far) (sym h ∙ e)
-
   pub not_far_right : row_far cs q r ≡ false → right_far ≡ false
   not_far_right h = (neither_true right_far left_far h).0
 
@@ -80,36 +77,24 @@ no_row : (table : List ℕ) (i n : ℕ) → n ≤ i → rows_in table i (n - i) 
 unfolding rows_in
 no_row table i n h = let none : n - i ≡ 0 = omega arith in ap (rows_in table i) none
 
--- ---- looking for a corner that is too far has come to row i: what is left decides
+-- ---- some row names a corner that is too far where the first that does is before the end
 
-module _ (cs : List ℤ) (q : Point) (table : List ℕ) (n : ℕ) where
-  abbrev rest_far : ℕ → Bool
-  rest_far i = any_far cs q (rows_in table i (n - i))
+module _ (cs : List ℤ) (q : Point) (table : List ℕ) where
+  some_from : (n i : ℕ) → any_far cs q (rows_in table i n) ≡ ltb (least (λ k. row_far cs q (row_at table k)) n i) (i + n)
+  unfolding any_far rows_in least
+  some_from zero i = sym (le-ltb i (i + 0) (omega arith))
+  some_from (suc n) i =
+      let next : i + 1 ≡ suc i = omega arith in
+      let last : i + suc n ≡ suc i + n = omega arith in
+      by_row (row_far cs q (row_at table i)) (rw (next, last) (some_from n (suc i)))
+    where
+      by_row : (b : Bool) → any_far cs q (rows_in table (i + 1) n) ≡ ltb (least (λ k. row_far cs q (row_at table k)) n (suc i)) (i + suc n)
+          → (b || any_far cs q (rows_in table (i + 1) n)) ≡ ltb (elim b [ true ↦ i | false ↦ least (λ k. row_far cs q (row_at table k)) n (suc i) ]) (i + suc n)
+      by_row true rest = sym (lt-ltb i (i + suc n) (omega arith))
+      by_row false rest = rest
 
-  abbrev all_far : Bool
-  all_far = any_far cs q (rows_in table 0 n)
-
-  pub record Looks (i : ℕ) : Type 0 where
-    pub within : i ≤ n
-    pub decides : rest_far i ≡ all_far
-
-  pub looks_begin : Looks 0
-  looks_begin = let all : n - 0 ≡ n = omega arith in record { within = omega arith; decides = ap (λ (m : ℕ). any_far cs q (rows_in table 0 m)) all }
-
-  module _ {i : ℕ} (l : Looks i) where
-    one_row_far : i < n → {b : Bool} → b ≡ row_far cs q (row_at table i) → (b || rest_far (i + 1)) ≡ all_far
-    unfolding any_far
-    one_row_far h e = ap (λ (b : Bool). b || rest_far (i + 1)) e ∙ sym (ap (any_far cs q) (next_row table i n h)) ∙ l.decides
-
-    pub looks_found : i < n → {b : Bool} → b ≡ row_far cs q (row_at table i) → b ≡ true → true ≡ all_far
-    looks_found h e t = ap (λ (b : Bool). b || rest_far (i + 1)) (sym t) ∙ one_row_far h e
-
-    pub looks_on : i < n → {b : Bool} → b ≡ row_far cs q (row_at table i) → b ≡ false → Looks (i + 1)
-    looks_on h e t = record { within = omega arith; decides = ap (λ (b : Bool). b || rest_far (i + 1)) (sym t) ∙ one_row_far h e }
-
-    pub looks_end : n ≤ i → false ≡ all_far
-    unfolding any_far
-    looks_end h = sym (ap (any_far cs q) (no_row table i n h)) ∙ l.decides
+  pub some_row_far : (n : ℕ) → ltb (least (λ k. row_far cs q (row_at table k)) n 0) n ≡ any_far cs q (rows_in table 0 n)
+  some_row_far n = let all : 0 + n ≡ n = omega arith in sym (rw all at (some_from n 0))
 
 -- ---- drawing has come to row i: what is left comes behind what is drawn
 
@@ -121,7 +106,6 @@ module _ (cs : List ℤ) (q : Point) (table : List ℕ) (n : ℕ) (before : List
   all_drawn = sets before 0 (offsets_of cs q (rows_in table 0 n))
 
   pub record Draws (now : List Float) (i : ℕ) : Type 0 where
-    pub within : i ≤ n
     pub same_length : length now ≡ length before
     pub none_far : any_far cs q (rows_in table i (n - i)) ≡ false
     pub to_come : sets now (4 * i) (left_to_draw i) ≡ all_drawn
@@ -130,7 +114,6 @@ module _ (cs : List ℤ) (q : Point) (table : List ℕ) (n : ℕ) (before : List
   draws_begin none =
       let all : n - 0 ≡ n = omega arith in
       record {
-        within = omega arith;
         same_length = refl;
         none_far = ap (λ (m : ℕ). any_far cs q (rows_in table 0 m)) all ∙ none;
         to_come = ap (λ (m : ℕ). sets before 0 (offsets_of cs q (rows_in table 0 m))) all;
@@ -148,8 +131,7 @@ module _ (cs : List ℤ) (q : Point) (table : List ℕ) (n : ℕ) (before : List
     unfolding offsets_of
     draws_on h e =
         record {
-          within = omega arith;
-          same_length = ap length e ∙ length-sets now (4 * i) (row_offsets cs q (row_at table i)) ∙ d.same_length;
+            same_length = ap length e ∙ length-sets now (4 * i) (row_offsets cs q (row_at table i)) ∙ d.same_length;
           none_far = (first_or_later h).1;
           to_come =
               ap (λ (l : List Float). sets l (4 * (i + 1)) (left_to_draw (i + 1))) e

@@ -16,38 +16,32 @@ use stand::spot::stand_spot;
 // Does row i name a corner that is too far?
 fn is_row_far(corners: &[i32], table: &[u16], q: [i64; 2], i: usize) -> bool
     requires corners_near { CornersNear corners.now × Near (point q) }
-    requires i_in_bounds { (4 * i + 3 < length table.now) × ((row_at table.now i).right < corner_count corners.now) × ((row_at table.now i).left < corner_count corners.now) }
+    requires i_in_bounds { 4 * i + 3 < length table.now }
+    requires names_corners { ((row_at table.now i).right < corner_count corners.now) × ((row_at table.now i).left < corner_count corners.now) }
     ensures { result ≡ row_far corners.now (point q) (row_at table.now i) }
 {
     let right = table[4 * i + 1] as usize;
     let left = table[4 * i + 2] as usize;
-    if is_far(corners, right, q) {
-        return true;
-    }
-    is_far(corners, left, q)
+    is_far(corners, right, q) || is_far(corners, left, q)
 }
 
 // Does any of so many rows, from the first on?
 fn is_any_far(corners: &[i32], table: &[u16], q: [i64; 2], rows: usize) -> bool
     requires corners_near { CornersNear corners.now × Near (point q) }
-    requires rows_in_bounds { (4 * rows ≤ length table.now) × NameCorners corners.now table.now rows }
+    requires rows_in_bounds { 4 * rows ≤ length table.now }
+    requires name_corners { NameCorners corners.now table.now rows }
     ensures { result ≡ any_far corners.now (point q) (rows_in table.now 0 rows) }
 {
-    let mut i = 0;
-    while i < rows {
-        if is_row_far(corners, table, q, i) {
-            return true;
-        }
-        i += 1;
-    }
-    false
+    (0..rows).any(|i| is_row_far(corners, table, q, i))
 }
 
 // Draws row i, none of whose corners is too far.
 fn draw_row(corners: &[i32], table: &[u16], q: [i64; 2], offsets: &mut [f32], i: usize)
     requires corners_near { CornersNear corners.now × Near (point q) }
-    requires i_in_bounds { (4 * i + 3 < length table.now) × ((row_at table.now i).right < corner_count corners.now) × ((row_at table.now i).left < corner_count corners.now) }
-    requires i_in_bounds_2 { (4 * i + 3 < length offsets.old) × (row_far corners.now (point q) (row_at table.now i) ≡ false) }
+    requires i_in_bounds { 4 * i + 3 < length table.now }
+    requires names_corners { ((row_at table.now i).right < corner_count corners.now) × ((row_at table.now i).left < corner_count corners.now) }
+    requires room { 4 * i + 3 < length offsets.old }
+    requires not_far { row_far corners.now (point q) (row_at table.now i) ≡ false }
     ensures { offsets.new ≡ sets offsets.old (4 * i) (row_offsets corners.now (point q) (row_at table.now i)) }
 {
     let right = offset_of(corners, table[4 * i + 1] as usize, q);
@@ -61,14 +55,14 @@ fn draw_row(corners: &[i32], table: &[u16], q: [i64; 2], offsets: &mut [f32], i:
 // Draws the first n rows.
 fn draw_rows(corners: &[i32], table: &[u16], q: [i64; 2], offsets: &mut [f32], n: usize)
     requires corners_near { CornersNear corners.now × Near (point q) }
-    requires n_in_bounds { (4 * n ≤ length table.now) × NameCorners corners.now table.now n }
-    requires n_in_bounds_2 { (4 * n ≤ length offsets.old) × (any_far corners.now (point q) (rows_in table.now 0 n) ≡ false) }
+    requires rows_in_bounds { 4 * n ≤ length table.now }
+    requires name_corners { NameCorners corners.now table.now n }
+    requires room { 4 * n ≤ length offsets.old }
+    requires none_far { any_far corners.now (point q) (rows_in table.now 0 n) ≡ false }
     ensures { offsets.new ≡ sets offsets.old 0 (offsets_of corners.now (point q) (rows_in table.now 0 n)) }
 {
-    let mut i = 0;
-    while i < n {
+    for i in 0..n {
         draw_row(corners, table, q, offsets, i);
-        i += 1;
     }
 }
 

@@ -23,19 +23,9 @@ pub fn is_far(corners: &[i32], i: usize, q: [i64; 2]) -> bool
     ensures { result ≡ far (seen corners.now (point q) i) }
 {
     let d = difference(corners, i, q);
-    let x = d[0];
-    let y = d[1];
     let most = Plan::MOST_OFFSET;
-    if x < -most {
-        return true;
-    }
-    if most < x {
-        return true;
-    }
-    if y < -most {
-        return true;
-    }
-    most < y
+    let near = -most..=most;
+    !near.contains(&d[0]) || !near.contains(&d[1])
 }
 
 // The offset of corner i, which is not too far: each number is exactly the difference, since single precision has every whole number up to 2^24.
@@ -44,9 +34,7 @@ pub fn offset_of(corners: &[i32], i: usize, q: [i64; 2]) -> Offset
     requires i_bound { (i < corner_count corners.now) × (far (seen corners.now (point q) i) ≡ false) }
     ensures { result ≡ offset (seen corners.now (point q) i) }
 {
-    let d = difference(corners, i, q);
-    let x = d[0];
-    let y = d[1];
+    let [x, y] = difference(corners, i, q);
     Offset {
         x: x as f32,
         y: y as f32,

@@ -1,41 +1,18 @@
-// A product of two words as two words: squares of side values pass 64 bits (document 02, A5 and A8).
+// Products of two words and their order (document 02, A5 and A8): squares of side values pass 64 bits.
 #![tactic(auto)]
 
 ghost use Rattle.std.specs.Prelude.{◌*◌, ◌≡◌, leb};
-ghost use Rattle.wide.specs.Wide.{value};
 
-// The number high·2^64 + low.
-#[derive(Clone, Copy)]
-pub struct Wide {
-    pub high: u64,
-    pub low: u64,
+// The product of two words.
+pub fn product(a: u64, b: u64) -> u128
+    ensures { result ≡ a * b }
+{
+    a as u128 * b as u128
 }
 
-const HALF: u64 = 4294967296;
-
-// The product of two words, by their halves: no sum on the way passes a word, so no carry is a case of its own.
-pub fn product(a: u64, b: u64) -> Wide
-    ensures { value result ≡ a * b }
+// Is the product of the first two words at most that of the other two?
+pub fn is_product_at_most(a: (u64, u64), b: (u64, u64)) -> bool
+    ensures { result ≡ leb (a.0 * a.1) (b.0 * b.1) }
 {
-    let low = (a % HALF) * (b % HALF);
-    let first = (a / HALF) * (b % HALF) + low / HALF;
-    let second = (a % HALF) * (b / HALF) + first % HALF;
-    let high = (a / HALF) * (b / HALF) + first / HALF + second / HALF;
-    Wide {
-        high,
-        low: (second % HALF) * HALF + low % HALF,
-    }
-}
-
-// Is x at most y?
-pub fn is_at_most(x: Wide, y: Wide) -> bool
-    ensures { result ≡ leb (value x) (value y) }
-{
-    if x.high < y.high {
-        return true;
-    }
-    if y.high < x.high {
-        return false;
-    }
-    x.low <= y.low
+    product(a.0, a.1) <= product(b.0, b.1)
 }

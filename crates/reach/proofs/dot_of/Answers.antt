@@ -4,12 +4,12 @@ use Rattle.exact.proofs.Bounds.{fits, reads_back}
 use Rattle.reach.proofs.Sizes.{multiplied, dot_is}
 use Rattle.reach.proofs.dot_of.Goals as goal
 
-pub overflow_mul-across : goal.overflow_mul-across
-overflow_mul-across c = let seen = c.requires in
+pub overflow_mul-result : goal.overflow_mul-result
+overflow_mul-result c = let seen = c.requires in
     fits w64 tt (multiplied seen.right.x_apart seen.left.x_apart)
 
-pub overflow_mul-up : goal.overflow_mul-up
-overflow_mul-up c = let seen = c.requires in
+pub overflow_mul-result-2 : goal.overflow_mul-result-2
+overflow_mul-result-2 c = let seen = c.requires in
     fits w64 tt (multiplied seen.right.y_apart seen.left.y_apart)
 
 pub overflow_add-result : goal.overflow_add-result

@@ -37,14 +37,14 @@ spot c = sym c.stand_spot.ensures ∙ grind arith
 
 pub is_any_far-requires : goal.is_any_far-requires
 is_any_far-requires c = let k = t (goal.at.is_any_far-requires c).In_ok-counts in
-    record { corners_near = (k.corners, read_near c.args.kind c.args.corners.now c.args.cells.now c.args.doors.now c.args.query k c.args.offsets.now (spot (goal.at.is_any_far-requires c).In_ok-x)); rows_in_bounds = (omega (arith, k.few_rows, k.few_corners, c.list.auto.table), k.named) }
+    record { corners_near = (k.corners, read_near c.args.kind c.args.corners.now c.args.cells.now c.args.doors.now c.args.query k c.args.offsets.now (spot (goal.at.is_any_far-requires c).In_ok-x)); rows_in_bounds = omega (arith, k.few_rows, k.few_corners, c.list.auto.table); name_corners = k.named }
 
 pub returns-then-is_any_far : goal.returns-then-is_any_far
 returns-then-is_any_far c = told_far c.args.kind c.args.corners.now c.args.cells.now c.args.doors.now c.args.query (t (goal.at.returns-then-is_any_far c).In_ok-counts) c.args.offsets.now (spot (goal.at.returns-then-is_any_far c).In_ok-x) c.if-offsets-corners.false c.is_any_far.ensures c.if-is_any_far.true
 
 pub draw_rows-requires : goal.draw_rows-requires
 draw_rows-requires c = let k = t (goal.at.draw_rows-requires c).In_ok-counts in
-    record { corners_near = (k.corners, read_near c.args.kind c.args.corners.now c.args.cells.now c.args.doors.now c.args.query k c.args.offsets.now (spot (goal.at.draw_rows-requires c).In_ok-x)); n_in_bounds = (omega (arith, k.few_rows, k.few_corners, c.list.auto.table), k.named); n_in_bounds_2 = (omega (arith, k.few_rows, c.if-offsets-corners.false), sym c.is_any_far.ensures ∙ c.if-is_any_far.false) }
+    record { corners_near = (k.corners, read_near c.args.kind c.args.corners.now c.args.cells.now c.args.doors.now c.args.query k c.args.offsets.now (spot (goal.at.draw_rows-requires c).In_ok-x)); rows_in_bounds = omega (arith, k.few_rows, k.few_corners, c.list.auto.table); name_corners = k.named; room = omega (arith, k.few_rows, c.if-offsets-corners.false); none_far = sym c.is_any_far.ensures ∙ c.if-is_any_far.false }
 
 pub returns-in_err-counts : goal.returns-in_err-counts
 returns-in_err-counts c = ap (λ (r : Result Counts Refusal). (r, c.args.offsets.now)) (handed_on c.from_residual.ensures.1) ∙ told_refused c.args.kind c.args.corners.now c.args.cells.now c.args.doors.now c.args.query _ c.args.offsets.now (omega arith) (ap (λ (a : Result Counts Refusal). (a, left (goal.at.returns-in_err-counts c).After-list)) (sym c.in_err-counts.was) ∙ c.list.ensures)

@@ -1,19 +1,15 @@
 -- `tablet::drawing::is_any_far` meets its contract.
+use mathlib.Core.Path.{refl, ◌∙◌}
 use native.Mathlib.Omega.{arith}
-use Rattle.tablet.proofs.Rows.{looks_begin, looks_found, looks_on, looks_end}
+use Rattle.std.proofs.Common.{rules}
+use Rattle.plane.specs.Side.{point}
+use Rattle.cells.proofs.Searches.{some_from_any}
+use Rattle.fan.specs.Written.{row_at}
+use Rattle.tablet.specs.Drawing.{row_far}
+use Rattle.tablet.proofs.Rows.{some_row_far}
 use Rattle.tablet.proofs.drawing.is_any_far.Goals as goal
 
-pub loop-i-init : goal.loop-i-init
-loop-i-init c = looks_begin _ _ _ _
-
-pub is_row_far-requires : goal.is_row_far-requires
-is_row_far-requires c = record { corners_near = c.requires.corners_near; i_in_bounds = (omega (arith, c.requires.rows_in_bounds.0, c.loop-i-test.true), (c.requires.rows_in_bounds.1 _ c.loop-i-test.true).0, (c.requires.rows_in_bounds.1 _ c.loop-i-test.true).1) }
-
-pub returns-then-is_row_far : goal.returns-then-is_row_far
-returns-then-is_row_far c = looks_found _ _ _ _ c.loop-i.invariant c.loop-i-test.true c.is_row_far.ensures c.if-is_row_far.true
-
-pub loop-i-preserved : goal.loop-i-preserved
-loop-i-preserved c = looks_on _ _ _ _ c.loop-i.invariant c.loop-i-test.true c.is_row_far.ensures c.if-is_row_far.false
-
 pub returns : goal.returns
-returns c = looks_end _ _ _ _ c.loop-i.invariant c.loop-i-test.false
+returns c = let a = c.args in
+    some_from_any (λ i. row_far a.corners.now (point a.q) (row_at a.table.now i)) _ _ _ refl refl (omega arith) _ c.any.ensures.ran (λ x q k. search rules) (λ x q k. search rules)
+    ∙ some_row_far a.corners.now (point a.q) a.table.now a.rows

@@ -1,2 +1,0 @@
--- the number that two words are
-pub mod Wide
