@@ -11,10 +11,10 @@ returns-in_default c = let a = c.args in
 
 pub returns-then-u : goal.returns-then-u
 returns-then-u c = let a = c.args in
-    passed_first a.corner a.x a.y (sym c.whole_millimetres.ensures ∙ c.in-Whole.is)
+    passed_first a.corner a.x a.y (sym c.whole_millimetres.ensures ∙ c.in-Some.is)
     c.if-u.true
 
 pub returns : goal.returns
 returns c = let a = c.args in
     ap (λ (u : ℕ). Offset u a.x a.y) c.unwrap_or.ensures
-    ∙ passed_second a.corner a.x a.y (sym c.whole_millimetres.ensures ∙ c.in-Whole.is) c.try_from.result c.if-u.false c.try_from.ensures
+    ∙ passed_second a.corner a.x a.y (sym c.whole_millimetres.ensures ∙ c.in-Some.is) c.try_from.result c.if-u.false c.try_from.ensures
