@@ -1,5 +1,6 @@
 -- The seven numbers of a reply, and what each call leaves in the lent memory (document 01, "Reply numbers"; document 02).
-use Rattle.std.specs.Prelude.{Bool, true, false, List, [], ◌∷◌, ℕ, ◌/◌, ◌%◌, eqb, leb, length, get_or, ℤ, Float, None, Option, Some}
+use Rattle.std.specs.Prelude.{Bool, true, false, List, [], ◌∷◌, ℕ, ◌/◌, ◌%◌, eqb, leb, length, get_or, ℤ, Float, Option}
+use Rattle.std.specs.Bool.{then_some}
 use Rattle.std.proofs.lemmas.List.Edits.{sets}
 use Rattle.limits.specs.Reply.{Reply, refused}
 use Rattle.limits.specs.declared.Refusal.TheVariants.{Frame}
@@ -51,24 +52,14 @@ read_left file corners cells doors reply = (
 unfoldable pub find_left : ℕ → List ℤ → List ℕ → List ℕ → ℕ → Stand → List ℕ → List ℕ
 find_left kind cs ts ds w s reply = replied (has_seven reply) reply (numbers_of (find_replies kind cs ts ds w s))
 
--- whether a reach is stated, and which
-abbrev pub reach_of : Bool → ℕ → Option ℕ
-reach_of true n = Some n
-reach_of false n = None
-
--- a ceiling likewise
-abbrev pub ceiling_of : Bool → ℕ → Option ℕ
-ceiling_of true n = Some n
-ceiling_of false n = None
-
 -- what is asked: setting, stand, whether a reach is stated, and which
 abbrev pub query : ℕ → Stand → Bool → ℕ → Query
-query w s stated n = record { setting = w; stand = s; reach = reach_of stated n }
+query w s stated n = record { setting = w; stand = s; reach = then_some stated n }
 
 unfoldable pub list_left : ℕ → List ℤ → List ℕ → List ℕ → ℕ → Stand → Bool → ℕ → Bool → ℕ → List ℕ → List ℕ → List ℕ × List ℕ
 list_left kind cs ts ds w s stated n limited m table reply = (
-  left (has_seven reply) table (list_replies kind cs ts ds (query w s stated n) (ceiling_of limited m) table).1,
-  replied (has_seven reply) reply (numbers_of (list_replies kind cs ts ds (query w s stated n) (ceiling_of limited m) table).0),
+  left (has_seven reply) table (list_replies kind cs ts ds (query w s stated n) (then_some limited m) table).1,
+  replied (has_seven reply) reply (numbers_of (list_replies kind cs ts ds (query w s stated n) (then_some limited m) table).0),
 )
 
 unfoldable pub draw_left : ℕ → List ℤ → List ℕ → List ℕ → ℕ → Stand → Bool → ℕ → List Float → List ℕ → List Float × List ℕ
@@ -91,7 +82,7 @@ numbered_replies false kind cs ts ds w ns reach ceiling table replies = (refused
 
 unfoldable pub list_stands_left : ℕ → List ℤ → List ℕ → List ℕ → ℕ → List Float → Bool → ℕ → Bool → ℕ → List ℕ → List ℕ → List ℕ → (List ℕ × List ℕ) × List ℕ
 list_stands_left kind cs ts ds w ns stated n limited m table replies reply =
-    let said = numbered_replies (eqb (length ns % 3) 0) kind cs ts ds w ns (reach_of stated n) (ceiling_of limited m) table replies in
+    let said = numbered_replies (eqb (length ns % 3) 0) kind cs ts ds w ns (then_some stated n) (then_some limited m) table replies in
     (left (has_seven reply) (table, replies) said.1, replied (has_seven reply) reply (numbers_of said.0))
 
 unfoldable pub print_left : List ℕ → List ℕ → List ℕ → List ℕ × List ℕ

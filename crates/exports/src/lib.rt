@@ -4,8 +4,9 @@
 #![tactic(auto)]
 
 ghost use Rattle.std.specs.Prelude.{◌≡◌};
+ghost use Rattle.std.specs.Bool.{then_some};
 ghost use Rattle.stand.specs.declared.spot.Stand.TheVariants.{Point, Offset};
-ghost use Rattle.exports.specs.Reply.{query, ceiling_of, check_left, read_left, write_left, find_left, list_left, draw_left, change_left, list_stands_left, print_left};
+ghost use Rattle.exports.specs.Reply.{query, check_left, read_left, write_left, find_left, list_left, draw_left, change_left, list_stands_left, print_left};
 
 use manopluea::{Listing, Morning, Query, Refusal, Stand, Terms};
 
@@ -137,7 +138,7 @@ fn query_of(setting: u64, stand: Stand, stated: bool, reach: u64) -> Query
 // A listing's query with its ceiling, which is told likewise.
 fn listing_of(query: Query, limited: bool, ceiling: u64) -> Listing
     ensures query { result.query ≡ query }
-    ensures ceiling { result.ceiling ≡ ceiling_of limited ceiling }
+    ensures ceiling { result.ceiling ≡ then_some limited ceiling }
 {
     Listing {
         query,
