@@ -1,2 +1,2 @@
--- a cell's sides in the tables: the next one, and a loop over them
+-- a cell's sides in the tables: the next one
 pub mod Tables

@@ -1,14 +1,10 @@
-// The tables of faces: two numbers a face, the corner at which it starts and the neighbour across it; of each cell its first face.
+// The cells of a plan in lent tables: two numbers a face, the corner at which it starts and the neighbour across it; of each cell its first face.
 #![tactic(auto)]
-
-mod old;
 
 ghost use Rattle.cells.specs.Lists.{tabled};
 ghost use Rattle.cells.specs.Sound.{Numbered};
 
-pub use old::{end, first, neighbour, next, start};
-
-// The cells of a plan in lent tables.
+// The two tables, and what is known of them: faces are numbered in file order, the sides of a cell one after another.
 #[derive(Clone, Copy)]
 pub struct Cells<'a> {
     pub faces: &'a [u16],
