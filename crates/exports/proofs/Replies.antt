@@ -10,14 +10,6 @@ use Rattle.limits.specs.Reply.{Reply, number, place, refused}
 use Rattle.limits.specs.declared.Refusal.{Refusal}
 use Rattle.exports.specs.Reply.{seven, numbers_of, has_seven, replied, left}
 
--- an answer's numbers, put by its variant
-module _ {R : Type 0} (in_numbers : R → Reply) {answer variant : R} (is_answer : answer ≡ variant) (old : List ℕ) {new : List ℕ} where
-  pub put_as : new ≡ sets old 0 (numbers_of (in_numbers variant)) → new ≡ sets old 0 (numbers_of (in_numbers answer))
-  put_as e = e ∙ ap (λ (q : R). sets old 0 (numbers_of (in_numbers q))) (sym is_answer)
-
-  pub put_refused : (r : Refusal) → in_numbers variant ≡ refused r → {n p : ℕ} → n ≡ number r → p ≡ place r → new ≡ sets old 0 (seven n p 0 0 0 0 0) → new ≡ sets old 0 (numbers_of (in_numbers answer))
-  put_refused r are e f g = put_as (g ∙ ap (sets old 0) (ap₂ (λ (n p : ℕ). seven n p 0 0 0 0 0) e f ∙ ap numbers_of (sym are)))
-
 -- a call that lends nothing but the reply
 module _ (reply : List ℕ) where
   pub none_replied : (said : Reply) → length reply < 7 → reply ≡ replied (has_seven reply) reply (numbers_of said)

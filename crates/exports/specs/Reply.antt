@@ -18,6 +18,10 @@ abbrev pub numbers_of : Reply → List ℕ
 numbers_of r =
     seven r.number r.place (get_or r.values 0 0) (get_or r.values 1 0) (get_or r.values 2 0) (get_or r.values 3 0) (get_or r.values 4 0)
 
+-- up to five values, 0 for those that are not there
+abbrev pub five : List ℕ → List ℕ
+five vs = get_or vs 0 0 ∷ get_or vs 1 0 ∷ get_or vs 2 0 ∷ get_or vs 3 0 ∷ get_or vs 4 0 ∷ []
+
 -- ---- lent memory and reply at exit
 
 -- has the reply room for seven numbers?

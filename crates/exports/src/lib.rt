@@ -8,7 +8,7 @@ ghost use Rattle.std.specs.Bool.{then_some};
 ghost use Rattle.stand.specs.declared.spot.Stand.TheVariants.{Point, Offset};
 ghost use Rattle.exports.specs.Reply.{query, check_left, read_left, write_left, find_left, list_left, draw_left, change_left, list_stands_left, print_left};
 
-use manopluea::{Listing, Morning, Query, Refusal, Stand, Terms};
+use manopluea::{Counts, Listing, Morning, Query, Refusal, Stand, Terms};
 
 mod reply;
 
@@ -27,7 +27,7 @@ pub extern "C" fn manopluea_check(
         return;
     }
     let answer = manopluea::check(corners, cells, doors, Terms { kind });
-    reply::put_checked(reply, answer);
+    reply::put(reply, answer);
 }
 
 // Reads the three lists of a plan file; the values are the counts, the kind of the list of cells and how many numbers it has.
@@ -45,7 +45,7 @@ pub extern "C" fn manopluea_read(
         return;
     }
     let answer = manopluea::read(file, corners, cells, doors);
-    reply::put_read(reply, answer);
+    reply::put(reply, answer);
 }
 
 // Writes the one file of three lists; the values are the counts.
@@ -64,7 +64,7 @@ pub extern "C" fn manopluea_write(
         return;
     }
     let answer = manopluea::write(corners, cells, doors, Terms { kind }, file);
-    reply::put_checked(reply, answer);
+    reply::put(reply, answer);
 }
 
 // Where a stand is that is a point; the values are the cell, whether it is strictly within a side, and that side.
@@ -92,7 +92,7 @@ pub extern "C" fn manopluea_find_point(
         setting,
         Stand::Point(x, y),
     );
-    reply::put_found(reply, answer);
+    reply::put(reply, answer);
 }
 
 // Where a stand is that is an offset from a corner; the values are the cell, whether it is strictly within a side, and that side.
@@ -121,7 +121,7 @@ pub extern "C" fn manopluea_find_offset(
         setting,
         Stand::Offset(corner, dx, dy),
     );
-    reply::put_found(reply, answer);
+    reply::put(reply, answer);
 }
 
 // A query for a caller that has no enums: whether a reach is stated, and which; where none is, the number means nothing.
@@ -180,7 +180,7 @@ pub extern "C" fn manopluea_list_point(
         ),
         table,
     );
-    reply::put_listed(reply, answer);
+    reply::put(reply, answer);
 }
 
 // The listing from an offset; the values are row count and crossings.
@@ -218,7 +218,7 @@ pub extern "C" fn manopluea_list_offset(
         ),
         table,
     );
-    reply::put_listed(reply, answer);
+    reply::put(reply, answer);
 }
 
 // The drawing from a point; the values are row count and crossings.
@@ -249,7 +249,7 @@ pub extern "C" fn manopluea_draw_point(
         query_of(setting, Stand::Point(x, y), stated, reach),
         offsets,
     );
-    reply::put_listed(reply, answer);
+    reply::put(reply, answer);
 }
 
 // The drawing from an offset; the values are row count and crossings.
@@ -281,7 +281,7 @@ pub extern "C" fn manopluea_draw_offset(
         query_of(setting, Stand::Offset(corner, dx, dy), stated, reach),
         offsets,
     );
-    reply::put_listed(reply, answer);
+    reply::put(reply, answer);
 }
 
 // The door change from a point: the given list, the door and its wished state; the values are row count and crossings.
@@ -318,7 +318,7 @@ pub extern "C" fn manopluea_change_point(
         shut,
         table,
     );
-    reply::put_listed(reply, answer);
+    reply::put(reply, answer);
 }
 
 // The door change from an offset.
@@ -356,7 +356,7 @@ pub extern "C" fn manopluea_change_offset(
         shut,
         table,
     );
-    reply::put_listed(reply, answer);
+    reply::put(reply, answer);
 }
 
 // A morning's stands together, three numbers a stand: corner, x, y, where the corner -1 makes a point; the values are the sums of rows and crossings.
@@ -382,7 +382,7 @@ pub extern "C" fn manopluea_list_stands(
         return;
     }
     if stands.len() % 3 != 0 {
-        reply::put_listed(reply, Err(Refusal::Frame));
+        reply::put::<Counts>(reply, Err(Refusal::Frame));
         return;
     }
     let count = stands.len() / 3;
@@ -404,7 +404,7 @@ pub extern "C" fn manopluea_list_stands(
         table,
         replies,
     );
-    reply::put_listed(reply, answer);
+    reply::put(reply, answer);
 }
 
 // What the printing program prints for an input; the value is how many bytes of the text it is.
@@ -416,5 +416,5 @@ pub extern "C" fn manopluea_print(input: &[u8], text: &mut [u8], reply: &mut [u6
         return;
     }
     let answer = printing::print(input, text);
-    reply::put_printed(reply, answer);
+    reply::put(reply, answer);
 }

@@ -55,7 +55,14 @@ done vs = record { number = 0; place = 0; values = vs }
 abbrev pub refused : Refusal → Reply
 refused r = record { number = number r; place = place r; values = [] }
 
--- check, reader and writer: the counts of corners, cells and doors
+-- the reply to an answer: done with its values, or refused
+abbrev pub reply_to : {A : Type 0} → (A → List ℕ) → Result A Refusal → Reply
+reply_to values (Ok x) = done (values x)
+reply_to values (Err r) = refused r
+
+-- check and writer: the counts of corners, cells and doors
+abbrev pub plan_values : Plan → List ℕ
+plan_values p = p.corners ∷ p.cells ∷ p.doors ∷ []
+
 abbrev pub checked_reply : Result Plan Refusal → Reply
-checked_reply (Ok p) = done (p.corners ∷ p.cells ∷ p.doors ∷ [])
-checked_reply (Err r) = refused r
+checked_reply = reply_to plan_values

@@ -4,7 +4,7 @@
 ghost use Rattle.std.specs.Prelude.{◌≡◌};
 ghost use Rattle.limits.specs.Limits.{sized};
 
-pub mod reply;
+mod reply;
 
 // The counts of an accepted plan; its constants are the limits of every plan.
 #[derive(Clone, Copy)]
@@ -46,22 +46,13 @@ impl Plan {
     pub const WALL: u16 = 65535;
 
     // Are the counts within the limits?
+    #[tactic(auto, unfolding(crate::specs::Limits::sized))]
     pub fn is_sized(self) -> bool
         ensures { result ≡ sized self.corners self.cells self.doors }
     {
-        if self.corners < Plan::LEAST_CORNERS {
-            return false;
-        }
-        if Plan::MOST_CORNERS < self.corners {
-            return false;
-        }
-        if self.cells < Plan::LEAST_CELLS {
-            return false;
-        }
-        if Plan::MOST_CELLS < self.cells {
-            return false;
-        }
-        self.doors <= Plan::MOST_DOORS
+        (Plan::LEAST_CORNERS..=Plan::MOST_CORNERS).contains(&self.corners)
+            && (Plan::LEAST_CELLS..=Plan::MOST_CELLS).contains(&self.cells)
+            && self.doors <= Plan::MOST_DOORS
     }
 }
 

@@ -16,7 +16,7 @@ ghost use Rattle.morning.specs.Morning.{rows_of, crossings_of, three_of, rows_in
 
 use face::Cells;
 use grant::{asked_in, measure_for};
-use limits::{Plan, Refusal, reply};
+use limits::{Plan, Refusal};
 use lines::lines_of;
 use sight::list::{Counts, list_up_to};
 use sight::seen::see;
@@ -113,7 +113,7 @@ fn list_stand(
         seen,
     ) {
         Err(r) => {
-            put(replies, at, reply::number(r), 0, 0);
+            put(replies, at, r.number(), 0, 0);
             Counts {
                 rows: 0,
                 crossings: 0,

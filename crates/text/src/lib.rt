@@ -7,7 +7,7 @@ ghost use Rattle.std.proofs.lemmas.List.Edits.{sets};
 ghost use Rattle.text.specs.Text.{decimal, number_then, refusal_line, count_line, row_line, row_lines};
 ghost use Rattle.text.specs.Wrote.{Wrote};
 
-use limits::{Refusal, reply};
+use limits::Refusal;
 
 // The bytes of a word.
 fn put(text: &mut [u8], at: usize, word: &[u8]) -> usize
@@ -49,8 +49,8 @@ pub fn put_refusal(text: &mut [u8], r: Refusal) -> usize
     ensures { Wrote text.old 0 (refusal_line r) text.new result }
 {
     let a = put(text, 0, b"refused ");
-    let b = put_number(text, a, reply::number(r), b' ');
-    put_number(text, b, reply::place(r), b'\n')
+    let b = put_number(text, a, r.number(), b' ');
+    put_number(text, b, r.place(), b'\n')
 }
 
 // The line of counts, at the beginning.

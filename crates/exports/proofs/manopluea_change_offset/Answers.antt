@@ -16,4 +16,4 @@ unfolding change_left
 returns c = all_left c.args.table.now c.args.reply.now c.if-reply-lt7.false
     (c.change-answer.ensures.numbers
     ∙ ap (λ (q : Query). change_replies c.args.kind c.args.corners.now c.args.cells.now c.args.doors.now q c.args.given.now c.args.door c.args.shut c.args.table.now) c.query_of.ensures)
-    c.put_listed.ensures
+    c.put.ensures

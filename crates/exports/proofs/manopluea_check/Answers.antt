@@ -10,4 +10,4 @@ returns-then-reply-lt7 c = none_replied c.args.reply.now (check_replies c.args.k
 
 pub returns : goal.returns
 unfolding check_left
-returns c = all_replied c.args.reply.now c.if-reply-lt7.false c.check-answer.ensures.numbers c.put_checked.ensures
+returns c = all_replied c.args.reply.now c.if-reply-lt7.false c.check-answer.ensures.numbers c.put.ensures

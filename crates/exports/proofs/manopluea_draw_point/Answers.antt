@@ -16,4 +16,4 @@ unfolding draw_left
 returns c = all_left c.args.offsets.now c.args.reply.now c.if-reply-lt7.false
     (c.draw-answer.ensures.numbers
     ∙ ap (λ (q : Query). draw_replies c.args.kind c.args.corners.now c.args.cells.now c.args.doors.now q c.args.offsets.now) c.query_of.ensures)
-    c.put_listed.ensures
+    c.put.ensures

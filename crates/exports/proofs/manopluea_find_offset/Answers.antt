@@ -11,4 +11,4 @@ returns-then-reply-lt7 c = none_replied c.args.reply.now (find_replies c.args.ki
 
 pub returns : goal.returns
 unfolding find_left
-returns c = all_replied c.args.reply.now c.if-reply-lt7.false c.find-answer.ensures.numbers c.put_found.ensures
+returns c = all_replied c.args.reply.now c.if-reply-lt7.false c.find-answer.ensures.numbers c.put.ensures

@@ -18,4 +18,4 @@ unfolding list_left
 returns c = all_left c.args.table.now c.args.reply.now c.if-reply-lt7.false
     (c.list-answer.ensures.numbers
     ∙ ap₂ (λ (q : Query) (l : Option ℕ). list_replies c.args.kind c.args.corners.now c.args.cells.now c.args.doors.now q l c.args.table.now) (c.listing_of.ensures.query ∙ c.query_of.ensures) c.listing_of.ensures.ceiling)
-    c.put_listed.ensures
+    c.put.ensures

@@ -12,11 +12,11 @@ returns-then-reply-lt7 c = none_left (c.args.table.now, c.args.replies.now) c.ar
 
 pub returns-then-stands-ne0 : goal.returns-then-stands-ne0
 unfolding list_stands_left
-returns-then-stands-ne0 c = all_left (c.args.table.now, c.args.replies.now) c.args.reply.now c.if-reply-lt7.false (not_of_three c.args.kind c.args.corners.now c.args.cells.now c.args.doors.now c.args.setting c.args.stands.now (then_some c.args.stated c.args.reach) (then_some c.args.limited c.args.ceiling) c.args.table.now c.args.replies.now c.if-stands-ne0.true) c.put_listed.ensures
+returns-then-stands-ne0 c = all_left (c.args.table.now, c.args.replies.now) c.args.reply.now c.if-reply-lt7.false (not_of_three c.args.kind c.args.corners.now c.args.cells.now c.args.doors.now c.args.setting c.args.stands.now (then_some c.args.stated c.args.reach) (then_some c.args.limited c.args.ceiling) c.args.table.now c.args.replies.now c.if-stands-ne0.true) c.put.ensures
 
 pub returns : goal.returns
 unfolding list_stands_left
 returns c = all_left (c.args.table.now, c.args.replies.now) c.args.reply.now c.if-reply-lt7.false
     (c.list_stands-answer.ensures.numbers
     ∙ of_three c.args.kind c.args.corners.now c.args.cells.now c.args.doors.now c.args.setting c.args.stands.now (then_some c.args.stated c.args.reach) (then_some c.args.limited c.args.ceiling) c.args.table.now c.args.replies.now c.if-stands-ne0.false c.then_some-reach.ensures c.then_some-ceiling.ensures _ c.stands_of-given.ensures)
-    c.put_listed-2.ensures
+    c.put-2.ensures

@@ -10,4 +10,4 @@ returns-then-reply-lt7 c = none_left c.args.text.now c.args.reply.now (print_rep
 
 pub returns : goal.returns
 unfolding print_left
-returns c = all_left c.args.text.now c.args.reply.now c.if-reply-lt7.false c.print-answer.ensures.numbers c.put_printed.ensures
+returns c = all_left c.args.text.now c.args.reply.now c.if-reply-lt7.false c.print-answer.ensures.numbers c.put.ensures

@@ -10,4 +10,4 @@ returns-then-reply-lt7 c = none_left (c.args.corners.now, (c.args.cells.now, c.a
 
 pub returns : goal.returns
 unfolding read_left
-returns c = all_left (c.args.corners.now, (c.args.cells.now, c.args.doors.now)) c.args.reply.now c.if-reply-lt7.false c.read-answer.ensures.numbers c.put_read.ensures
+returns c = all_left (c.args.corners.now, (c.args.cells.now, c.args.doors.now)) c.args.reply.now c.if-reply-lt7.false c.read-answer.ensures.numbers c.put.ensures

@@ -10,4 +10,4 @@ returns-then-reply-lt7 c = none_left c.args.file.now c.args.reply.now (write_rep
 
 pub returns : goal.returns
 unfolding write_left
-returns c = all_left c.args.file.now c.args.reply.now c.if-reply-lt7.false c.write-answer.ensures.numbers c.put_checked.ensures
+returns c = all_left c.args.file.now c.args.reply.now c.if-reply-lt7.false c.write-answer.ensures.numbers c.put.ensures
