@@ -288,9 +288,7 @@ pub fn list_up_to(
     ensures { (result, table.new) ≡ tree_up_to ceiling table.old (stand_tree seen.now lines.now (tabled faces.now firsts.now) reach p) }
 {
     match ceiling {
-        None => {
-            Ok(list_all(seen, lines, faces, firsts, reach, table, p))
-        }
+        None => Ok(list_all(seen, lines, faces, firsts, reach, table, p)),
         Some(n) => list_apart(seen, lines, faces, firsts, reach, table, p, n),
     }
 }
