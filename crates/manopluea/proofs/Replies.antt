@@ -199,11 +199,7 @@ find_answers kind cs ts ds w s =
     by_spot : (spot : Option (ℤ × ℤ)) → told (found_reply (with_spot cs (cells_of kind ts) ds w spot)) ≡ lowest (stand_conditions cs (cells_of kind ts) ds w spot)
     by_spot (Some (x, y)) =
         let q : Point = record { x = x; y = y } in
-        by_place (λ g. told (found_reply g)) (λ r. refl) (inside_some cs (cells_of kind ts) q) (within_some cs (cells_of kind ts) ds w q) (on_some_border cs (cells_of kind ts) q) (first_inside cs (cells_of kind ts) q) (side_at (cells_of kind ts) (first_within cs (cells_of kind ts) ds w q)) [] (found_is_done (place_of (inside_some cs (cells_of kind ts) q) _ _))
-      where
-        found_is_done : (p : Footing) → told (found_reply (Ok p)) ≡ (0, 0)
-        found_is_done (Inside c) = refl
-        found_is_done (Side c k) = refl
+        by_place (λ g. told (found_reply g)) (λ r. refl) (inside_some cs (cells_of kind ts) q) (within_some cs (cells_of kind ts) ds w q) (on_some_border cs (cells_of kind ts) q) (first_inside cs (cells_of kind ts) q) (side_at (cells_of kind ts) (first_within cs (cells_of kind ts) ds w q)) [] refl
     by_spot None = refl
 
     by_setting : (t : Bool) → told (found_reply (with_setting t (with_spot cs (cells_of kind ts) ds w (stood cs s)))) ≡ lowest (when 7 t 0 ∷ stand_conditions cs (cells_of kind ts) ds w (stood cs s))

@@ -33,7 +33,7 @@ pub fn write(corners: &[i32], cells: &[u16], doors: &[u16], kind: u16, file: &mu
         return Err(Refusal::Room);
     }
     record::put_corners(file, corners);
-    record::put_numbers(file, second, kind, cells);
+    record::put_numbers(file, second, kind as usize, cells);
     record::put_numbers(file, third, 3, doors);
     Ok(plan)
 }

@@ -21,15 +21,15 @@ pub fn four(s: &[u8], at: usize) -> u32
     u32::from_le_bytes([s[at], s[at + 1], s[at + 2], s[at + 3]])
 }
 
-// Writes a number's two bytes from `at` on.
-pub fn put_two(s: &mut [u8], at: usize, n: u16)
+// Writes a number's two lowest bytes from `at` on.
+pub fn put_two(s: &mut [u8], at: usize, n: usize)
     requires { at + 2 ≤ length s.old }
     ensures { s.new ≡ sets s.old at (bytes 2 n) }
 {
-    s[at..at + 2].copy_from_slice(&n.to_le_bytes());
+    s[at..at + 2].copy_from_slice(&n.to_le_bytes()[..2]);
 }
 
-// Writes a number's four lowest bytes from `at` on. (A `usize`, since the length of a list of any length is written so.)
+// Writes a number's four lowest bytes from `at` on.
 pub fn put_four(s: &mut [u8], at: usize, n: usize)
     requires { at + 4 ≤ length s.old }
     ensures { s.new ≡ sets s.old at (bytes 4 n) }

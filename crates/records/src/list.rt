@@ -23,7 +23,7 @@ pub fn put_numbers(s: &mut [u8], at: usize, numbers: &[u16])
     ensures { s.new ≡ sets s.old at (all_bytes 2 numbers.now) }
 {
     for (i, n) in numbers.iter().enumerate() {
-        bytes::put_two(s, at + 2 * i, *n);
+        bytes::put_two(s, at + 2 * i, *n as usize);
     }
 }
 

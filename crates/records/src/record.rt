@@ -8,7 +8,7 @@ use crate::{bytes, list};
 
 // Writes a body's length and kind from `at` on.
 #[tactic(auto, using(crate::proofs::Stores::head_put))]
-fn put_head(s: &mut [u8], at: usize, len: usize, kind: u16)
+fn put_head(s: &mut [u8], at: usize, len: usize, kind: usize)
     requires { at + 6 ≤ length s.old }
     ensures { s.new ≡ sets s.old at (bytes 4 len ++ bytes 2 kind) }
 {
@@ -28,7 +28,7 @@ pub fn put_corners(s: &mut [u8], corners: &[i32])
 
 // Writes a record of two-byte numbers from `at` on.
 #[tactic(auto, using(crate::proofs::Stores::number_record_put))]
-pub fn put_numbers(s: &mut [u8], at: usize, kind: u16, numbers: &[u16])
+pub fn put_numbers(s: &mut [u8], at: usize, kind: usize, numbers: &[u16])
     requires { at + 6 + 2 * length numbers.now ≤ length s.old }
     ensures { s.new ≡ sets s.old at (record_of kind (all_bytes 2 numbers.now)) }
 {

@@ -3,12 +3,10 @@
 
 ghost use Rattle.std.specs.Prelude.{◌<◌, ◌≤◌, not, ◌≡◌, ltb, length};
 ghost use Rattle.cells.specs.Least.{least};
-ghost use Rattle.cells.specs.Lists.{face_count};
+ghost use Rattle.cells.specs.Lists.{tabled, face_count};
 ghost use Rattle.cells.specs.Backed.{Backed};
-ghost use Rattle.face.specs.Tables.{tables};
 ghost use Rattle.setting.specs.Setting.{shut as Setting·shut, with_shut, with_open, wrong_setting, bars as Setting·bars, ends};
 
-use face::Cells;
 use limits::Plan;
 
 // Is door i shut?
@@ -66,11 +64,18 @@ fn is_barred(doors: &[u16], setting: u64, f: usize, g: usize) -> bool
 }
 
 // Is face f free: does sight pass it under the setting? The face on its other side is read from the table of them.
-pub fn is_free(cells: &Cells, backs: &[u16], doors: &[u16], setting: u64, f: usize) -> bool
-    requires backed { Backed (tables cells.now) backs.now }
-    requires f_bound { f < face_count (tables cells.now) }
+pub fn is_free(
+    faces: &[u16],
+    firsts: &[u16],
+    backs: &[u16],
+    doors: &[u16],
+    setting: u64,
+    f: usize,
+) -> bool
+    requires backed { Backed (tabled faces.now firsts.now) backs.now }
+    requires f_bound { f < face_count (tabled faces.now firsts.now) }
     requires doors_len_bound { length doors.now ≤ 64 }
-    ensures { result ≡ not (ends (tables cells.now) doors.now setting f) }
+    ensures { result ≡ not (ends (tabled faces.now firsts.now) doors.now setting f) }
 {
-    cells.neighbour(f) != Plan::WALL as usize && !is_barred(doors, setting, f, backs[f] as usize)
+    faces[2 * f + 1] != Plan::WALL && !is_barred(doors, setting, f, backs[f] as usize)
 }

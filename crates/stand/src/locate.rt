@@ -115,8 +115,7 @@ fn is_in_doorway(
     if !plane::is_within([from, to, q]) {
         return false;
     }
-    let cells = Cells { faces, firsts };
-    setting::is_free(&cells, backs, doors, setting, f)
+    setting::is_free(faces, firsts, backs, doors, setting, f)
 }
 
 // The first free side of cell c that q is strictly within, or the first face of the next cell.
