@@ -69,16 +69,8 @@ fn list_one(
     )?;
     see(corners, [view.x, view.y], seen);
     let range = reach::range(reach);
-    list_up_to(
-        seen,
-        lines,
-        faces,
-        firsts,
-        range,
-        table,
-        view.footing,
-        ceiling,
-    )
+    let p = view.footing;
+    list_up_to(seen, lines, faces, firsts, range, table, p, ceiling)
 }
 
 // One stand with its reply, which goes to the replies from `at` on. A refused stand has counts 0 and writes no row.
@@ -156,10 +148,7 @@ fn list_each(
     lines_of(&cells, backs, doors, setting, lines);
     let mut rows = 0;
     let mut crossings = 0;
-    let mut i = 0;
-    while i < count {
-        let stand = stands[i];
-        let row = 4 * rows;
+    for i in 0..count {
         let counts = list_stand(
             corners,
             faces,
@@ -171,15 +160,14 @@ fn list_each(
             reach,
             ceiling,
             lines,
-            stand,
-            &mut table[row..],
+            stands[i],
+            &mut table[4 * rows..],
             replies,
             3 * i,
             seen,
         );
         rows += counts.rows;
         crossings += counts.crossings;
-        i += 1;
     }
     Counts { rows, crossings }
 }

@@ -34,11 +34,11 @@ offset_bounds-stands-i c = omega (arith, c.requires.room_for.few_stands)
 pub bounds-stands-i : goal.bounds-stands-i
 bounds-stands-i c = omega (arith, in_array (goal.at.bounds-stands-i c).In-loop-i)
 
-pub overflow_mul-row : goal.overflow_mul-row
-overflow_mul-row c = omega (arith, (next_at (goal.at.overflow_mul-row c).In-loop-i).few_rows, c.requires.room_for.few_stands)
+pub overflow_mul-rows : goal.overflow_mul-rows
+overflow_mul-rows c = omega (arith, (next_at (goal.at.overflow_mul-rows c).In-loop-i).few_rows, c.requires.room_for.few_stands)
 
-pub offset_bounds-table-row : goal.offset_bounds-table-row
-offset_bounds-table-row c = omega (arith, (next_at (goal.at.offset_bounds-table-row c).In-loop-i).few_rows, c.requires.room_for.few_stands)
+pub offset_bounds-table-rows : goal.offset_bounds-table-rows
+offset_bounds-table-rows c = omega (arith, (next_at (goal.at.offset_bounds-table-rows c).In-loop-i).few_rows, c.requires.room_for.few_stands)
 
 pub slice_bounds-list_stand-count : goal.slice_bounds-list_stand-count
 slice_bounds-list_stand-count c = omega (arith, (next_at (goal.at.slice_bounds-list_stand-count c).In-loop-i).room_left)
@@ -62,9 +62,6 @@ overflow_add-rows c = omega (arith, (next_at (goal.at.overflow_add-rows c).In-lo
 
 pub overflow_add-crossings : goal.overflow_add-crossings
 overflow_add-crossings c = omega (arith, (next_at (goal.at.overflow_add-crossings c).In-loop-i).few_crossings, c.requires.room_for.few_stands, (few_at (goal.at.overflow_add-crossings c).After-list_stand-counts).1)
-
-pub overflow_add-i : goal.overflow_add-i
-overflow_add-i c = omega (arith, c.requires.room_for.few_stands)
 
 pub loop-i-preserved : goal.loop-i-preserved
 loop-i-preserved c = (omega arith, (one_more c.requires.sound.0 c.args.setting c.args.reach c.args.ceiling c.loop-i.invariant.1.0 c.requires.room_for c.loop-i-test.true (in_array (goal.at.loop-i-preserved c).In-loop-i) _ (c.list_stand-counts.ensures.rows_value, (c.list_stand-counts.ensures.crossings_value, (c.list_stand-counts.ensures.table_after, c.list_stand-counts.ensures.replies_after))), search rules))

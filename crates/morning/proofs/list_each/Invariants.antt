@@ -1,5 +1,5 @@
 use mathlib.Core.Path.{◌≡◌}
-use Prim.Native.Nat.{◌-◌, ◌≤◌}
+use Prim.Native.Nat.{◌≤◌}
 use lib.ListN.{length}
 use Rattle.cells.specs.Lists.{tabled}
 use Rattle.morning.specs.OverLines.{single_on}
@@ -8,6 +8,3 @@ use Rattle.morning.proofs.list_each.Given as goal
 
 abbrev pub invariant-loop-i : goal.invariant-loop-i
 invariant-loop-i l = (l.i ≤ l.count) × (SoFar (single_on l.corners (tabled l.faces l.firsts) l.doors l.setting l.reach l.ceiling) l.stands l.i l.rows l.crossings l.initial.table l.table l.initial.replies l.replies × (length l.seen ≡ length l.corners))
-
-abbrev pub decreases-loop-i : goal.decreases-loop-i
-decreases-loop-i l = l.count - l.i
