@@ -15,8 +15,8 @@
  *   page below its stack. Where lines are followed, calls go into one another no more often than the listing has rows.
  *   On a floor where they do so 2044 times, on one with 2999 lines behind one another, on one of cells with the most
  *   sides and on the fullest plan, with neither a reach nor a ceiling stated and with the longest reach and a ceiling
- *   that is just kept to, no call took more than 1145 KiB, on x86-64 and on AArch64, with an older kit. The number
- *   stated is 1.8 times that.
+ *   that is just kept to, no call took more than 1145 KiB, on x86-64 and on AArch64, with an older kit and the code of
+ *   then. The number stated is 1.8 times that.
  *
  * There is nothing else to keep: no list, number or setting is wrong input, and every call returns. A call is
  * reentrant and keeps no state: several threads may make calls at once.

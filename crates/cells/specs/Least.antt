@@ -1,4 +1,4 @@
--- The least place.
+-- The least place, and a place before an end.
 use Rattle.std.specs.Prelude.{Bool, true, false, ℕ, zero, suc, ltb, Option, None, Some}
 
 -- the least of the n numbers from i on at which the test holds; i + n where it holds at none

@@ -1,4 +1,4 @@
--- the least place at which a test holds
+-- the least place at which a test holds, and a place before an end
 pub mod Least
 -- corners, faces, neighbours, and the face on the other side
 pub mod Lists

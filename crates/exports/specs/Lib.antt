@@ -1,2 +1,2 @@
--- the five numbers of each answer, and what each call leaves in the lent memory
+-- the seven numbers of a reply, and what each call leaves in the lent memory
 pub mod Reply

@@ -1,2 +1,2 @@
--- the side after a side
+-- the cells that lent tables describe, and the side after a side
 pub mod Tables

@@ -1,4 +1,4 @@
--- The sides of a cell in lent tables.
+-- Cells in lent tables, and the sides of one of them.
 use Rattle.cells.specs.Lists.{Cells, tabled}
 use Rattle.face.specs.declared.Cells.{Cells as Lent}
 use Rattle.std.specs.Prelude.{true, false, ℕ, suc, eqb}

@@ -26,7 +26,7 @@ pub fn measure_for(corners: &[i32], cells: &[u16], doors: &[u16], kind: u16, cou
     Ok(sizes)
 }
 
-// Of lists that are framed and sized and of no more stands than are allowed: replies 3 to 7 and 11 in order, each with its place, or the counts of the
+// Of lists that are framed and sized and of no more stands than are allowed: replies 3 to 6, 17, 7 and 11 in order, each with its place, or the counts of the
 // plan. The plan's tables are drawn into the room lent, and of an accepted plan the faces on the other side and the boxes of the cells are noted.
 pub fn asked_in(
     corners: &[i32],

@@ -1,6 +1,5 @@
 -- `checking::check` meets its contract.
-use mathlib.Core.Path.{sym, ◌∙◌}
-use Prim.Native.Nat.{◌≤◌}
+use mathlib.Core.Path.{◌∙◌}
 use native.Mathlib.Omega.{arith}
 use Rattle.limits.proofs.Handed.{handed_on}
 use Rattle.cells.proofs.Plans.{counts}
