@@ -14,6 +14,7 @@ ghost use Rattle.stand.specs.Spot.{stood};
 ghost use Rattle.stand.specs.Find.{with_spot, found};
 
 use checking::{check_into, measure};
+use face::Cells;
 use limits::{Plan, Refusal};
 use stand::locate::{Footing, locate};
 use stand::spot::{Stand, stand_spot};
@@ -33,7 +34,8 @@ fn find_stand(
     ensures { result ≡ with_spot corners.now (tabled faces.now firsts.now) doors.now setting (stood corners.now stand) }
 {
     let (x, y) = stand_spot(corners, stand).ok_or(Refusal::Stand)?;
-    locate(corners, faces, firsts, backs, boxes, doors, setting, [x, y])
+    let cells = Cells { faces, firsts };
+    locate(corners, &cells, backs, boxes, doors, setting, [x, y])
 }
 
 // On lists that are framed and sized, with room for their tables.

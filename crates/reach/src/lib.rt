@@ -8,7 +8,7 @@ ghost use Rattle.plane.specs.Cone.{cross, dot};
 ghost use Rattle.reach.specs.Reach.{wrong_reach, range as Reach·range, EndsSeen, in_reach};
 
 use limits::Plan;
-use wide::is_product_at_most;
+use wide::{is_at_most, product};
 
 // Is a number stated that is no reach? A query states its reach in millimetres, or none.
 #[tactic(auto, unfolding(crate::specs::Reach::wrong_reach))]
@@ -74,5 +74,5 @@ pub fn is_in_reach(ends: [[i64; 2]; 2], reach: u64) -> bool
     // the square of the line's length: it may need the sign's bit
     let length = (far_a - both) as u64 + (far_b - both) as u64;
     let size = cross_size([a, b]);
-    is_product_at_most((size, size), (square, length))
+    is_at_most(product(size, size), product(square, length))
 }

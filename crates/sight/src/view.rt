@@ -11,6 +11,7 @@ ghost use Rattle.stand.specs.Spot.{stood};
 ghost use Rattle.sight.specs.Listing.{view_of_spot, viewed};
 
 use checking::check_into;
+use face::Cells;
 use limits::{Plan, Refusal};
 use stand::locate::{Footing, locate};
 use stand::spot::{Stand, stand_spot};
@@ -50,7 +51,8 @@ pub fn view_of_stand(
     if reach::is_wrong(reach) {
         return Err(Refusal::Reach);
     }
-    let footing = locate(corners, faces, firsts, backs, boxes, doors, setting, [x, y])?;
+    let cells = Cells { faces, firsts };
+    let footing = locate(corners, &cells, backs, boxes, doors, setting, [x, y])?;
     Ok(View { x, y, footing })
 }
 

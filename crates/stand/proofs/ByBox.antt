@@ -10,16 +10,18 @@ use Rattle.exact.proofs.Order.{less_is_at_most}
 use Rattle.plane.specs.Side.{Point}
 use Rattle.plane.specs.declared.Containment.{Containment}
 use Rattle.plane.specs.declared.Containment.TheVariants.{Inside, Border, Outside}
-use Rattle.cells.specs.Least.{least}
+use Rattle.cells.specs.Least.{least, before}
 use Rattle.cells.specs.Lists.{Cells, cell_count, first, side_count}
 use Rattle.cells.specs.Sound.{Numbered, CellsRight}
 use Rattle.cells.proofs.Least.{not_both, least_is_none}
+use Rattle.cells.proofs.Searches.{past_the_end}
 use Rattle.boxes.specs.Boxes.{Holds, box_at, Boxed, past}
 use Rattle.boxes.specs.declared.Bounds.{Bounds}
 use Rattle.boxes.proofs.Inside.{in_its_box, held_is_not_past}
 use Rattle.stand.specs.Find.{against, within_free}
 use Rattle.stand.proofs.Against.{inside_is_left_of_each, on_a_line_is_border, border_is_on_a_line}
 use Rattle.stand.proofs.Located.{is_within_and_free, a_side_is_on_the_border}
+use Rattle.std.specs.Prelude.{None}
 
 -- the code's answer for the box that it has read
 pub tested_past : (q : Point) {b d : Bounds} → b ≡ d → {r : Bool} → r ≡ past b q → r ≡ true → past d q ≡ true
@@ -42,10 +44,10 @@ module _ {cs : List ℤ} {T : Cells} (N : Numbered T) (right : CellsRight cs T) 
         by_place Outside e = sym e
 
     -- and no free side that the stand is strictly within
-    pub past_has_no_doorway : (ds : List ℕ) (w : ℕ) {n : ℕ} → n ≡ first T (suc c) → n ≡ least (within_free cs T ds w q) (side_count T c) (first T c)
-    past_has_no_doorway ds w e =
+    pub past_has_no_doorway : (ds : List ℕ) (w : ℕ) → None ≡ before (first T (suc c)) (least (within_free cs T ds w q) (side_count T c) (first T c))
+    past_has_no_doorway ds w =
         let none = least_is_none (within_free cs T ds w q) (side_count T c) (first T c) (λ f l m. by_test f l m (within_free cs T ds w q f) refl) in
-        omega (arith, e, none, N.at_least c h)
+        past_the_end (omega (arith, none, N.at_least c h))
       where
         by_test : (f : ℕ) → first T c ≤ f → f < first T c + side_count T c → (b : Bool) → within_free cs T ds w q f ≡ b → within_free cs T ds w q f ≡ false
         by_test f l m false t = t

@@ -10,9 +10,9 @@ pub fn product(a: u64, b: u64) -> u128
     a as u128 * b as u128
 }
 
-// Is the product of the first two words at most that of the other two?
-pub fn is_product_at_most(a: (u64, u64), b: (u64, u64)) -> bool
-    ensures { result ≡ leb (a.0 * a.1) (b.0 * b.1) }
+// Is x at most y? (A function, since the wrong version `low_words_compared_first` is one of it.)
+pub fn is_at_most(x: u128, y: u128) -> bool
+    ensures { result ≡ leb x y }
 {
-    product(a.0, a.1) <= product(b.0, b.1)
+    x <= y
 }

@@ -1,7 +1,8 @@
 -- `reach::is_in_reach` meets its contract: an end in reach is a point in reach, and else the nearest point decides.
 use native.Mathlib.Nat.{mul-le-mul}
 use native.Mathlib.Omega.{arith}
-use mathlib.Core.Path.{sym, ◌∙◌}
+use mathlib.Core.Path.{ap₂, sym, ◌∙◌}
+use lib.Dec.{leb}
 use lib.Signed.{◌<ℤ◌}
 use mir.Syntax.{w64}
 use Rattle.exact.proofs.Order.{lt_leZ}
@@ -101,5 +102,6 @@ returns c = let at = goal.at.returns c in
     let ab = both at.After-dot_of-both in
     let h = nearer_from_a at.Else-far_a-both a ab in
     let k = nearer_from_b at.Else-far_b-both b ab in
-    c.is_product_at_most.ensures
+    c.is_at_most.ensures
+    ∙ ap₂ leb c.product.ensures c.product-2.ensures
     ∙ the_foot_decides_by_sizes _ _ _ c.cross_size-size.ensures (gap_cast a ab h) (gap_cast b ab k) h k
