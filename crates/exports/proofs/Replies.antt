@@ -1,14 +1,13 @@
 -- What a call leaves: nothing is touched where the reply has no room for seven numbers, else the answer's numbers are put there.
 use mathlib.Core.Bool.{Bool}
 use mathlib.Core.List.{List}
-use mathlib.Core.Path.{◌≡◌, sym, ap, ap₂, ◌∙◌}
+use mathlib.Core.Path.{◌≡◌, sym, ap, ◌∙◌}
 use Prim.Native.Nat.{ℕ, ◌<◌, ◌≤◌}
 use borrow.Author.Tests.{le-leb, lt-leb}
 use lib.ListN.{length}
 use lib.Seq.{sets}
-use Rattle.limits.specs.Reply.{Reply, number, place, refused}
-use Rattle.limits.specs.declared.Refusal.{Refusal}
-use Rattle.exports.specs.Reply.{seven, numbers_of, has_seven, replied, left}
+use Rattle.limits.specs.Reply.{Reply}
+use Rattle.exports.specs.Reply.{numbers_of, has_seven, replied, left}
 
 -- a call that lends nothing but the reply
 module _ (reply : List ℕ) where

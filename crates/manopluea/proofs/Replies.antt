@@ -27,7 +27,6 @@ use Rattle.stand.specs.Find.{strictly_within, first_inside, first_within, side_a
 use Rattle.stand.specs.Reply.{found_reply}
 use Rattle.stand.specs.declared.spot.Stand.{Stand}
 use Rattle.stand.specs.declared.locate.Footing.{Footing}
-use Rattle.stand.specs.declared.locate.Footing.TheVariants.{Inside, Side}
 use Rattle.reach.specs.Reach.{range, wrong_reach}
 use Rattle.sight.specs.Listing.{unless, view_of_place, view_of_spot, view_of_plan, viewed, refuse, no_room, listing_rows, listing_numbers, listing_row_count, listing_crossings, listed_from, listed}
 use Rattle.sight.specs.Ceiling.{exceeds, up_to, listed_up_to}

@@ -1,9 +1,6 @@
-use mathlib.Core.Path.{◌≡◌, ap, ◌∙◌}
-use Prim.Native.Nat.{ℕ}
+use mathlib.Core.Path.{ap, ◌∙◌}
 use lib.ListN.{take}
 use native.Mathlib.Omega.{arith}
-use mir.Syntax.{w64}
-use Rattle.std.specs.Int.{to_le_bytes}
 use Rattle.records.specs.Bytes.{bytes}
 use Rattle.records.proofs.Stores.{part_copied}
 use Rattle.records.proofs.bytes.put_two.Goals as goal
