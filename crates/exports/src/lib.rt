@@ -1,6 +1,7 @@
 // The public calls for C and Rust: each slice passes as a pointer and a length, each reply is seven numbers (document 01, "Reply numbers"):
 // number, place, and up to five values. A reply with room for fewer is left alone, and so is all other lent memory.
 // include/manopluea.h has the promise of each function in words, specs/Reply.antt what each leaves as a function of the input.
+// C has no enums with values and keeps its names: a reach or a ceiling is a flag with a number, and each call with a stand is two, for a point and for an offset.
 #![tactic(auto)]
 
 ghost use Rattle.std.specs.Prelude.{◌≡◌};

@@ -35,7 +35,8 @@ pub use sight::view::Query;
 pub use stand::locate::Footing;
 pub use stand::spot::Stand;
 
-// What a call is told of its lists: which kind the list of cells is in, 2 or 12; every other number is FRAME.
+// What a call is told of its lists: which kind the list of cells is in, 2 or 12; every other number is FRAME. (A number and no enum, here and below: C passes
+// it, each of its values is answered, and the definitions of the calls are of it, so that every clause would turn an enum back into it.)
 #[derive(Clone, Copy)]
 pub struct Terms {
     pub kind: u16,

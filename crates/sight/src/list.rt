@@ -323,7 +323,7 @@ pub fn list_from(
     list_all(seen, lines, faces, firsts, reach, table, p)
 }
 
-// Likewise with a ceiling or none.
+// Likewise with a ceiling or none. (Apart from `list_from`, which is never refused and says so.)
 fn list_at(
     corners: &[i32],
     faces: &[u16],
