@@ -3,16 +3,15 @@
 
 ghost use Rattle.std.specs.Prelude.{suc, ◌*◌, ◌<◌, ◌≤◌, true, ◌≡◌, length};
 ghost use Rattle.limits.specs.Limits.{most_cells, sized};
-ghost use Rattle.cells.specs.Lists.{tabled, corner_count, cell_count, face_count};
+ghost use Rattle.cells.specs.Lists.{corner_count, cell_count, face_count};
 ghost use Rattle.cells.specs.Cut.{cells_of};
 ghost use Rattle.cells.specs.Check.{framed};
-ghost use Rattle.cells.specs.Backed.{Backed};
-ghost use Rattle.cells.specs.Sound.{Sound};
-ghost use Rattle.boxes.specs.Boxes.{Boxed};
+ghost use Rattle.face.specs.Tables.{tables};
 ghost use Rattle.checking.specs.Sizes.{sizes_of};
 ghost use Rattle.stand.specs.Spot.{stood};
 ghost use Rattle.stand.specs.Find.{with_spot, found};
 
+use accepted::Accepted;
 use checking::{check_into, measure};
 use face::Cells;
 use limits::{Plan, Refusal};
@@ -20,29 +19,18 @@ use stand::locate::{Footing, locate};
 use stand::spot::{Stand, stand_spot};
 
 // On an accepted plan and setting.
-fn find_stand(
-    corners: &[i32],
-    faces: &[u16],
-    firsts: &[u16],
-    backs: &[u16],
-    boxes: &[i32],
-    doors: &[u16],
-    setting: u64,
-    stand: Stand,
-) -> Result<Footing, Refusal>
-    requires { Sound corners.now (tabled faces.now firsts.now) doors.now × Backed (tabled faces.now firsts.now) backs.now × Boxed corners.now (tabled faces.now firsts.now) boxes.now }
-    ensures { result ≡ with_spot corners.now (tabled faces.now firsts.now) doors.now setting (stood corners.now stand) }
+fn find_stand(plan: &Accepted, setting: u64, stand: Stand) -> Result<Footing, Refusal>
+    ensures { result ≡ with_spot plan.now.corners.now (tables plan.now.cells) plan.now.doors.now setting (stood plan.now.corners.now stand) }
 {
-    let (x, y) = stand_spot(corners, stand).ok_or(Refusal::Stand)?;
-    let cells = Cells { faces, firsts };
-    locate(corners, &cells, backs, boxes, doors, setting, [x, y])
+    let (x, y) = stand_spot(plan.corners, stand).ok_or(Refusal::Stand)?;
+    locate(plan, setting, [x, y])
 }
 
 // On lists that are framed and sized, with room for their tables.
-fn find_in(
-    corners: &[i32],
+fn find_in<'a>(
+    corners: &'a [i32],
     cells: &[u16],
-    doors: &[u16],
+    doors: &'a [u16],
     kind: u16,
     setting: u64,
     stand: Stand,
@@ -63,7 +51,18 @@ fn find_in(
     if setting::is_wrong(setting, plan.doors) {
         return Err(Refusal::Setting);
     }
-    find_stand(corners, faces, firsts, backs, &boxes, doors, setting, stand)
+    let cells = Cells { faces, firsts };
+    find_stand(
+        &Accepted {
+            corners,
+            cells,
+            backs,
+            boxes: &boxes,
+            doors,
+        },
+        setting,
+        stand,
+    )
 }
 
 // Finding: plan, the kind of its list of cells, its setting, and stand.

@@ -16,7 +16,13 @@ use draw::Sizes;
 use limits::{Plan, Refusal};
 
 // The counts of cells and of faces, which say how much room the plan's tables need; or FRAME, or SIZE: of the plan, or for too many stands.
-pub fn measure_for(corners: &[i32], cells: &[u16], doors: &[u16], kind: u16, count: usize) -> Result<Sizes, Refusal>
+pub fn measure_for(
+    corners: &[i32],
+    cells: &[u16],
+    doors: &[u16],
+    kind: u16,
+    count: usize,
+) -> Result<Sizes, Refusal>
     ensures { result ≡ sizes_asked kind corners.now cells.now doors.now count }
 {
     let sizes = measure(corners, cells, doors, kind)?;

@@ -62,7 +62,12 @@ pub fn check(corners: &[i32], cells: &[u16], doors: &[u16], terms: Terms) -> Res
 
 // The reader: the three lists of a plan file go into the lent lists, from their beginning. Accepted with the counts, which kind the list of cells is in,
 // and how many numbers that list has; else 1 to 6 and 17 as the check has them, or ROOM where any list is shorter than its numbers.
-pub fn read(file: &[u8], corners: &mut [i32], cells: &mut [u16], doors: &mut [u16]) -> Result<ReadPlan, Refusal>
+pub fn read(
+    file: &[u8],
+    corners: &mut [i32],
+    cells: &mut [u16],
+    doors: &mut [u16],
+) -> Result<ReadPlan, Refusal>
     ensures answer { (result, (corners.new, (cells.new, doors.new))) ≡ Calls·read file.now corners.old cells.old doors.old }
     ensures numbers { (read_numbers result, (corners.new, (cells.new, doors.new))) ≡ read_replies file.now corners.old cells.old doors.old }
 {

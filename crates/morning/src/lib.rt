@@ -4,16 +4,15 @@
 ghost use Rattle.std.specs.Prelude.{suc, ◌+◌, ◌*◌, ◌<◌, ◌≤◌, true, [], ◌∷◌, ◌≡◌, length, take};
 ghost use Rattle.std.proofs.lemmas.List.Edits.{sets};
 ghost use Rattle.limits.specs.Limits.{most_corners, most_cells, most_stands, sized};
-ghost use Rattle.cells.specs.Lists.{tabled, corner_count, cell_count, face_count};
+ghost use Rattle.cells.specs.Lists.{corner_count, cell_count, face_count};
 ghost use Rattle.cells.specs.Cut.{cells_of};
 ghost use Rattle.cells.specs.Check.{framed};
-ghost use Rattle.cells.specs.Backed.{Backed};
-ghost use Rattle.cells.specs.Sound.{Sound};
-ghost use Rattle.boxes.specs.Boxes.{Boxed};
+ghost use Rattle.face.specs.Tables.{tables};
 ghost use Rattle.lines.specs.Lined.{Lined};
 ghost use Rattle.morning.specs.OverLines.{listed_on, single_on, RoomFor};
 ghost use Rattle.morning.specs.Morning.{rows_of, crossings_of, three_of, rows_in_all, crossings_in_all, all_rows, all_replies, listed_stands};
 
+use accepted::Accepted;
 use face::Cells;
 use grant::{asked_in, measure_for};
 use limits::{Plan, Refusal};
@@ -44,12 +43,7 @@ fn put(replies: &mut [u64], at: usize, number: u64, rows: u64, crossings: u64)
 
 // The listing of one stand, over the lines drawn: its rows go to the beginning of the table. The corners are seen from each stand anew, in the room lent.
 fn list_one(
-    corners: &[i32],
-    faces: &[u16],
-    firsts: &[u16],
-    backs: &[u16],
-    boxes: &[i32],
-    doors: &[u16],
+    plan: &Accepted,
     setting: u64,
     reach: Option<u64>,
     ceiling: Option<u64>,
@@ -58,29 +52,29 @@ fn list_one(
     table: &mut [u16],
     seen: &mut [i32],
 ) -> Result<Counts, Refusal>
-    requires sound { Sound corners.now (tabled faces.now firsts.now) doors.now × Backed (tabled faces.now firsts.now) backs.now × Boxed corners.now (tabled faces.now firsts.now) boxes.now }
-    requires lined { Lined (tabled faces.now firsts.now) doors.now setting lines.now }
-    requires corners_in_bounds { 4 * corner_count corners.now ≤ length table.old }
-    requires seen_len { length seen.old ≡ length corners.now }
-    ensures { (result, table.new) ≡ listed_on corners.now (tabled faces.now firsts.now) doors.now setting reach ceiling stand table.old }
+    requires lined { Lined (tables plan.now.cells) plan.now.doors.now setting lines.now }
+    requires corners_in_bounds { 4 * corner_count plan.now.corners.now ≤ length table.old }
+    requires seen_len { length seen.old ≡ length plan.now.corners.now }
+    ensures { (result, table.new) ≡ listed_on plan.now.corners.now (tables plan.now.cells) plan.now.doors.now setting reach ceiling stand table.old }
 {
-    let view = view_of_stand(
-        corners, faces, firsts, backs, boxes, doors, setting, stand, reach,
-    )?;
-    see(corners, [view.x, view.y], seen);
+    let view = view_of_stand(plan, setting, stand, reach)?;
+    see(plan.corners, [view.x, view.y], seen);
     let range = reach::range(reach);
-    let p = view.footing;
-    list_up_to(seen, lines, faces, firsts, range, table, p, ceiling)
+    list_up_to(
+        seen,
+        lines,
+        plan.cells.faces,
+        plan.cells.firsts,
+        range,
+        table,
+        view.footing,
+        ceiling,
+    )
 }
 
 // One stand with its reply, which goes to the replies from `at` on. A refused stand has counts 0 and writes no row.
 fn list_stand(
-    corners: &[i32],
-    faces: &[u16],
-    firsts: &[u16],
-    backs: &[u16],
-    boxes: &[i32],
-    doors: &[u16],
+    plan: &Accepted,
     setting: u64,
     reach: Option<u64>,
     ceiling: Option<u64>,
@@ -91,19 +85,15 @@ fn list_stand(
     at: usize,
     seen: &mut [i32],
 ) -> Counts
-    requires sound { Sound corners.now (tabled faces.now firsts.now) doors.now × Backed (tabled faces.now firsts.now) backs.now × Boxed corners.now (tabled faces.now firsts.now) boxes.now }
-    requires lined { Lined (tabled faces.now firsts.now) doors.now setting lines.now }
-    requires corners_in_bounds { (4 * corner_count corners.now ≤ length table.old) × (at + 3 ≤ length replies.old) }
-    requires seen_len { length seen.old ≡ length corners.now }
-    ensures rows_value { result.rows ≡ rows_of (listed_on corners.now (tabled faces.now firsts.now) doors.now setting reach ceiling stand table.old).0 }
-    ensures crossings_value { result.crossings ≡ crossings_of (listed_on corners.now (tabled faces.now firsts.now) doors.now setting reach ceiling stand table.old).0 }
-    ensures table_after { table.new ≡ (listed_on corners.now (tabled faces.now firsts.now) doors.now setting reach ceiling stand table.old).1 }
-    ensures replies_after { replies.new ≡ sets replies.old at (three_of (listed_on corners.now (tabled faces.now firsts.now) doors.now setting reach ceiling stand table.old).0) }
+    requires lined { Lined (tables plan.now.cells) plan.now.doors.now setting lines.now }
+    requires corners_in_bounds { (4 * corner_count plan.now.corners.now ≤ length table.old) × (at + 3 ≤ length replies.old) }
+    requires seen_len { length seen.old ≡ length plan.now.corners.now }
+    ensures rows_value { result.rows ≡ rows_of (listed_on plan.now.corners.now (tables plan.now.cells) plan.now.doors.now setting reach ceiling stand table.old).0 }
+    ensures crossings_value { result.crossings ≡ crossings_of (listed_on plan.now.corners.now (tables plan.now.cells) plan.now.doors.now setting reach ceiling stand table.old).0 }
+    ensures table_after { table.new ≡ (listed_on plan.now.corners.now (tables plan.now.cells) plan.now.doors.now setting reach ceiling stand table.old).1 }
+    ensures replies_after { replies.new ≡ sets replies.old at (three_of (listed_on plan.now.corners.now (tables plan.now.cells) plan.now.doors.now setting reach ceiling stand table.old).0) }
 {
-    match list_one(
-        corners, faces, firsts, backs, boxes, doors, setting, reach, ceiling, lines, stand, table,
-        seen,
-    ) {
+    match list_one(plan, setting, reach, ceiling, lines, stand, table, seen) {
         Err(r) => {
             put(replies, at, r.number(), 0, 0);
             Counts {
@@ -120,12 +110,7 @@ fn list_stand(
 
 // Draws the lines of an accepted plan in the room lent, and lists the stands one after another.
 fn list_each(
-    corners: &[i32],
-    faces: &[u16],
-    firsts: &[u16],
-    backs: &[u16],
-    boxes: &[i32],
-    doors: &[u16],
+    plan: &Accepted,
     setting: u64,
     reach: Option<u64>,
     ceiling: Option<u64>,
@@ -136,26 +121,19 @@ fn list_each(
     lines: &mut [u16],
     seen: &mut [i32],
 ) -> Counts
-    requires sound { Sound corners.now (tabled faces.now firsts.now) doors.now × Backed (tabled faces.now firsts.now) backs.now × Boxed corners.now (tabled faces.now firsts.now) boxes.now }
-    requires room_for { RoomFor count corners.now (length table.old) (length replies.old) }
-    requires lines_len { (length lines.old ≡ 4 * face_count (tabled faces.now firsts.now)) × (length seen.old ≡ length corners.now) }
-    ensures rows_value { result.rows ≡ rows_in_all (single_on corners.now (tabled faces.now firsts.now) doors.now setting reach ceiling) (take count stands) }
-    ensures crossings_value { result.crossings ≡ crossings_in_all (single_on corners.now (tabled faces.now firsts.now) doors.now setting reach ceiling) (take count stands) }
-    ensures table_after { table.new ≡ sets table.old 0 (all_rows (single_on corners.now (tabled faces.now firsts.now) doors.now setting reach ceiling) (take count stands)) }
-    ensures replies_after { replies.new ≡ sets replies.old 0 (all_replies (single_on corners.now (tabled faces.now firsts.now) doors.now setting reach ceiling) (take count stands)) }
+    requires room_for { RoomFor count plan.now.corners.now (length table.old) (length replies.old) }
+    requires lines_len { (length lines.old ≡ 4 * face_count (tables plan.now.cells)) × (length seen.old ≡ length plan.now.corners.now) }
+    ensures rows_value { result.rows ≡ rows_in_all (single_on plan.now.corners.now (tables plan.now.cells) plan.now.doors.now setting reach ceiling) (take count stands) }
+    ensures crossings_value { result.crossings ≡ crossings_in_all (single_on plan.now.corners.now (tables plan.now.cells) plan.now.doors.now setting reach ceiling) (take count stands) }
+    ensures table_after { table.new ≡ sets table.old 0 (all_rows (single_on plan.now.corners.now (tables plan.now.cells) plan.now.doors.now setting reach ceiling) (take count stands)) }
+    ensures replies_after { replies.new ≡ sets replies.old 0 (all_replies (single_on plan.now.corners.now (tables plan.now.cells) plan.now.doors.now setting reach ceiling) (take count stands)) }
 {
-    let cells = Cells { faces, firsts };
-    lines_of(&cells, backs, doors, setting, lines);
+    lines_of(&plan.cells, plan.backs, plan.doors, setting, lines);
     let mut rows = 0;
     let mut crossings = 0;
     for i in 0..count {
         let counts = list_stand(
-            corners,
-            faces,
-            firsts,
-            backs,
-            boxes,
-            doors,
+            plan,
             setting,
             reach,
             ceiling,
@@ -173,10 +151,10 @@ fn list_each(
 }
 
 // Lists in the room lent: the tables of the plan, its lines, and the corners seen.
-fn list_in(
-    corners: &[i32],
+fn list_in<'a>(
+    corners: &'a [i32],
     cells: &[u16],
-    doors: &[u16],
+    doors: &'a [u16],
     kind: u16,
     morning: Morning,
     stands: [Stand; Plan::MOST_STANDS],
@@ -215,9 +193,16 @@ fn list_in(
         backs,
         &mut boxes,
     )?;
+    let cells = Cells { faces, firsts };
+    let plan = Accepted {
+        corners,
+        cells,
+        backs,
+        boxes: &boxes,
+        doors,
+    };
     Ok(list_each(
-        corners, faces, firsts, backs, &boxes, doors, setting, reach, ceiling, stands, count,
-        table, replies, lines, seen,
+        &plan, setting, reach, ceiling, stands, count, table, replies, lines, seen,
     ))
 }
 

@@ -22,7 +22,13 @@ pub struct ReadPlan {
 }
 
 // Writes the one file of three lists, the cells in a list of the kind told.
-pub fn write(corners: &[i32], cells: &[u16], doors: &[u16], kind: u16, file: &mut [u8]) -> Result<Plan, Refusal>
+pub fn write(
+    corners: &[i32],
+    cells: &[u16],
+    doors: &[u16],
+    kind: u16,
+    file: &mut [u8],
+) -> Result<Plan, Refusal>
     ensures { (result, file.new) ≡ written kind corners.now cells.now doors.now file.old }
 {
     let plan = checking::check(corners, cells, doors, kind)?;
@@ -128,7 +134,12 @@ fn read_framed(
 }
 
 // Reads the three lists of a file.
-pub fn read(file: &[u8], corners: &mut [i32], cells: &mut [u16], doors: &mut [u16]) -> Result<ReadPlan, Refusal>
+pub fn read(
+    file: &[u8],
+    corners: &mut [i32],
+    cells: &mut [u16],
+    doors: &mut [u16],
+) -> Result<ReadPlan, Refusal>
     ensures { (result, (corners.new, (cells.new, doors.new))) ≡ Calls·read file.now corners.old cells.old doors.old }
 {
     if !record::is_framed(file) {

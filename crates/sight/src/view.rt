@@ -1,15 +1,16 @@
 // Replies 1 to 6, 17, 7, 8, 15, 9 and 10 in their order, or the stand and where it was found.
 ghost use Rattle.std.specs.Prelude.{true, ◌≡◌, suc, ◌*◌, length};
 ghost use Rattle.limits.specs.Limits.{sized};
-ghost use Rattle.cells.specs.Lists.{tabled, corner_count, cell_count, face_count};
+ghost use Rattle.cells.specs.Lists.{corner_count, cell_count, face_count};
 ghost use Rattle.cells.specs.Cut.{cells_of};
 ghost use Rattle.cells.specs.Check.{framed};
 ghost use Rattle.cells.specs.Backed.{Backed};
 ghost use Rattle.cells.specs.Sound.{Sound};
-ghost use Rattle.boxes.specs.Boxes.{Boxed};
+ghost use Rattle.face.specs.Tables.{tables};
 ghost use Rattle.stand.specs.Spot.{stood};
 ghost use Rattle.sight.specs.Listing.{view_of_spot, viewed};
 
+use accepted::Accepted;
 use checking::check_into;
 use face::Cells;
 use limits::{Plan, Refusal};
@@ -34,33 +35,26 @@ pub struct View {
 
 // On an accepted plan and setting.
 pub fn view_of_stand(
-    corners: &[i32],
-    faces: &[u16],
-    firsts: &[u16],
-    backs: &[u16],
-    boxes: &[i32],
-    doors: &[u16],
+    plan: &Accepted,
     setting: u64,
     stand: Stand,
     reach: Option<u64>,
 ) -> Result<View, Refusal>
-    requires { Sound corners.now (tabled faces.now firsts.now) doors.now × Backed (tabled faces.now firsts.now) backs.now × Boxed corners.now (tabled faces.now firsts.now) boxes.now }
-    ensures { result ≡ view_of_spot corners.now (tabled faces.now firsts.now) doors.now setting reach (stood corners.now stand) }
+    ensures { result ≡ view_of_spot plan.now.corners.now (tables plan.now.cells) plan.now.doors.now setting reach (stood plan.now.corners.now stand) }
 {
-    let (x, y) = stand_spot(corners, stand).ok_or(Refusal::Stand)?;
+    let (x, y) = stand_spot(plan.corners, stand).ok_or(Refusal::Stand)?;
     if reach::is_wrong(reach) {
         return Err(Refusal::Reach);
     }
-    let cells = Cells { faces, firsts };
-    let footing = locate(corners, &cells, backs, boxes, doors, setting, [x, y])?;
+    let footing = locate(plan, setting, [x, y])?;
     Ok(View { x, y, footing })
 }
 
 // On lists that are framed and sized, with room for their tables, which are drawn into it. Of an accepted plan the faces on the other side are noted.
-pub fn view_in(
-    corners: &[i32],
+pub fn view_in<'a>(
+    corners: &'a [i32],
     cells: &[u16],
-    doors: &[u16],
+    doors: &'a [u16],
     kind: u16,
     query: Query,
     faces: &mut [u16],
@@ -83,13 +77,15 @@ pub fn view_in(
     if setting::is_wrong(query.setting, plan.doors) {
         return Err(Refusal::Setting);
     }
+    let cells = Cells { faces, firsts };
     view_of_stand(
-        corners,
-        faces,
-        firsts,
-        backs,
-        &boxes,
-        doors,
+        &Accepted {
+            corners,
+            cells,
+            backs,
+            boxes: &boxes,
+            doors,
+        },
         query.setting,
         query.stand,
         query.reach,

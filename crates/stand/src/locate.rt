@@ -3,12 +3,11 @@ ghost use Rattle.std.specs.Prelude.{◌*◌, ◌<◌, suc, true, false, ◌≡�
 ghost use Rattle.plane.specs.Side.{point, Near};
 ghost use Rattle.cells.specs.Least.{least, before};
 ghost use Rattle.cells.specs.Lists.{corner_at, cell_count, face_count, first, side_count, next, start as Lists·start};
-ghost use Rattle.cells.specs.Backed.{Backed};
-ghost use Rattle.cells.specs.Sound.{CornersNear, CornersExist, CellsRight, Sound};
+ghost use Rattle.cells.specs.Sound.{CornersNear, CornersExist};
 ghost use Rattle.face.specs.Tables.{tables};
-ghost use Rattle.boxes.specs.Boxes.{Boxed};
 ghost use Rattle.stand.specs.Find.{against, within_free, first_within, side_at, by_places, located};
 
+use accepted::Accepted;
 use cells::corner;
 use face::Cells;
 use limits::Refusal;
@@ -58,136 +57,81 @@ fn containment(corners: &[i32], cells: &Cells, q: [i64; 2], c: usize) -> Contain
 }
 
 // Where q lies against cell c, by its box first: where that does not hold q, the cell is ruled out and nothing is multiplied (document 02, A3).
-fn containment_by_box(
-    corners: &[i32],
-    cells: &Cells,
-    boxes: &[i32],
-    q: [i64; 2],
-    c: usize,
-) -> Containment
-    requires right { CornersNear corners.now × CellsRight corners.now (tables cells.now) }
-    requires boxed { Boxed corners.now (tables cells.now) boxes.now }
+fn containment_by_box(plan: &Accepted, q: [i64; 2], c: usize) -> Containment
     requires near { Near (point q) }
-    requires c_bound { c < cell_count (tables cells.now) }
-    ensures { result ≡ against corners.now (tables cells.now) (point q) c }
+    requires c_bound { c < cell_count (tables plan.now.cells) }
+    ensures { result ≡ against plan.now.corners.now (tables plan.now.cells) (point q) c }
 {
-    let b = boxes::read(boxes, c);
+    let b = boxes::read(plan.boxes, c);
     if b.is_past(q) {
         return Containment::Outside;
     }
-    containment(corners, cells, q, c)
+    containment(plan.corners, &plan.cells, q, c)
 }
 
 // Is q strictly within side f, which ends where face n starts, and does sight pass that side under the setting?
-fn is_in_doorway(
-    corners: &[i32],
-    cells: &Cells,
-    backs: &[u16],
-    doors: &[u16],
-    setting: u64,
-    q: [i64; 2],
-    f: usize,
-    n: usize,
-) -> bool
-    requires sound { Sound corners.now (tables cells.now) doors.now × Backed (tables cells.now) backs.now }
+fn is_in_doorway(plan: &Accepted, setting: u64, q: [i64; 2], f: usize, n: usize) -> bool
     requires near { Near (point q) }
-    requires f_bound { (f < face_count (tables cells.now)) × (n ≡ next (tables cells.now) f) }
-    ensures { result ≡ within_free corners.now (tables cells.now) doors.now setting (point q) f }
+    requires f_bound { (f < face_count (tables plan.now.cells)) × (n ≡ next (tables plan.now.cells) f) }
+    ensures { result ≡ within_free plan.now.corners.now (tables plan.now.cells) plan.now.doors.now setting (point q) f }
 {
-    let from = start(corners, cells, f);
-    let to = start(corners, cells, n);
-    plane::is_within([from, to, q]) && setting::is_free(cells.faces, cells.firsts, backs, doors, setting, f)
+    let from = start(plan.corners, &plan.cells, f);
+    let to = start(plan.corners, &plan.cells, n);
+    let faces = plan.cells.faces;
+    let firsts = plan.cells.firsts;
+    plane::is_within([from, to, q])
+        && setting::is_free(faces, firsts, plan.backs, plan.doors, setting, f)
 }
 
 // The first free side of cell c that q is strictly within.
-fn least_doorway(
-    corners: &[i32],
-    cells: &Cells,
-    backs: &[u16],
-    doors: &[u16],
-    setting: u64,
-    q: [i64; 2],
-    c: usize,
-) -> Option<usize>
-    requires sound { Sound corners.now (tables cells.now) doors.now × Backed (tables cells.now) backs.now }
+fn least_doorway(plan: &Accepted, setting: u64, q: [i64; 2], c: usize) -> Option<usize>
     requires near { Near (point q) }
-    requires c_bound { c < cell_count (tables cells.now) }
-    ensures { result ≡ before (first (tables cells.now) (suc c)) (least (within_free corners.now (tables cells.now) doors.now setting (point q)) (side_count (tables cells.now) c) (first (tables cells.now) c)) }
+    requires c_bound { c < cell_count (tables plan.now.cells) }
+    ensures { result ≡ before (first (tables plan.now.cells) (suc c)) (least (within_free plan.now.corners.now (tables plan.now.cells) plan.now.doors.now setting (point q)) (side_count (tables plan.now.cells) c) (first (tables plan.now.cells) c)) }
 {
-    (cells.first(c)..cells.end(c)).find(|&f| is_in_doorway(
-        corners,
-        cells,
-        backs,
-        doors,
+    (plan.cells.first(c)..plan.cells.end(c)).find(|&f| is_in_doorway(
+        plan,
         setting,
         q,
         f,
-        cells.next(c, f),
+        plan.cells.next(c, f),
     ))
 }
 
 // As `least_doorway`, by the cell's box first: who stands strictly within a side stands in the box of its cell (document 02, A3).
-fn doorway_by_box(
-    corners: &[i32],
-    cells: &Cells,
-    backs: &[u16],
-    boxes: &[i32],
-    doors: &[u16],
-    setting: u64,
-    q: [i64; 2],
-    c: usize,
-) -> Option<usize>
-    requires sound { Sound corners.now (tables cells.now) doors.now × Backed (tables cells.now) backs.now × Boxed corners.now (tables cells.now) boxes.now }
+fn doorway_by_box(plan: &Accepted, setting: u64, q: [i64; 2], c: usize) -> Option<usize>
     requires near { Near (point q) }
-    requires c_bound { c < cell_count (tables cells.now) }
-    ensures { result ≡ before (first (tables cells.now) (suc c)) (least (within_free corners.now (tables cells.now) doors.now setting (point q)) (side_count (tables cells.now) c) (first (tables cells.now) c)) }
+    requires c_bound { c < cell_count (tables plan.now.cells) }
+    ensures { result ≡ before (first (tables plan.now.cells) (suc c)) (least (within_free plan.now.corners.now (tables plan.now.cells) plan.now.doors.now setting (point q)) (side_count (tables plan.now.cells) c) (first (tables plan.now.cells) c)) }
 {
-    let b = boxes::read(boxes, c);
+    let b = boxes::read(plan.boxes, c);
     if b.is_past(q) {
         return None;
     }
-    least_doorway(corners, cells, backs, doors, setting, q, c)
+    least_doorway(plan, setting, q, c)
 }
 
 // A stand on a border: the first free side that it is strictly within.
-fn on_side(
-    corners: &[i32],
-    cells: &Cells,
-    backs: &[u16],
-    boxes: &[i32],
-    doors: &[u16],
-    setting: u64,
-    q: [i64; 2],
-) -> Result<Footing, Refusal>
-    requires sound { Sound corners.now (tables cells.now) doors.now × Backed (tables cells.now) backs.now × Boxed corners.now (tables cells.now) boxes.now }
-    requires near { Near (point q) }
-    ensures { result ≡ by_places false (ltb (first_within corners.now (tables cells.now) doors.now setting (point q)) (face_count (tables cells.now))) true 0 (side_at (tables cells.now) (first_within corners.now (tables cells.now) doors.now setting (point q))) }
+fn on_side(plan: &Accepted, setting: u64, q: [i64; 2]) -> Result<Footing, Refusal>
+    requires { Near (point q) }
+    ensures { result ≡ by_places false (ltb (first_within plan.now.corners.now (tables plan.now.cells) plan.now.doors.now setting (point q)) (face_count (tables plan.now.cells))) true 0 (side_at (tables plan.now.cells) (first_within plan.now.corners.now (tables plan.now.cells) plan.now.doors.now setting (point q))) }
 {
-    for c in 0..cells.count() {
-        if let Some(f) = doorway_by_box(corners, cells, backs, boxes, doors, setting, q, c) {
-            return Ok(Footing::Side(c, f - cells.first(c)));
+    for c in 0..plan.cells.count() {
+        if let Some(f) = doorway_by_box(plan, setting, q, c) {
+            return Ok(Footing::Side(c, f - plan.cells.first(c)));
         }
     }
     Err(Refusal::Line)
 }
 
 // Where a stand in whole millimetres is, on a checked plan under its setting.
-pub fn locate(
-    corners: &[i32],
-    cells: &Cells,
-    backs: &[u16],
-    boxes: &[i32],
-    doors: &[u16],
-    setting: u64,
-    q: [i64; 2],
-) -> Result<Footing, Refusal>
-    requires sound { Sound corners.now (tables cells.now) doors.now × Backed (tables cells.now) backs.now × Boxed corners.now (tables cells.now) boxes.now }
-    requires near { Near (point q) }
-    ensures { result ≡ located corners.now (tables cells.now) doors.now setting (point q) }
+pub fn locate(plan: &Accepted, setting: u64, q: [i64; 2]) -> Result<Footing, Refusal>
+    requires { Near (point q) }
+    ensures { result ≡ located plan.now.corners.now (tables plan.now.cells) plan.now.doors.now setting (point q) }
 {
     let mut on_border = false;
-    for c in 0..cells.count() {
-        match containment_by_box(corners, cells, boxes, q, c) {
+    for c in 0..plan.cells.count() {
+        match containment_by_box(plan, q, c) {
             Containment::Inside => {
                 return Ok(Footing::Inside(c));
             }
@@ -198,7 +142,7 @@ pub fn locate(
         }
     }
     if on_border {
-        return on_side(corners, cells, backs, boxes, doors, setting, q);
+        return on_side(plan, setting, q);
     }
     // a side that the stand is strictly within has it on its cell's border
     Err(Refusal::Outside)

@@ -131,7 +131,7 @@ module _ (cs : List ℤ) (q : Point) (table : List ℕ) (n : ℕ) (before : List
     unfolding offsets_of
     draws_on h e =
         record {
-            same_length = ap length e ∙ length-sets now (4 * i) (row_offsets cs q (row_at table i)) ∙ d.same_length;
+          same_length = ap length e ∙ length-sets now (4 * i) (row_offsets cs q (row_at table i)) ∙ d.same_length;
           none_far = (first_or_later h).1;
           to_come =
               ap (λ (l : List Float). sets l (4 * (i + 1)) (left_to_draw (i + 1))) e

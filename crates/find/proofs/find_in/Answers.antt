@@ -18,9 +18,14 @@ pub returns-then-is_wrong : goal.returns-then-is_wrong
 returns-then-is_wrong c = let a = c.args in
     setting_refused a.kind a.corners.now a.cells.now a.doors.now a.setting a.stand c.check_into.ensures.value c.in_ok-plan.was c.is_wrong.ensures c.if-is_wrong.true
 
-pub find_stand-requires : goal.find_stand-requires
-find_stand-requires c = let a = c.args in
-    plan_read a.kind a.corners.now a.cells.now a.doors.now c.check_into.ensures.value c.in_ok-plan.was (drawn_cells a.kind a.cells.now c.check_into.ensures.faces_after c.check_into.ensures.firsts_after) _ _ c.check_into.ensures.backed
+pub invariant_of-cells : goal.invariant_of-cells
+invariant_of-cells c = let a = c.args in
+    record { numbered = (plan_read a.kind a.corners.now a.cells.now a.doors.now c.check_into.ensures.value c.in_ok-plan.was (drawn_cells a.kind a.cells.now c.check_into.ensures.faces_after c.check_into.ensures.firsts_after) _ _ c.check_into.ensures.backed).0.numbered }
+
+pub invariant_of-find_stand : goal.invariant_of-find_stand
+invariant_of-find_stand c = let a = c.args in
+    let all = plan_read a.kind a.corners.now a.cells.now a.doors.now c.check_into.ensures.value c.in_ok-plan.was (drawn_cells a.kind a.cells.now c.check_into.ensures.faces_after c.check_into.ensures.firsts_after) _ _ c.check_into.ensures.backed in
+    record { sound = all.0; backed = all.1; boxed = all.2 }
 
 pub returns-in_err-plan : goal.returns-in_err-plan
 returns-in_err-plan c = let a = c.args in

@@ -3,7 +3,7 @@ use Rattle.morning.proofs.OverLines.{refusal_left, rows_left}
 use Rattle.morning.proofs.list_stand.Goals as goal
 
 pub list_one-requires : goal.list_one-requires
-list_one-requires c = record { sound = c.requires.sound; lined = c.requires.lined; corners_in_bounds = c.requires.corners_in_bounds.0; seen_len = c.requires.seen_len }
+list_one-requires c = record { lined = c.requires.lined; corners_in_bounds = c.requires.corners_in_bounds.0; seen_len = c.requires.seen_len }
 
 pub put-requires : goal.put-requires
 put-requires c = c.requires.corners_in_bounds.1

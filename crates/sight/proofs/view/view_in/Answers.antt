@@ -22,9 +22,14 @@ pub returns-then-is_wrong : goal.returns-then-is_wrong
 returns-then-is_wrong c = let a = c.args in
     record { value = setting_refused a.kind a.corners.now a.cells.now a.doors.now a.query (sym c.check_into.ensures.value ∙ c.in_ok-plan.was) c.is_wrong.ensures c.if-is_wrong.true; faces_after = c.check_into.ensures.faces_after; firsts_after = c.check_into.ensures.firsts_after; backed = λ sound. (c.check_into.ensures.backed sound).0 }
 
-pub view_of_stand-requires : goal.view_of_stand-requires
-view_of_stand-requires c = let a = c.args in
-    plan_checked a.kind a.corners.now a.cells.now a.doors.now _ _ (drawn_cells a.kind a.cells.now c.check_into.ensures.faces_after c.check_into.ensures.firsts_after) (sym c.check_into.ensures.value ∙ c.in_ok-plan.was) c.check_into.ensures.backed
+pub invariant_of-cells : goal.invariant_of-cells
+invariant_of-cells c = let a = c.args in
+    record { numbered = (plan_checked a.kind a.corners.now a.cells.now a.doors.now _ _ (drawn_cells a.kind a.cells.now c.check_into.ensures.faces_after c.check_into.ensures.firsts_after) (sym c.check_into.ensures.value ∙ c.in_ok-plan.was) c.check_into.ensures.backed).0.numbered }
+
+pub invariant_of-view_of_stand : goal.invariant_of-view_of_stand
+invariant_of-view_of_stand c = let a = c.args in
+    let all = plan_checked a.kind a.corners.now a.cells.now a.doors.now _ _ (drawn_cells a.kind a.cells.now c.check_into.ensures.faces_after c.check_into.ensures.firsts_after) (sym c.check_into.ensures.value ∙ c.in_ok-plan.was) c.check_into.ensures.backed in
+    record { sound = all.0; backed = all.1; boxed = all.2 }
 
 pub returns-in_err-plan : goal.returns-in_err-plan
 returns-in_err-plan c = let a = c.args in

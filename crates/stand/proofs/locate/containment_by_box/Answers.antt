@@ -6,7 +6,7 @@ use Rattle.stand.proofs.locate.containment_by_box.Goals as goal
 
 pub returns-then-is_past : goal.returns-then-is_past
 returns-then-is_past c = let q = point c.args.q in
-    past_is_outside c.args.cells.now.numbered c.requires.right.1 c.requires.boxed q c.requires.c_bound (tested_past q c.read-b.ensures c.is_past.ensures c.if-is_past.true)
+    past_is_outside c.args.plan.now.cells.numbered c.args.plan.now.sound.cells c.args.plan.now.boxed q c.requires.c_bound (tested_past q c.read-b.ensures c.is_past.ensures c.if-is_past.true)
 
 pub containment-requires-clause-corners : goal.containment-requires-clause-corners
-containment-requires-clause-corners c = (c.requires.right.0, corners_exist c.args.cells.now.numbered c.requires.right.1)
+containment-requires-clause-corners c = (c.args.plan.now.sound.corners, corners_exist c.args.plan.now.cells.numbered c.args.plan.now.sound.cells)

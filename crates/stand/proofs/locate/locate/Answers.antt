@@ -11,13 +11,13 @@ use Rattle.stand.proofs.locate.locate.Goals.{in-Border, in-Outside}
 
 pub returns-in-Inside : goal.returns-in-Inside
 returns-in-Inside c = let a = c.args in
-    held_strictly c.loop-c.invariant (omega (arith, c.count-c-end.ensures, c.loop-c-test.true)) c.containment_by_box.ensures c.in-Inside.is a.doors.now a.setting
+    held_strictly c.loop-c.invariant (omega (arith, c.count-c-end.ensures, c.loop-c-test.true)) c.containment_by_box.ensures c.in-Inside.is a.plan.now.doors.now a.setting
 
 pub loop-c-preserved : goal.loop-c-preserved
 loop-c-preserved c = let a = c.args in
     let l = c.loop-c in
-    let s = Searched a.corners.now (tables a.cells.now) (point a.q) (l.c + 1) in
-    let h : l.c < cell_count (tables a.cells.now) = omega (arith, c.count-c-end.ensures, c.loop-c-test.true) in
+    let s = Searched a.plan.now.corners.now (tables a.plan.now.cells) (point a.q) (l.c + 1) in
+    let h : l.c < cell_count (tables a.plan.now.cells) = omega (arith, c.count-c-end.ensures, c.loop-c-test.true) in
     elim c.match-containment_by_box.branch [
       | in-Border w ↦ subst s (sym w.on_border-is) (met_on_its_border l.invariant h c.containment_by_box.ensures w.in-Border.is)
       | in-Outside w ↦ subst s (sym w.on_border-is) (passed_by l.invariant h c.containment_by_box.ensures w.in-Outside.is)
@@ -25,8 +25,8 @@ loop-c-preserved c = let a = c.args in
 
 pub returns-then-on_border : goal.returns-then-on_border
 returns-then-on_border c = let a = c.args in
-    is_on_a_border c.loop-c.invariant (omega (arith, c.count-c-end.ensures, c.loop-c-test.false)) a.doors.now a.setting c.if-on_border.true c.on_side.ensures
+    is_on_a_border c.loop-c.invariant (omega (arith, c.count-c-end.ensures, c.loop-c-test.false)) a.plan.now.doors.now a.setting c.if-on_border.true c.on_side.ensures
 
 pub returns : goal.returns
 returns c = let a = c.args in
-    is_outside c.loop-c.invariant (omega (arith, c.count-c-end.ensures, c.loop-c-test.false)) a.doors.now a.setting a.cells.now.numbered c.requires.sound.0.cells c.if-on_border.false
+    is_outside c.loop-c.invariant (omega (arith, c.count-c-end.ensures, c.loop-c-test.false)) a.plan.now.doors.now a.setting a.plan.now.cells.numbered c.args.plan.now.sound.cells c.if-on_border.false

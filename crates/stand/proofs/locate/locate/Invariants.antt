@@ -4,4 +4,4 @@ use Rattle.stand.proofs.Finds.{Searched}
 use Rattle.stand.proofs.locate.locate.Given as goal
 
 abbrev pub invariant-loop-c : goal.invariant-loop-c
-invariant-loop-c l = Searched l.corners (tables l.cells) (point l.q) l.c l.on_border
+invariant-loop-c l = Searched l.plan.corners.now (tables l.plan.cells) (point l.q) l.c l.on_border
