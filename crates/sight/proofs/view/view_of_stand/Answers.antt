@@ -1,7 +1,7 @@
 -- `sight::view::view_of_stand` meets its contract.
 use mathlib.Core.Path.{◌≡◌, sym, ◌∙◌}
 use native.Mathlib.Omega.{arith}
-use Rattle.std.specs.Prelude.{Some, None}
+use Rattle.std.specs.Prelude.{Some}
 use Rattle.limits.proofs.Handed.{handed_on}
 use Rattle.face.specs.Tables.{tables}
 use Rattle.stand.specs.Spot.{stood}
