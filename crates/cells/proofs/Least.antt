@@ -124,27 +124,6 @@ least_by_the_same_test s t (suc n) i same =
     ap₂ (λ (b : Bool) (k : ℕ). elim b [ true ↦ i | false ↦ k ]) (same i (omega arith) (omega arith))
     (least_by_the_same_test s t n (suc i) (λ k l m. same k (omega arith) (omega arith)))
 
--- ---- a loop that seeks the least of the places from a on and before n has come to i
-
-pub record SeeksFrom (t : ℕ → Bool) (a n i : ℕ) : Type 0 where
-  pub begun : a ≤ i
-  pub within : i ≤ n
-  pub same : least t (n - a) a ≡ least t (n - i) i
-
-module _ {t : ℕ → Bool} {a n : ℕ} where
-  pub begins_from : {i : ℕ} → i ≡ a → a ≤ n → SeeksFrom t a n i
-  begins_from {i} e h = rw e (record { begun = omega arith; within = h; same = refl })
-
-  module _ {i : ℕ} (s : SeeksFrom t a n i) where
-    pub goes_on_from : i < n → t i ≡ false → SeeksFrom t a n (i + 1)
-    goes_on_from h e = record { begun = omega arith; within = omega arith; same = s.same ∙ least_miss t n i h e }
-
-    pub found_from : i < n → t i ≡ true → i ≡ least t (n - a) a
-    found_from h e = sym (s.same ∙ least_hit t n i h e)
-
-    pub ends_from : n ≤ i → i ≡ least t (n - a) a
-    ends_from h = sym (s.same ∙ least_end t n i h)
-
 -- where the test holds at i and at no place from a on before it, i is the least of those from a on
 pub least_from : (t : ℕ → Bool) (a n i : ℕ) → a ≤ i → i < n → t i ≡ true → ((k : ℕ) → a ≤ k → k < i → t k ≡ false) → i ≡ least t (n - a) a
 least_from t a n i h l e none = past (dec_lt (least t (n - a) a) i) (dec_lt i (least t (n - a) a))
