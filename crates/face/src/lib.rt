@@ -16,7 +16,7 @@ impl Cells<'_> {
     ghost use Rattle.std.specs.Prelude.{suc, ◌<◌, ◌≡◌};
     ghost use Rattle.cells.specs.Lists.{cell_count, face_count, first as Lists·first, start as Lists·start, neighbour as Lists·neighbour, next as Lists·next};
     ghost use Rattle.cells.proofs.Faces.{SideOf};
-    ghost use Rattle.face.specs.Tables.{tables};
+    ghost use Rattle.face.specs.Tables.{around, tables};
 
     // How many cells there are.
     pub fn count(&self) -> usize
@@ -59,11 +59,12 @@ impl Cells<'_> {
         self.first(c + 1)
     }
 
-    // The side of cell c after its side f.
+    // The side of cell c after its side f; of a face before the first of the cell, the one after it.
     pub fn next(&self, c: usize, f: usize) -> usize
         requires c_bound { c < cell_count (tables self.now) }
-        requires side_of { SideOf (tables self.now) c f }
-        ensures { result ≡ Lists·next (tables self.now) f }
+        requires f_bound { f < Lists·first (tables self.now) (suc c) }
+        ensures value { result ≡ around (Lists·first (tables self.now) c) (Lists·first (tables self.now) (suc c)) f }
+        ensures of_a_side { SideOf (tables self.now) c f → result ≡ Lists·next (tables self.now) f }
     {
         if self.end(c) == f + 1 {
             self.first(c)

@@ -16,7 +16,7 @@ pub start-a-requires : goal.start-a-requires
 start-a-requires c = side_exists c.args.cells.now.numbered c.requires.c_bound c.requires.side_of
 
 pub start-b-requires : goal.start-b-requires
-start-b-requires c = rw c.next-n.ensures (side_exists c.args.cells.now.numbered c.requires.c_bound (next_is_a_side c.args.cells.now.numbered c.requires.c_bound c.requires.side_of))
+start-b-requires c = rw (c.next-n.ensures.of_a_side c.requires.side_of) (side_exists c.args.cells.now.numbered c.requires.c_bound (next_is_a_side c.args.cells.now.numbered c.requires.c_bound c.requires.side_of))
 
 pub any-requires-clause-callable : goal.any-requires-clause-callable
 any-requires-clause-callable c = serves_from_Range (λ x q k. search rules)
@@ -28,7 +28,7 @@ any-requires-clause-callable c = serves_from_Range (λ x q k. search rules)
     let exists = side_exists N c.requires.c_bound side in
     let next_side = next_is_a_side N c.requires.c_bound c.requires.side_of in
     let a_there = corner_there cs N c.requires.c_bound whole c.requires.side_of c.start-a.ensures in
-    let b_there = corner_there cs N c.requires.c_bound whole next_side (c.start-b.ensures ∙ ap (start (tables c.args.cells.now)) c.next-n.ensures) in
+    let b_there = corner_there cs N c.requires.c_bound whole next_side (c.start-b.ensures ∙ ap (start (tables c.args.cells.now)) (c.next-n.ensures.of_a_side c.requires.side_of)) in
     let d_there = λ (d : ℕ) (e : d ≡ start (tables c.args.cells.now) x). corner_there cs N c.requires.c_bound whole side e in
     search rules)
 

@@ -7,4 +7,4 @@ start-from-requires c = side_exists c.args.self.now.ready.numbered c.requires.c_
 
 pub start-towards-requires : goal.start-towards-requires
 start-towards-requires c = let N = c.args.self.now.ready.numbered in
-    rw c.next.ensures (side_exists N c.requires.c_bound (next_is_a_side N c.requires.c_bound c.requires.side_of))
+    rw (c.next.ensures.of_a_side c.requires.side_of) (side_exists N c.requires.c_bound (next_is_a_side N c.requires.c_bound c.requires.side_of))
