@@ -1,6 +1,6 @@
 -- What the tables lent to a listing hold, and that a plan which was measured fits them.
 use mathlib.Core.List.{List}
-use mathlib.Core.Path.{◌≡◌, refl, ap₂, sym, subst}
+use mathlib.Core.Path.{◌≡◌, ap₂, sym, subst}
 use Prim.Native.Nat.{ℕ, ◌*◌, ◌%◌, ◌≤◌}
 use native.Mathlib.Omega.{arith}
 use borrow.Author.Tests.{eqb-true}
@@ -19,9 +19,7 @@ use Rattle.cells.specs.Sound.{Sound}
 use Rattle.boxes.specs.Boxes.{Boxed}
 use Rattle.cells.proofs.Accepted.{accepted_is_sound}
 use Rattle.cells.proofs.Plans.{counts}
-use Rattle.draw.specs.declared.Sizes.{Sizes}
-use Rattle.checking.specs.Sizes.{sizes_of}
-use Rattle.checking.proofs.Measures.{counted_fit}
+use Rattle.checking.specs.Sizes.{Fit}
 use Rattle.std.specs.Prelude.{Ok}
 
 -- tables that hold the cells of a list are its cells
@@ -54,8 +52,7 @@ pub lent : {A : Type 0} (xs : List A) (n : ℕ) → n ≤ length xs → n ≡ le
 lent xs n h = sym (length-take-le n xs h)
 
 -- the corners of a plan that was measured are few
-pub few_coordinates : (k : ℕ) (cs : List ℤ) (ts ds : List ℕ) {z : Sizes} → sizes_of k cs ts ds ≡ Ok z → length cs ≤ 2 * most_corners
+pub few_coordinates : {k : ℕ} {cs : List ℤ} {ts ds : List ℕ} {m n : ℕ} → Fit k cs ts ds m n → length cs ≤ 2 * most_corners
 unfolding framed
-few_coordinates k cs ts ds e =
-    let fit = counted_fit k cs ts ds (sym e) refl in
+few_coordinates {k} {cs} {ts} {ds} fit =
     omega (arith, (counts (corner_count cs) (cell_count (cells_of k ts)) (length ds) fit.in_size).corners_at_most, eqb-true (length cs % 2) 0 (both_true (eqb (length cs % 2) 0) (is_whole (cut k ts)) fit.in_frame).0)

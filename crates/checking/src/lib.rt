@@ -2,7 +2,7 @@
 #![tactic(auto)]
 
 ghost use Rattle.std.specs.Prelude.{suc, ◌+◌, ◌*◌, ◌<◌, ◌≤◌, true, ◌≡◌, length};
-ghost use Rattle.limits.specs.Limits.{most_cells, sized};
+ghost use Rattle.limits.specs.Limits.{most_cells, most_sides, sized};
 ghost use Rattle.cells.specs.Lists.{corner_count, cell_count, face_count};
 ghost use Rattle.cells.specs.Cut.{cells_of};
 ghost use Rattle.cells.specs.Check.{framed, checked_cells, checked};
@@ -12,9 +12,9 @@ ghost use Rattle.cells.specs.Backed.{Backed};
 ghost use Rattle.boxes.specs.Boxes.{Boxed};
 ghost use Rattle.checking.specs.Sizes.{sizes_of, Fit};
 
-use draw::Sizes;
+pub use draw::Sizes;
 use face::Cells;
-use limits::{Plan, Refusal};
+pub use limits::{Plan, Refusal};
 
 mod cell;
 mod corner;
@@ -106,23 +106,47 @@ pub fn check_into(
     check_tables(corners, faces, firsts, doors, backs, boxes)
 }
 
-// The plan check on three lists, the cells in a list of the kind told.
-pub fn check(corners: &[i32], cells: &[u16], doors: &[u16], kind: u16) -> Result<Plan, Refusal>
+// How many faces there may be, and how many of triangles alone. A call clears its tables when it makes them, so where there are no more it makes the smaller.
+pub const MOST_FACES: usize = 8 * Plan::MOST_CELLS;
+
+pub const FEW_FACES: usize = 3 * Plan::MOST_CELLS;
+
+// Checks lists of the sizes told, with tables for N faces.
+fn check_sized<const N: usize>(
+    corners: &[i32],
+    cells: &[u16],
+    doors: &[u16],
+    kind: u16,
+    sizes: Sizes,
+) -> Result<Plan, Refusal>
+    requires fit { Fit kind corners.now cells.now doors.now sizes.cells sizes.faces }
+    requires room { (sizes.faces ≤ N) × (N ≤ most_sides * most_cells) }
     ensures { result ≡ checked kind corners.now cells.now doors.now }
 {
-    let sizes = measure(corners, cells, doors, kind)?;
-    let mut faces = [0u16; 16 * Plan::MOST_CELLS];
+    let mut faces = [[0u16; 2]; N];
     let mut firsts = [0u16; 1 + Plan::MOST_CELLS];
-    let mut backs = [0u16; 8 * Plan::MOST_CELLS];
+    let mut backs = [0u16; N];
     let mut boxes = [0i32; 4 * Plan::MOST_CELLS];
     check_into(
         corners,
         cells,
         doors,
         kind,
-        &mut faces[..2 * sizes.faces],
+        faces[..sizes.faces].as_flattened_mut(),
         &mut firsts[..=sizes.cells],
         &mut backs[..sizes.faces],
         &mut boxes,
     )
+}
+
+// The plan check on three lists, the cells in a list of the kind told.
+pub fn check(corners: &[i32], cells: &[u16], doors: &[u16], kind: u16) -> Result<Plan, Refusal>
+    ensures { result ≡ checked kind corners.now cells.now doors.now }
+{
+    let sizes = measure(corners, cells, doors, kind)?;
+    if sizes.faces <= FEW_FACES {
+        check_sized::<FEW_FACES>(corners, cells, doors, kind, sizes)
+    } else {
+        check_sized::<MOST_FACES>(corners, cells, doors, kind, sizes)
+    }
 }

@@ -3,19 +3,19 @@
 
 ghost use Rattle.std.specs.Prelude.{suc, ◌*◌, ◌<◌, ◌≤◌, true, false, ◌≡◌, length, take};
 ghost use Rattle.plane.specs.Side.{point, Near};
-ghost use Rattle.limits.specs.Limits.{most_corners, most_cells, most_reach, sized};
+ghost use Rattle.limits.specs.Limits.{most_corners, most_cells, most_sides, most_reach, sized};
 ghost use Rattle.cells.specs.Lists.{tabled, corner_count, cell_count, face_count};
 ghost use Rattle.cells.specs.Cut.{cells_of};
 ghost use Rattle.cells.specs.Check.{framed};
 ghost use Rattle.cells.specs.Backed.{Backed};
 ghost use Rattle.cells.specs.Sound.{Sound};
-ghost use Rattle.checking.specs.Sizes.{sizes_of};
+ghost use Rattle.checking.specs.Sizes.{Fit};
 ghost use Rattle.stand.specs.Find.{located};
 ghost use Rattle.sight.specs.Listing.{listing_numbers};
 ghost use Rattle.doors.specs.Change.{same_list, in_state, wished as Change·wished, underfoot, changed_at, changed};
 
 use cells::corner;
-use checking::measure;
+use checking::{FEW_FACES, MOST_FACES, Sizes, measure};
 use limits::{Plan, Refusal};
 use sight::list::{Counts, list_from};
 use sight::view::{Query, view_in};
@@ -250,6 +250,46 @@ fn change_in(
     )
 }
 
+// Changes in lists of the sizes told, with tables for N faces.
+fn change_sized<const N: usize>(
+    corners: &[i32],
+    cells: &[u16],
+    doors: &[u16],
+    kind: u16,
+    query: Query,
+    given: &[u16],
+    door: usize,
+    shut: bool,
+    table: &mut [u16],
+    sizes: Sizes,
+) -> Result<Counts, Refusal>
+    requires fit { Fit kind corners.now cells.now doors.now sizes.cells sizes.faces }
+    requires room { (sizes.faces ≤ N) × (N ≤ most_sides * most_cells) }
+    ensures { (result, table.new) ≡ changed kind corners.now cells.now doors.now query given.now door shut table.old }
+{
+    let mut faces = [[0u16; 2]; N];
+    let mut firsts = [0u16; 1 + Plan::MOST_CELLS];
+    let mut backs = [0u16; N];
+    let mut lines = [[0u16; 4]; N];
+    let mut seen = [0i32; 2 * Plan::MOST_CORNERS];
+    change_in(
+        corners,
+        cells,
+        doors,
+        kind,
+        query,
+        given,
+        door,
+        shut,
+        table,
+        faces[..sizes.faces].as_flattened_mut(),
+        &mut firsts[..=sizes.cells],
+        &mut backs[..sizes.faces],
+        lines[..sizes.faces].as_flattened_mut(),
+        &mut seen[..corners.len()],
+    )
+}
+
 // The door change: plan, the kind of its list of cells, query under the old setting, the list true for it, a door, the wished state and the table.
 pub fn change(
     corners: &[i32],
@@ -265,25 +305,13 @@ pub fn change(
     ensures { (result, table.new) ≡ changed kind corners.now cells.now doors.now query given.now door shut table.old }
 {
     let sizes = measure(corners, cells, doors, kind)?;
-    let mut faces = [0u16; 16 * Plan::MOST_CELLS];
-    let mut firsts = [0u16; 1 + Plan::MOST_CELLS];
-    let mut backs = [0u16; 8 * Plan::MOST_CELLS];
-    let mut lines = [0u16; 32 * Plan::MOST_CELLS];
-    let mut seen = [0i32; 2 * Plan::MOST_CORNERS];
-    change_in(
-        corners,
-        cells,
-        doors,
-        kind,
-        query,
-        given,
-        door,
-        shut,
-        table,
-        &mut faces[..2 * sizes.faces],
-        &mut firsts[..=sizes.cells],
-        &mut backs[..sizes.faces],
-        &mut lines[..4 * sizes.faces],
-        &mut seen[..corners.len()],
-    )
+    if sizes.faces <= FEW_FACES {
+        change_sized::<FEW_FACES>(
+            corners, cells, doors, kind, query, given, door, shut, table, sizes,
+        )
+    } else {
+        change_sized::<MOST_FACES>(
+            corners, cells, doors, kind, query, given, door, shut, table, sizes,
+        )
+    }
 }

@@ -2,17 +2,17 @@
 #![tactic(auto)]
 
 ghost use Rattle.std.specs.Prelude.{suc, ◌*◌, ◌<◌, ◌≤◌, true, ◌≡◌, length};
-ghost use Rattle.limits.specs.Limits.{most_cells, sized};
+ghost use Rattle.limits.specs.Limits.{most_cells, most_sides, sized};
 ghost use Rattle.cells.specs.Lists.{corner_count, cell_count, face_count};
 ghost use Rattle.cells.specs.Cut.{cells_of};
 ghost use Rattle.cells.specs.Check.{framed};
 ghost use Rattle.face.specs.Tables.{tables};
-ghost use Rattle.checking.specs.Sizes.{sizes_of};
+ghost use Rattle.checking.specs.Sizes.{Fit};
 ghost use Rattle.stand.specs.Spot.{stood};
 ghost use Rattle.stand.specs.Find.{with_spot, found};
 
 use accepted::Accepted;
-use checking::{check_into, measure};
+use checking::{FEW_FACES, MOST_FACES, Sizes, check_into, measure};
 use face::Cells;
 use limits::{Plan, Refusal};
 use stand::locate::{Footing, locate};
@@ -65,6 +65,36 @@ fn find_in<'a>(
     )
 }
 
+// Finds in lists of the sizes told, with tables for N faces.
+fn find_sized<const N: usize>(
+    corners: &[i32],
+    cells: &[u16],
+    doors: &[u16],
+    kind: u16,
+    setting: u64,
+    stand: Stand,
+    sizes: Sizes,
+) -> Result<Footing, Refusal>
+    requires fit { Fit kind corners.now cells.now doors.now sizes.cells sizes.faces }
+    requires room { (sizes.faces ≤ N) × (N ≤ most_sides * most_cells) }
+    ensures { result ≡ found kind corners.now cells.now doors.now setting stand }
+{
+    let mut faces = [[0u16; 2]; N];
+    let mut firsts = [0u16; 1 + Plan::MOST_CELLS];
+    let mut backs = [0u16; N];
+    find_in(
+        corners,
+        cells,
+        doors,
+        kind,
+        setting,
+        stand,
+        faces[..sizes.faces].as_flattened_mut(),
+        &mut firsts[..=sizes.cells],
+        &mut backs[..sizes.faces],
+    )
+}
+
 // Finding: plan, the kind of its list of cells, its setting, and stand.
 pub fn find(
     corners: &[i32],
@@ -77,18 +107,9 @@ pub fn find(
     ensures { result ≡ found kind corners.now cells.now doors.now setting stand }
 {
     let sizes = measure(corners, cells, doors, kind)?;
-    let mut faces = [0u16; 16 * Plan::MOST_CELLS];
-    let mut firsts = [0u16; 1 + Plan::MOST_CELLS];
-    let mut backs = [0u16; 8 * Plan::MOST_CELLS];
-    find_in(
-        corners,
-        cells,
-        doors,
-        kind,
-        setting,
-        stand,
-        &mut faces[..2 * sizes.faces],
-        &mut firsts[..=sizes.cells],
-        &mut backs[..sizes.faces],
-    )
+    if sizes.faces <= FEW_FACES {
+        find_sized::<FEW_FACES>(corners, cells, doors, kind, setting, stand, sizes)
+    } else {
+        find_sized::<MOST_FACES>(corners, cells, doors, kind, setting, stand, sizes)
+    }
 }

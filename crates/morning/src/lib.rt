@@ -3,16 +3,18 @@
 
 ghost use Rattle.std.specs.Prelude.{suc, ◌+◌, ◌*◌, ◌<◌, ◌≤◌, true, [], ◌∷◌, ◌≡◌, length, take};
 ghost use Rattle.std.proofs.lemmas.List.Edits.{sets};
-ghost use Rattle.limits.specs.Limits.{most_corners, most_cells, most_stands, sized};
+ghost use Rattle.limits.specs.Limits.{most_corners, most_cells, most_sides, most_stands, sized};
 ghost use Rattle.cells.specs.Lists.{corner_count, cell_count, face_count};
 ghost use Rattle.cells.specs.Cut.{cells_of};
 ghost use Rattle.cells.specs.Check.{framed};
+ghost use Rattle.checking.specs.Sizes.{Fit};
 ghost use Rattle.face.specs.Tables.{tables};
 ghost use Rattle.lines.specs.Lined.{Lined};
 ghost use Rattle.morning.specs.OverLines.{listed_on, single_on, RoomFor};
 ghost use Rattle.morning.specs.Morning.{rows_of, crossings_of, three_of, rows_in_all, crossings_in_all, all_rows, all_replies, listed_stands};
 
 use accepted::Accepted;
+use checking::{FEW_FACES, MOST_FACES, Sizes};
 use face::Cells;
 use grant::{asked_in, measure_for};
 use limits::{Plan, Refusal};
@@ -206,6 +208,45 @@ fn list_in<'a>(
     ))
 }
 
+// Lists in lists of the sizes told, with tables for N faces.
+fn list_sized<const N: usize>(
+    corners: &[i32],
+    cells: &[u16],
+    doors: &[u16],
+    kind: u16,
+    morning: Morning,
+    stands: [Stand; Plan::MOST_STANDS],
+    table: &mut [u16],
+    replies: &mut [u64],
+    sizes: Sizes,
+) -> Result<Counts, Refusal>
+    requires fit { Fit kind corners.now cells.now doors.now sizes.cells sizes.faces }
+    requires few_stands { morning.count ≤ most_stands }
+    requires room { (sizes.faces ≤ N) × (N ≤ most_sides * most_cells) }
+    ensures { (result, (table.new, replies.new)) ≡ listed_stands kind corners.now cells.now doors.now morning stands table.old replies.old }
+{
+    let mut faces = [[0u16; 2]; N];
+    let mut firsts = [0u16; 1 + Plan::MOST_CELLS];
+    let mut backs = [0u16; N];
+    let mut lines = [[0u16; 4]; N];
+    let mut seen = [0i32; 2 * Plan::MOST_CORNERS];
+    list_in(
+        corners,
+        cells,
+        doors,
+        kind,
+        morning,
+        stands,
+        table,
+        replies,
+        faces[..sizes.faces].as_flattened_mut(),
+        &mut firsts[..=sizes.cells],
+        &mut backs[..sizes.faces],
+        lines[..sizes.faces].as_flattened_mut(),
+        &mut seen[..corners.len()],
+    )
+}
+
 // As many of the stands as are asked for, listed one after another: plan, the kind of its list of cells, what the stands share, stands, table and replies;
 // replies 1 to 6, 17, 7 and 11 in order, each with its place, or the sums of rows and crossings.
 pub fn list_stands(
@@ -221,24 +262,13 @@ pub fn list_stands(
     ensures { (result, (table.new, replies.new)) ≡ listed_stands kind corners.now cells.now doors.now morning stands table.old replies.old }
 {
     let sizes = measure_for(corners, cells, doors, kind, morning.count)?;
-    let mut faces = [0u16; 16 * Plan::MOST_CELLS];
-    let mut firsts = [0u16; 1 + Plan::MOST_CELLS];
-    let mut backs = [0u16; 8 * Plan::MOST_CELLS];
-    let mut lines = [0u16; 32 * Plan::MOST_CELLS];
-    let mut seen = [0i32; 2 * Plan::MOST_CORNERS];
-    list_in(
-        corners,
-        cells,
-        doors,
-        kind,
-        morning,
-        stands,
-        table,
-        replies,
-        &mut faces[..2 * sizes.faces],
-        &mut firsts[..=sizes.cells],
-        &mut backs[..sizes.faces],
-        &mut lines[..4 * sizes.faces],
-        &mut seen[..corners.len()],
-    )
+    if sizes.faces <= FEW_FACES {
+        list_sized::<FEW_FACES>(
+            corners, cells, doors, kind, morning, stands, table, replies, sizes,
+        )
+    } else {
+        list_sized::<MOST_FACES>(
+            corners, cells, doors, kind, morning, stands, table, replies, sizes,
+        )
+    }
 }

@@ -3,10 +3,10 @@ ghost use Rattle.std.specs.Prelude.{suc, ◌+◌, ◌*◌, ◌<◌, ◌≤◌, t
 ghost use Rattle.std.proofs.lemmas.List.Edits.{sets};
 ghost use Rattle.plane.specs.Side.{point, Near};
 ghost use Rattle.cells.specs.Lists.{tabled, corner_count, cell_count, face_count};
-ghost use Rattle.limits.specs.Limits.{most_corners, most_cells, most_reach, sized, wall};
+ghost use Rattle.limits.specs.Limits.{most_corners, most_cells, most_sides, most_reach, sized, wall};
 ghost use Rattle.cells.specs.Cut.{cells_of};
 ghost use Rattle.cells.specs.Check.{framed};
-ghost use Rattle.checking.specs.Sizes.{sizes_of};
+ghost use Rattle.checking.specs.Sizes.{Fit};
 ghost use Rattle.cells.specs.Backed.{Backed};
 ghost use Rattle.cells.specs.Sound.{Numbered, Sound};
 ghost use Rattle.stand.specs.Find.{located};
@@ -20,7 +20,7 @@ ghost use Rattle.sight.specs.Ceiling.{enough, up_to, tree_up_to, listed_up_to};
 use crate::ceiling::{ENOUGH, allowance};
 use crate::seen::see;
 use crate::view::{Query, view_in};
-use checking::measure;
+use checking::{FEW_FACES, MOST_FACES, Sizes, measure};
 use expand::{Followed, cross};
 use face::Cells;
 use limits::{Plan, Refusal};
@@ -394,6 +394,42 @@ fn list_in(
     )
 }
 
+// Lists in lists of the sizes told, with tables for N faces.
+fn list_sized<const N: usize>(
+    corners: &[i32],
+    cells: &[u16],
+    doors: &[u16],
+    kind: u16,
+    query: Query,
+    ceiling: Option<u64>,
+    table: &mut [u16],
+    sizes: Sizes,
+) -> Result<Counts, Refusal>
+    requires fit { Fit kind corners.now cells.now doors.now sizes.cells sizes.faces }
+    requires room { (sizes.faces ≤ N) × (N ≤ most_sides * most_cells) }
+    ensures { (result, table.new) ≡ listed_up_to kind corners.now cells.now doors.now query ceiling table.old }
+{
+    let mut faces = [[0u16; 2]; N];
+    let mut firsts = [0u16; 1 + Plan::MOST_CELLS];
+    let mut backs = [0u16; N];
+    let mut lines = [[0u16; 4]; N];
+    let mut seen = [0i32; 2 * Plan::MOST_CORNERS];
+    list_in(
+        corners,
+        cells,
+        doors,
+        kind,
+        query,
+        ceiling,
+        table,
+        faces[..sizes.faces].as_flattened_mut(),
+        &mut firsts[..=sizes.cells],
+        &mut backs[..sizes.faces],
+        lines[..sizes.faces].as_flattened_mut(),
+        &mut seen[..corners.len()],
+    )
+}
+
 // The listing: plan, the kind of its list of cells, query, ceiling and table; replies 1 to 6, 17, 7, 8, 15, 9 to 11 and 19 in order, each with its
 // place, or row count and crossings.
 pub fn list(
@@ -408,23 +444,9 @@ pub fn list(
     ensures { (result, table.new) ≡ listed_up_to kind corners.now cells.now doors.now query ceiling table.old }
 {
     let sizes = measure(corners, cells, doors, kind)?;
-    let mut faces = [0u16; 16 * Plan::MOST_CELLS];
-    let mut firsts = [0u16; 1 + Plan::MOST_CELLS];
-    let mut backs = [0u16; 8 * Plan::MOST_CELLS];
-    let mut lines = [0u16; 32 * Plan::MOST_CELLS];
-    let mut seen = [0i32; 2 * Plan::MOST_CORNERS];
-    list_in(
-        corners,
-        cells,
-        doors,
-        kind,
-        query,
-        ceiling,
-        table,
-        &mut faces[..2 * sizes.faces],
-        &mut firsts[..=sizes.cells],
-        &mut backs[..sizes.faces],
-        &mut lines[..4 * sizes.faces],
-        &mut seen[..corners.len()],
-    )
+    if sizes.faces <= FEW_FACES {
+        list_sized::<FEW_FACES>(corners, cells, doors, kind, query, ceiling, table, sizes)
+    } else {
+        list_sized::<MOST_FACES>(corners, cells, doors, kind, query, ceiling, table, sizes)
+    }
 }

@@ -2,15 +2,10 @@
 use mathlib.Core.Path.{ap, sym, ◌∙◌}
 use Rattle.std.specs.Prelude.{Result}
 use Rattle.limits.specs.declared.Refusal.{Refusal}
-use Prim.Native.Nat.{◌*◌, ◌≤◌}
-use lib.ListN.{length}
-use Rattle.limits.specs.Limits.{most_corners}
 use native.Mathlib.Omega.{arith}
 use Rattle.limits.proofs.Handed.{handed_on}
 use Rattle.checking.specs.Sizes.{Fit}
-use Rattle.checking.proofs.Measures.{refused_likewise, counted_fit, cells_fit, faces_fit}
-use Rattle.checking.proofs.Parts.{faces_part, firsts_part, backs_part, lines_part}
-use Rattle.checking.proofs.Rooms.{lent, few_coordinates}
+use Rattle.checking.proofs.Measures.{refused_likewise, counted_fit, faces_fit}
 use Rattle.sight.specs.declared.list.Counts.{Counts}
 use Rattle.sight.proofs.Views.{plan_refused, listing_refused}
 use Rattle.sight.proofs.UpTo.{up_to_it}
@@ -20,10 +15,6 @@ use Rattle.sight.proofs.list.list.Goals.{In_ok-sizes}
 fit : (c : In_ok-sizes) → Fit c.args.kind c.args.corners.now c.args.cells.now c.args.doors.now c.in_ok-sizes.sizes.cells c.in_ok-sizes.sizes.faces
 fit c = counted_fit c.args.kind c.args.corners.now c.args.cells.now c.args.doors.now c.measure.ensures c.in_ok-sizes.was
 
--- the coordinates of the plan fit
-few : (c : In_ok-sizes) → length c.args.corners.now ≤ 2 * most_corners
-few c = few_coordinates c.args.kind c.args.corners.now c.args.cells.now c.args.doors.now (sym c.measure.ensures ∙ c.in_ok-sizes.was)
-
 pub returns-in_err-sizes : goal.returns-in_err-sizes
 returns-in_err-sizes c = let a = c.args in
     ap (λ (r : Result Counts Refusal). (r, a.table.now)) (handed_on c.from_residual.ensures.1)
@@ -32,45 +23,9 @@ returns-in_err-sizes c = let a = c.args in
     (sym (plan_refused a.kind a.corners.now a.cells.now a.doors.now a.query
     (sym (refused_likewise a.kind a.corners.now a.cells.now a.doors.now c.measure.ensures c.in_err-sizes.was)))))
 
-pub overflow_mul-faces : goal.overflow_mul-faces
-overflow_mul-faces c = omega (arith, faces_fit (fit (goal.at.overflow_mul-faces c).In_ok-sizes))
+pub list_sized-requires-clause-fit : goal.list_sized-requires-clause-fit
+list_sized-requires-clause-fit c = fit (goal.at.list_sized-requires-clause-fit c).In_ok-sizes
 
-pub slice_bounds-faces-end : goal.slice_bounds-faces-end
-slice_bounds-faces-end c = omega (arith, faces_fit (fit (goal.at.slice_bounds-faces-end c).In_ok-sizes))
-
-pub slice_bounds-list_in-end : goal.slice_bounds-list_in-end
-slice_bounds-list_in-end c = lent _ _ (omega (arith, faces_fit (fit (goal.at.slice_bounds-list_in-end c).In_ok-sizes)))
-
-pub overflow_add-firsts : goal.overflow_add-firsts
-overflow_add-firsts c = omega (arith, cells_fit (fit (goal.at.overflow_add-firsts c).In_ok-sizes))
-
-pub slice_bounds-firsts-end : goal.slice_bounds-firsts-end
-slice_bounds-firsts-end c = omega (arith, cells_fit (fit (goal.at.slice_bounds-firsts-end c).In_ok-sizes))
-
-pub slice_bounds-list_in-end-2 : goal.slice_bounds-list_in-end-2
-slice_bounds-list_in-end-2 c = lent _ _ (omega (arith, cells_fit (fit (goal.at.slice_bounds-list_in-end-2 c).In_ok-sizes)))
-
-pub slice_bounds-backs-end : goal.slice_bounds-backs-end
-slice_bounds-backs-end c = omega (arith, faces_fit (fit (goal.at.slice_bounds-backs-end c).In_ok-sizes))
-
-pub slice_bounds-list_in-end-3 : goal.slice_bounds-list_in-end-3
-slice_bounds-list_in-end-3 c = lent _ _ (omega (arith, faces_fit (fit (goal.at.slice_bounds-list_in-end-3 c).In_ok-sizes)))
-
-pub overflow_mul-lines : goal.overflow_mul-lines
-overflow_mul-lines c = omega (arith, faces_fit (fit (goal.at.overflow_mul-lines c).In_ok-sizes))
-
-pub slice_bounds-lines-end : goal.slice_bounds-lines-end
-slice_bounds-lines-end c = omega (arith, faces_fit (fit (goal.at.slice_bounds-lines-end c).In_ok-sizes))
-
-pub slice_bounds-list_in-end-4 : goal.slice_bounds-list_in-end-4
-slice_bounds-list_in-end-4 c = lent _ _ (omega (arith, faces_fit (fit (goal.at.slice_bounds-list_in-end-4 c).In_ok-sizes)))
-
-pub slice_bounds-seen-end : goal.slice_bounds-seen-end
-slice_bounds-seen-end c = few (goal.at.slice_bounds-seen-end c).In_ok-sizes
-
-pub slice_bounds-list_in-end-5 : goal.slice_bounds-list_in-end-5
-slice_bounds-list_in-end-5 c = lent _ _ (omega (arith, few (goal.at.slice_bounds-list_in-end-5 c).In_ok-sizes))
-
-pub list_in-requires : goal.list_in-requires
-list_in-requires c = let f = fit (goal.at.list_in-requires c).In_ok-sizes in
-    record { cells_value = (f.in_frame, f.in_size); faces_len = faces_part f _ (omega arith); firsts_len = firsts_part f _ (omega arith); backs_len = backs_part f _ (omega arith); lines_len = (lines_part f _ (omega arith), sym (lent _ _ (omega (arith, few (goal.at.list_in-requires c).In_ok-sizes)))) }
+pub list_sized-requires-else-sizes-le-FEW_FACES : goal.list_sized-requires-else-sizes-le-FEW_FACES
+list_sized-requires-else-sizes-le-FEW_FACES c = let f = fit (goal.at.list_sized-requires-else-sizes-le-FEW_FACES c).In_ok-sizes in
+    record { fit = f; room = (omega (arith, faces_fit f), omega arith) }
