@@ -1,11 +1,14 @@
--- Comparisons with 2^k and −2^k: both hold exactly of a finite double whose size m·2^e is at most 2^k. The coordinate limit is 2^29.
-use Rattle.std.proofs.Common.{◌≡◌, ℕ, ◌+◌, ◌*◌, ◌^◌, ◌<◌, ◌≤◌, Bool, true, false, ◌&&◌, ◌||◌, eqb, ltb, leb, ℤ, pos, sym, refl, ◌∙◌, true≢false, mul-pos, one-mul, mul-one, arith, pow_pos, ltb-false, ltb-true, lt-ltb, eqb-true, le-leb, leb-true}
+-- Comparisons with 2^k and −2^k: both hold exactly of a finite double whose size m·2^e is at most 2^k. The coordinate limit is 2^29, and
+-- beyond 2^53 every double is a whole number.
+use Rattle.std.proofs.Common.{◌≡◌, ℕ, zero, suc, ◌+◌, ◌*◌, ◌%◌, ◌^◌, ◌<◌, ◌≤◌, Bool, true, false, ◌&&◌, ◌||◌, T, eqb, ltb, leb, ℤ, pos, negsuc, sym, refl, ◌∙◌, true≢false, mul-pos, one-mul, mul-one, arith, ltb→lt, pow_pos, ltb-false, ltb-true, lt-ltb, eq-eqb, eqb-true, le-leb, leb-false, leb-true}
 use mathlib.Core.Bool.{false≢true}
-use lib.Ieee.{Float, nan, inf, fin, up, down, le}
-use lib.Ieee.Fits.{down_pos}
+use native.Mathlib.Nat.{mod-one}
+use lib.Ieee.{Float, nan, inf, fin, binary64, low, emax, up, down, le, fits}
+use lib.Ieee.Fits.{down_pos, and_l, and_r}
 use borrow.Author.Tests.{eqb-false, lt-leb}
+use Rattle.std.specs.Float.{float_is_finite}
 use Rattle.plane.specs.Side.{limit}
-use Rattle.number.specs.Whole.{is_within}
+use Rattle.number.specs.Whole.{is_finite, is_whole, is_within}
 use Rattle.number.proofs.Size.{same_test}
 
 -- 2^k and −2^k as doubles
@@ -86,3 +89,24 @@ within_is_far_below (inf s) h = absurd (false≢true h)
 within_is_far_below (fin s m e) h =
     let l : m * up e ≤ limit * down e = leb-true _ _ h in
     le-leb (m * up e) (2 ^ 53 * down e) (omega arith)
+
+second_of_four : (a b c d : Bool) → T (a && b && c && d) → T b
+second_of_four a b c d t = and_r a b (and_l (a && b) c (and_l (a && b && c) d t))
+
+-- a double has 53 binary digits, so one with a fraction is below 2^53
+digits : (s : Bool) (m : ℕ) (e : ℤ) → fits binary64 (fin s m e) ≡ true → m < 2 ^ 53
+unfolding fits
+digits s zero e f = omega arith
+digits s (suc m) e f =
+    ltb→lt (suc m) (2 ^ 53)
+    (second_of_four (eqb (suc m % 2) 1) (ltb (suc m) (2 ^ 53)) (leb (down e) (2 ^ low binary64)) (ltb (suc m * up e) (2 ^ suc (emax binary64) * down e))
+    (rw f tt))
+
+pub beyond_is_whole : (x : Float) → fits binary64 x ≡ true → is_finite x ≡ true → small 53 x ≡ false → true ≡ is_whole x
+unfolding float_is_finite is_whole
+beyond_is_whole nan f h k = absurd (false≢true h)
+beyond_is_whole (inf s) f h k = absurd (false≢true h)
+beyond_is_whole (fin s m (pos n)) f h k = sym (eq-eqb _ _ (mod-one (m * 2 ^ n)))
+beyond_is_whole (fin s m (negsuc n)) f h k =
+    let l : 2 ^ 53 * 2 ^ suc n < m * 1 = leb-false _ _ k in
+    absurd (omega (arith, digits s m (negsuc n) f, pow_pos (suc n)))

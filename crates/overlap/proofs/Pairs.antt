@@ -1,7 +1,7 @@
 -- Two cells, by what was read of them: cut off by a line, separated by a side, overlapping.
-use mathlib.Core.Bool.{Bool, true, false, ◌&&◌}
+use mathlib.Core.Bool.{Bool, true, false, not, ◌&&◌}
 use mathlib.Core.List.{List}
-use mathlib.Core.Path.{◌≡◌, refl, sym, ◌∙◌, subst}
+use mathlib.Core.Path.{◌≡◌, refl, sym, ap, ◌∙◌, subst}
 use Prim.Native.Nat.{ℕ, suc, ◌<◌}
 use native.Mathlib.Omega.{arith}
 use borrow.Author.Tests.{eq-eqb, ltb-true}
@@ -14,7 +14,8 @@ use Rattle.cells.specs.Least.{least, before}
 use Rattle.cells.specs.Lists.{Cells, corner_at, corner_count, cell_count, face_count, first, side_count, start}
 use Rattle.cells.specs.Check.{some_face, strictly_left, separates, overlapping}
 use Rattle.cells.proofs.Least.{least_bounds}
-use Rattle.cells.proofs.Faces.{SideOf, a_face}
+use Rattle.cells.specs.Sound.{Numbered}
+use Rattle.cells.proofs.Faces.{SideOf, a_face, at_no_face}
 use Rattle.cells.proofs.Plans.{corner_exists}
 use Rattle.apart.proofs.Test.{overlap_differs, none_separates}
 use Rattle.overlap.specs.Search.{Ready, cut_off, EndsOf}
@@ -33,6 +34,16 @@ module _ {cs : List ℤ} {T : Cells} (R : Ready cs T) {f i : ℕ} (h : f < face_
 -- the corner at which face g starts is strictly left of the line from a to b
 abbrev pub left_of : List ℤ → Cells → Point → Point → ℕ → Bool
 left_of cs T a b g = lt_z (pos 0) (side a b (corner_at cs (start T g)))
+
+-- a cell is cut off where no corner of it is left of the line
+module _ (cs : List ℤ) {T : Cells} (N : Numbered T) {e : ℕ} (h : e < cell_count T) (a b : Point) where
+  pub a_corner_left : {g : ℕ} → SideOf T e g → left_of cs T a b g ≡ true → false ≡ cut_off cs T a b e
+  unfolding cut_off
+  a_corner_left s is_left = ap not (sym (a_face N h (left_of cs T a b) s is_left))
+
+  pub no_corner_left : ((g : ℕ) → SideOf T e g → left_of cs T a b g ≡ false) → true ≡ cut_off cs T a b e
+  unfolding cut_off
+  no_corner_left none_left = ap not (sym (at_no_face N h (left_of cs T a b) none_left))
 
 -- a side separates its cell from those that its line cuts off
 pub separates_by_ends : {cs : List ℤ} {T : Cells} {f : ℕ} {a b : Point} → EndsOf cs T f a b → (e : ℕ) → cut_off cs T a b e ≡ separates cs T e f

@@ -1,0 +1,2 @@
+-- the product of two words by their halves, over any base
+pub mod Words
