@@ -251,7 +251,6 @@ fn change_in(
 }
 
 // Changes in lists of the sizes told, with tables for N faces.
-#[inline(never)] // within `change`, its tables would be on the stack of a call that is refused before they are made
 fn change_sized<const N: usize>(
     corners: &[i32],
     cells: &[u16],
